@@ -1,4 +1,8 @@
 //! A log that is read, so that its day can be done again.
+ghost use Rattle.std.specs.Prelude.{◌≡◌, ◌++◌, OnOk, slice_get};
+ghost use Rattle.std.specs.Option.{option_copied};
+ghost use Rattle.s3_cards.specs.declared.levels.LevelId.TheVariants.{One, Two};
+ghost use Rattle.s3_day_log.specs.Inner.Logged.{replies_at, replies_in};
 
 use crate::event::{Begun, DayOver, Event, LoggedReply, NamedFile};
 use crate::reading::event_of;
@@ -61,6 +65,8 @@ pub struct DayLog {
     /// The checksum of the pack that the day has saved or was going to save. If the desk was killed meanwhile, only the pack tells
     /// which of both is so.
     pub saved: Option<String>,
+    /// Whether the operator answered that the pack isn't to be saved.
+    pub is_declined: bool,
     /// The exit status; none where the desk was killed.
     pub status: Option<u8>,
 }
@@ -82,6 +88,7 @@ impl DayLog {
             replies1: Vec::new(alloc),
             replies2: Vec::new(alloc),
             saved: None,
+            is_declined: false,
             status: None,
         };
         log.read_rest(alloc, rest)?;
@@ -104,26 +111,36 @@ impl DayLog {
     }
 
     /// Takes an event of the log, with the number of its line.
-    fn take(&mut self, event: Event, number: usize) -> Result<(), LogFault> {
+    fn take(&mut self, event: Event, number: usize) -> Result<(), LogFault>
+        ensures one { OnOk result (self.new.replies1.items ≡ self.old.replies1.items ++ replies_in One event) }
+        ensures two { OnOk result (self.new.replies2.items ≡ self.old.replies2.items ++ replies_in Two event) }
+    {
         match event {
             Event::End(day) => self.end(day, number),
-            _ if self.saved.is_some() => Err(LogFault::Line(number)),
+            _ if self.saved.is_some() || self.is_declined => Err(LogFault::Line(number)),
             event => self.go_on(event, number),
         }
     }
 
     /// Takes the last event of the log.
-    fn end(&mut self, day: DayOver, number: usize) -> Result<(), LogFault> {
+    fn end(&mut self, day: DayOver, number: usize) -> Result<(), LogFault>
+        ensures one { self.new.replies1.items ≡ self.old.replies1.items }
+        ensures two { self.new.replies2.items ≡ self.old.replies2.items }
+    {
         let DayOver { status, saved } = day;
         self.status = Some(status);
         match saved {
+            Some(_) if self.is_declined => Err(LogFault::Line(number)),
             Some(pack) => self.save(pack, number),
             None => Ok(()),
         }
     }
 
     /// Takes the pack that is saved.
-    fn save(&mut self, pack: NamedFile, number: usize) -> Result<(), LogFault> {
+    fn save(&mut self, pack: NamedFile, number: usize) -> Result<(), LogFault>
+        ensures one { self.new.replies1.items ≡ self.old.replies1.items }
+        ensures two { self.new.replies2.items ≡ self.old.replies2.items }
+    {
         if !is_checksum(&pack) {
             return Err(LogFault::Line(number));
         }
@@ -132,7 +149,10 @@ impl DayLog {
     }
 
     /// Takes an event before the last one.
-    fn go_on(&mut self, event: Event, number: usize) -> Result<(), LogFault> {
+    fn go_on(&mut self, event: Event, number: usize) -> Result<(), LogFault>
+        ensures one { OnOk result (self.new.replies1.items ≡ self.old.replies1.items ++ replies_in One event) }
+        ensures two { OnOk result (self.new.replies2.items ≡ self.old.replies2.items ++ replies_in Two event) }
+    {
         match event {
             Event::Begin { .. } | Event::End(_) => return Err(LogFault::Line(number)),
             Event::JobBegins(_)
@@ -140,6 +160,7 @@ impl DayLog {
             | Event::Halt(_)
             | Event::Cut { .. }
             | Event::Stop => {}
+            Event::Declined => self.is_declined = true,
             Event::Reply(reply) => {
                 if !allowed(reply.code, reply.digit) {
                     return Err(LogFault::Line(number));
@@ -154,8 +175,10 @@ impl DayLog {
         Ok(())
     }
 
-    /// The reply of a level behind so many that it was given before.
-    pub fn reply(&self, level: LevelId, given: usize) -> Option<&LoggedReply> {
+    /// The reply of a level after so many that it was given before.
+    pub fn reply(&self, level: LevelId, given: usize) -> Option<&LoggedReply>
+        ensures { option_copied result ≡ slice_get (replies_at level self.now) given }
+    {
         match level {
             LevelId::One => self.replies1.get(given),
             LevelId::Two => self.replies2.get(given),

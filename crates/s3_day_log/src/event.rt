@@ -133,6 +133,8 @@ pub enum Event {
     },
     /// The operator ended the day.
     Stop,
+    /// The operator answered that the pack isn't to be saved. Only the last event follows.
+    Declined,
     /// The pack is going to be saved. Only the last event follows.
     Saving {
         /// The pack that is saved, by the name that it gets.

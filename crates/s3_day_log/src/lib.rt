@@ -2,9 +2,15 @@
 //! and the job accounting of a level: which jobs have begun, how many lines each has printed, how each ended, and which are left.
 //! docs/OPERATING.md has the events.
 //!
-//! What is proved: `checksum` is the SHA-256 digest; how a job that is over ended; what a reply changes in the accounting; what
-//! became of a day by how its levels ended; and which pack of a logged day a pack is. Tested: what is written of an event, that it is read back, which jobs have begun, and
-//! to which job a line belongs.
+//! What is proved:
+//!
+//! - `checksum` is the SHA-256 digest;
+//! - how a job ended that is over, and what a reply changes in the accounting;
+//! - what became of a day, by how its levels ended, and which pack of a logged day a pack is;
+//! - each reply event that is read adds its reply after those of its level, no other event adds one, and `DayLog::reply` gives the
+//!   reply after so many.
+//!
+//! Tested: what is written of an event, that a line is read as that event, which jobs have begun, and to which job a line belongs.
 
 #![tactic(auto)]
 

@@ -39,6 +39,7 @@ fn event(alloc: Global, line: Members<'_, '_>) -> Result<Event, LogFault> {
             level: line.level()?,
         }),
         "stop" => Ok(Event::Stop),
+        "declined" => Ok(Event::Declined),
         "saving" => Ok(Event::Saving {
             pack: file(alloc, line.members("pack")?)?,
         }),

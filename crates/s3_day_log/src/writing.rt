@@ -83,6 +83,7 @@ impl Line {
                 self.level(*level)
             }
             Event::Stop => self.text("event", "stop"),
+            Event::Declined => self.text("event", "declined"),
             Event::Saving { pack } => {
                 self.text("event", "saving")?;
                 self.json.key("pack")?;

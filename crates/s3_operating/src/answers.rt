@@ -53,7 +53,7 @@ pub(crate) fn ruled(
     }
 }
 
-/// The reply of a log to a level's halt, behind so many that were given in the level, if it is one to this halt.
+/// The reply of a log to a level's halt, after so many that were given in the level, if it is one to this halt.
 pub(crate) fn logged(
     log: Option<&DayLog>,
     level: LevelId,

@@ -1,6 +1,6 @@
 //! What the desk knows of time.
 
-/// A clock. It is asked for what is told and logged, and for whether a line was typed before its halt was shown.
+/// A clock. It gives the times of messages and of the log, and shows whether a line was typed before its halt was shown.
 pub trait Clock {
     /// Milliseconds since some moment, the same one at each call.
     fn milliseconds(&mut self) -> u64;

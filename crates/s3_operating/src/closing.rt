@@ -21,7 +21,7 @@ use std::io::{Read, Write};
 pub struct Closing {
     /// What became of it.
     pub verdict: Verdict,
-    /// What is told of both levels: their jobs, and how they ended.
+    /// The summary of both levels: their jobs, and how they ended.
     pub summary: String,
 }
 
@@ -43,7 +43,7 @@ impl Ended {
 }
 
 impl<'a, R: Read + Drop, W: Write + Drop, F: Write + Drop, C: Clock + Drop> Desk<'a, R, W, F, C> {
-    /// Ends the day: the script is written to its end, the log but for its last line, and what is told of both levels is made.
+    /// Ends the day: the script is written to its end, the log up to its last line, and the summary of both levels is made.
     pub fn close(&mut self, day: &Day, performed: &Performed) -> Result<Closing, AllocError> {
         self.take_all(performed)?;
         self.tell_counted()?;
@@ -184,7 +184,7 @@ fn push_end(message: &mut Message, seat: &Seat<'_>, end: LevelEnd) {
     }
 }
 
-/// Appends where a level stands that isn't done, and what is left of its deck.
+/// Appends where a level is that isn't done, and what is left of its deck.
 fn push_where(message: &mut Message, seat: &Seat<'_>, how: &str) {
     message.push(how);
     if let Some(code) = seat.waits {

@@ -16,7 +16,7 @@ struct DeckFile<'a> {
     origins: Option<Vec<usize>>,
 }
 
-/// Files, one behind the other, each with its last line ended.
+/// Files, one after the other, each with its last line ended.
 #[derive(Drop)]
 pub struct JoinedFiles<'a> {
     text: Vec<u8>,
@@ -32,7 +32,7 @@ impl<'a> JoinedFiles<'a> {
         }
     }
 
-    /// Puts a file's lines behind those of the files before, which are whole. Blank lines at its end are passed over. A last line
+    /// Puts a file's lines after those of the files before, which are whole. Blank lines at its end are passed over. A last line
     /// without its end gets one.
     pub fn add(&mut self, name: &'a str, bytes: Vec<u8>) -> Result<(), AllocError> {
         let len = cards_len(&bytes);
@@ -42,7 +42,7 @@ impl<'a> JoinedFiles<'a> {
         self.add_file(name, bytes, None, blank_lines)
     }
 
-    /// Puts the cards that were punched of a file behind those of the files before, with the line of the file that each is of,
+    /// Puts the cards that were punched of a file after those of the files before, with the line of the file that each is of,
     /// from 1.
     pub fn add_punched(
         &mut self,

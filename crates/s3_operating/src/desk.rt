@@ -6,17 +6,15 @@ use crate::clock::Clock;
 use crate::journal::Journal;
 use crate::levels::{Levels, Said};
 use crate::message::Message;
-use crate::reading::read_line;
 use crate::reports::Reports;
 use crate::seat::Seat;
-use crate::tape::Tape;
 use s3_bureau::{Bureau, Halt};
 use s3_cards::LevelId;
 use s3_day_log::{Begun, DayLog, Event};
 use s3_desk::{Bounds, Evidence, Operator};
 use s3_operator::HaltCode;
-use s3_replay::Performed;
-use s3_replies::{Rules, Typed};
+use s3_replay::{Performed, Tape};
+use s3_replies::{Listed, Rules, Typed, next_listed};
 use s3_store::PackStore;
 use std::alloc::{AllocError, Global};
 use std::io::{Read, Write};
@@ -57,6 +55,17 @@ pub enum Questioned {
     Person,
 }
 
+/// Whether the pack of a day that is over is to be saved.
+#[derive(Clone, Copy)]
+pub enum Wish {
+    /// It is.
+    Save,
+    /// It isn't: a person answered so.
+    Leave,
+    /// It isn't: the log has that answer.
+    LeaveByLog,
+}
+
 /// How a day is operated.
 #[derive(Clone, Copy)]
 pub struct Settings<'a> {
@@ -66,7 +75,7 @@ pub struct Settings<'a> {
     pub logged: Option<&'a DayLog>,
     /// How far each level goes at most.
     pub bounds: Bounds,
-    /// Neither how far the work has come is told, nor what a log or a rule answers.
+    /// Neither progress nor what a log or a rule answers is reported.
     pub is_quiet: bool,
     /// Who is asked.
     pub questioned: Questioned,
@@ -74,7 +83,7 @@ pub struct Settings<'a> {
     pub wants_decks: bool,
 }
 
-/// The operator of the command, over a reader of replies, a writer of what is told, files for script and log, and a clock.
+/// The operator of the command, over a reader of replies, a writer of messages, files for script and log, and a clock.
 #[derive(Drop)]
 pub struct Desk<'a, R: Read + Drop, W: Write + Drop, F: Write + Drop, C: Clock + Drop> {
     pub(crate) levels: Levels<'a>,
@@ -85,10 +94,10 @@ pub struct Desk<'a, R: Read + Drop, W: Write + Drop, F: Write + Drop, C: Clock +
     has_begun: bool,
     refused: Option<LevelId>,
     reader: R,
-    told: W,
+    messages: W,
     pub(crate) reports: Reports<W>,
     pub(crate) clock: C,
-    /// When the work was told of last, or was gone on with.
+    /// When progress was reported last, or the work was continued.
     told_at: u64,
     /// How many turns both levels had taken when the clock was looked at last.
     turns_then: u64,
@@ -107,7 +116,7 @@ impl<'a, R: Read + Drop, W: Write + Drop, F: Write + Drop, C: Clock + Drop> Desk
         one: Seat<'a>,
         two: Seat<'a>,
         reader: R,
-        told: W,
+        messages: W,
         reports: Reports<W>,
         tape: Tape<F>,
         journal: Journal<F>,
@@ -122,7 +131,7 @@ impl<'a, R: Read + Drop, W: Write + Drop, F: Write + Drop, C: Clock + Drop> Desk
             has_begun: false,
             refused: None,
             reader,
-            told,
+            messages,
             reports,
             clock,
             told_at: 0,
@@ -181,10 +190,10 @@ impl<'a, R: Read + Drop, W: Write + Drop, F: Write + Drop, C: Clock + Drop> Desk
         self.journal.has_failed()
     }
 
-    /// Tells a text to who sits at the desk, whatever the writer answers.
+    /// Prints a text for the operator, whatever the writer answers.
     pub fn tell(&mut self, text: &str) {
-        let _ = self.told.write_all(text.as_bytes());
-        let _ = self.told.flush();
+        let _ = self.messages.write_all(text.as_bytes());
+        let _ = self.messages.flush();
     }
 
     /// Prints a message.
@@ -211,7 +220,7 @@ impl<'a, R: Read + Drop, W: Write + Drop, F: Write + Drop, C: Clock + Drop> Desk
         self.test_outputs()
     }
 
-    /// Begins the day, once: takes the decks as they were read, tells which can't be, and begins the log. `Err` stands also for
+    /// Begins the day, once: takes the decks as they were read, reports which can't be, and begins the log. `Err` is also returned for
     /// a day that is refused.
     fn begin<S: PackStore>(&mut self, machine: &Bureau<S>) -> Result<(), AllocError> {
         if self.has_begun {
@@ -238,7 +247,7 @@ impl<'a, R: Read + Drop, W: Write + Drop, F: Write + Drop, C: Clock + Drop> Desk
         self.log_opening()
     }
 
-    /// Tells of a deck that can't be read, and refuses a day that wants it.
+    /// Reports a deck that can't be read, and refuses a day that wants it.
     fn tell_unread(&mut self, level: LevelId) -> Result<(), AllocError> {
         let Some(fault) = self.levels.seat(level).unread else {
             return Ok(());
@@ -252,7 +261,7 @@ impl<'a, R: Read + Drop, W: Write + Drop, F: Write + Drop, C: Clock + Drop> Desk
         Ok(())
     }
 
-    /// Tells how far the work has come, once a second and while no halt waits that was shown.
+    /// Reports how far the work has come, once a second and while no halt waits that was shown.
     fn tell_progress<S: PackStore>(&mut self, machine: &Bureau<S>) -> Result<(), AllocError> {
         if !self.is_progress_due() {
             return Ok(());
@@ -432,7 +441,7 @@ impl<'a, R: Read + Drop, W: Write + Drop, F: Write + Drop, C: Clock + Drop> Desk
             return Ok(None);
         }
         let asked_at = self.clock.milliseconds();
-        let Some(typed) = read_line(self.levels.alloc, &mut self.reader)? else {
+        let Listed::Line(typed) = next_listed(self.levels.alloc, &mut self.reader)? else {
             self.has_ended = true;
             self.tell("(no more replies)\n");
             return Ok(None);
@@ -458,12 +467,20 @@ impl<'a, R: Read + Drop, W: Write + Drop, F: Write + Drop, C: Clock + Drop> Desk
         Ok(false)
     }
 
-    /// Whether the pack is to be saved: if a reply ended a job after it had changed files, a person is asked.
-    pub fn wants_saved(&mut self) -> Result<bool, AllocError> {
-        if !self.levels.is_person_asked() || !self.levels.has_spoilt() {
-            return Ok(true);
+    /// Whether the pack is to be saved. If a reply ended a job after it had changed files, the answer of the log counts, if it has one;
+    /// otherwise a person is asked.
+    pub fn wants_saved(&mut self) -> Result<Wish, AllocError> {
+        if !self.levels.has_spoilt() {
+            return Ok(Wish::Save);
         }
-        self.agrees(SAVE)
+        if self.levels.is_declined_in_log() {
+            return Ok(Wish::LeaveByLog);
+        }
+        if !self.levels.is_person_asked() || self.agrees(SAVE)? {
+            Ok(Wish::Save)
+        } else {
+            Ok(Wish::Leave)
+        }
     }
 
     /// Reports a log or a script that can't be written. A person may choose to go on without it; else the day ends, which is `Err`.
@@ -570,7 +587,7 @@ impl<'a, S: PackStore, R: Read + Drop, W: Write + Drop, F: Write + Drop, C: Cloc
 > for Desk<'a, R, W, F, C> {
     ghost use Rattle.std.specs.Prelude.{⊤};
 
-    // nothing is said of what it is told, and of what it answers
+    // not specified: what it is shown, and what it answers
     ghost meets = { λ old event new. ⊤ };
 
     fn follow(

@@ -2,6 +2,7 @@
 
 use crate::clock::Clock;
 use s3_day_log::{Event, line_of, utc_text};
+use s3_replay::write_out;
 use std::alloc::{AllocError, Global};
 use std::io;
 use std::io::Write;
@@ -64,10 +65,4 @@ impl<F: Write + Drop> Journal<F> {
         self.file = None;
         self.failure = None;
     }
-}
-
-/// Writes bytes, and has them leave the program.
-pub(crate) fn write_out<F: Write>(file: &mut F, bytes: &[u8]) -> io::Result<()> {
-    file.write_all(bytes)?;
-    file.flush()
 }

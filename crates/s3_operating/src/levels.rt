@@ -117,6 +117,14 @@ impl<'a> Levels<'a> {
             || self.tally.of(level).lines >= u64::from(self.settings.bounds.lines)
     }
 
+    /// Whether the log of a day that is done again has the answer that the pack isn't to be saved.
+    pub(crate) fn is_declined_in_log(&self) -> bool {
+        match self.settings.logged {
+            Some(log) => log.is_declined,
+            None => false,
+        }
+    }
+
     /// Whether a person is asked.
     pub(crate) fn is_person_asked(&self) -> bool {
         matches!(self.settings.questioned, Questioned::Person)
@@ -381,7 +389,7 @@ impl<'a> Levels<'a> {
         message
     }
 
-    /// Appends what may be answered to the halt of a level, and to that of the other one behind it, level 1 first.
+    /// Appends what may be answered to the halt of a level, and to that of the other one, level 1 first.
     fn push_choices(&self, message: &mut Message, level: LevelId) {
         let one = self.asked_in(level, LevelId::One);
         let two = self.asked_in(level, LevelId::Two);
@@ -507,7 +515,7 @@ impl<'a> Levels<'a> {
         Said::Nothing
     }
 
-    /// Tells what the replies do.
+    /// Explains what the replies do.
     fn help(&self, message: &mut Message, level: LevelId) -> Said {
         self.push_help_of(message, level, LevelId::One);
         self.push_help_of(message, level, LevelId::Two);

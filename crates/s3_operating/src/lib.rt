@@ -1,10 +1,15 @@
 //! The operator of `bureau operate`, over any bureau, readers, writers and clock: replies by rules, by a log, by lines and by a
-//! person at a terminal; what is told meanwhile; the reports, the script and the log as they are written; and what is told at a
-//! day's end.
+//! person at a terminal; what is printed meanwhile; the reports, the script and the log as they are written; and the summary of a
+//! day.
 //! docs/OPERATING.md has all of it.
 //!
-//! What is proved: each call is safe and returns. No contract says what is told or written: that is tested. What a day gives is
-//! proved of `s3_desk`, for this operator as for any, and how its jobs ended of `s3_day_log`.
+//! What is proved here: each call is safe and returns. What is printed and written is tested. The proved parts of the operator are in
+//! other crates:
+//!
+//! - what a line or a list of replies says, and which rule answers a halt: `s3_replies`;
+//! - the script that is written: `Tape` of `s3_replay`;
+//! - how the jobs of a day ended: `s3_day_log`;
+//! - what a day gives, for this operator as for any: `s3_desk`.
 
 #![tactic(auto)]
 
@@ -22,21 +27,19 @@ mod levels;
 mod message;
 mod printed;
 mod progress;
-mod reading;
 mod reports;
 mod seat;
 mod tally;
-mod tape;
 mod unread;
 
 pub use clock::Clock;
 pub use closing::Closing;
 pub use day_deck::{DayDeck, JoinedFiles};
-pub use desk::{Desk, Questioned, Settings};
+pub use desk::{Desk, Questioned, Settings, Wish};
 pub use journal::Journal;
 pub use printed::PrintedJob;
 pub use reports::Reports;
 pub use s3_day_log::Verdict;
+pub use s3_replay::Tape;
 pub use seat::Seat;
-pub use tape::Tape;
 pub use unread::push_unread;

@@ -26,7 +26,7 @@ pub struct PrintedJob {
 
 impl<'a, R: Read + Drop, W: Write + Drop, F: Write + Drop, C: Clock + Drop> Desk<'a, R, W, F, C> {
     /// The jobs of a level that were begun, in order, once the desk is closed: each line of the level's report is of one of them, and
-    /// those of a job stand behind those of the jobs before it.
+    /// those of a job come after those of the jobs before it.
     pub fn printed_jobs(&self, level: LevelId) -> Result<Vec<PrintedJob>, AllocError> {
         printed_jobs_of(self.levels.alloc, &self.levels.seat(level).ledger)
     }

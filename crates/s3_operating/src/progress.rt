@@ -1,4 +1,4 @@
-//! How far the work has come, and jobs as they are told.
+//! How far the work has come, and jobs as messages have them.
 
 use crate::message::Message;
 use crate::seat::Seat;

@@ -3,15 +3,15 @@ ghost use Rattle.std.specs.Prelude.{◌≡◌, IfOk};
 ghost use Rattle.s3_bureau.specs.Texts.{report_of};
 ghost use Rattle.s3_bureau.specs.Inner.Underway.{AreTables};
 
-use crate::journal::write_out;
 use s3_bureau::{Bureau, Outcome, REPORT_ROOM, ReportTables};
 use s3_cards::{LevelId, PrintLine};
+use s3_replay::write_out;
 use s3_store::PackStore;
 use std::alloc::{AllocError, Global};
 use std::io::Write;
 
 /// Where the reports of a day are written, and how far they are. Level 1's report comes first. Level 2's lines can be written as they
-/// are printed once level 1 is done, unless it had halts, whose text stands between.
+/// are printed once level 1 is done, unless it had halts, whose text comes between.
 #[derive(Drop)]
 pub struct Reports<W: Write + Drop> {
     writer: W,

@@ -33,7 +33,7 @@ pub struct Seat<'a> {
     pub(crate) card: Option<usize>,
     /// The last reply that a rule or a log gave, if it was reported.
     pub(crate) given: Option<Given>,
-    /// What was told of that halt, if anything was.
+    /// What was shown of that halt, if anything was.
     pub(crate) shown: Option<String>,
     /// How many replies were given.
     pub(crate) replies: usize,

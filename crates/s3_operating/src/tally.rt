@@ -20,7 +20,7 @@ pub(crate) struct Tally {
     two: Counts,
     /// How many parts of what was performed are counted whole.
     whole: usize,
-    /// How often the entry of the part behind them is counted.
+    /// How often the entry of the part after them is counted.
     times: u32,
 }
 

@@ -1,2 +1,4 @@
 pub mod Alike
 pub mod Writing
+pub mod Asking
+pub mod Taping

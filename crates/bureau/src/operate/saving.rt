@@ -6,12 +6,18 @@ use super::order::Order;
 use super::outputs::KeptOutputs;
 use s3_day_log::{DayOver, Event, NamedFile, checksum};
 use s3_host_files::{FileFault, Kept, Limit, LockedPack, save_new_pack, save_pack};
-use s3_operating::Verdict;
+use s3_operating::{Verdict, Wish};
 use s3_paper_commands::status::{DONE, FILE_FAILED, PASSED_OVER, PERSON_NEEDED};
 use s3_refusals::{Reason, Shown};
 use std::alloc::{AllocError, Global};
 use std::io;
 use std::io::Write;
+
+/// Printed if the operator answered that the pack must not be saved.
+const ANSWERED_NO: &'static str = ": the answer was no";
+
+/// Printed if the log of the day that is done again has that answer.
+const LOGGED_NO: &'static str = ": in the log the answer was no";
 
 /// A pack that is about to be saved.
 #[derive(Clone, Copy)]
@@ -49,8 +55,10 @@ pub fn end_day<'n>(
         );
         return end_unsaved(rt, order, desk, kept, over);
     }
-    if !desk.wants_saved()? {
-        return end_declined(rt, order, desk, kept, path);
+    match desk.wants_saved()? {
+        Wish::Save => {}
+        Wish::Leave => return end_declined(rt, order, desk, kept, path, ANSWERED_NO),
+        Wish::LeaveByLog => return end_declined(rt, order, desk, kept, path, LOGGED_NO),
     }
     let sum = checksum(rt.alloc(), &over.day.outcome.pack)?;
     let saving = Saving {
@@ -326,8 +334,10 @@ fn end_declined<'n>(
     desk: &mut OwnDesk<'_>,
     kept: &KeptOutputs,
     path: &str,
+    why: &str,
 ) -> Result<u8, DayFault<'n>> {
-    report_unsaved(rt, path, ": the answer was no");
+    report_unsaved(rt, path, why);
+    desk.note(Event::Declined)?;
     log_end(rt, order, desk, kept, PERSON_NEEDED, None)?;
     Ok(PERSON_NEEDED)
 }

@@ -1,13 +1,13 @@
 -- The script of entries that were performed.
-use Rattle.std.specs.Prelude.{◌≡◌, ℕ, ◌+◌, ◌==◌, nat_lt, Bool, true, List, [], ◌∷◌, ◌++◌, replicate, decimal, if◌then◌else◌, Result, Ok, Err}
-use Rattle.std.specs.List.{flat_map}
+use Rattle.std.specs.Prelude.{◌≡◌, ℕ, ◌+◌, ◌/◌, ◌%◌, ◌==◌, nat_lt, Bool, true, List, [], ◌∷◌, ◌++◌, replicate, decimal, if◌then◌else◌, Result, Ok, Err}
+use Rattle.std.specs.List.{flat_map, list_all}
 use Rattle.std.specs.Str.Lines.{lines}
 use Rattle.s3_cards.specs.declared.levels.LevelId.{LevelId}
 use Rattle.s3_cards.specs.declared.levels.LevelId.TheVariants.{One, Two}
 use Rattle.s3_solo.specs.declared.action.Action.{Action}
 use Rattle.s3_solo.specs.declared.action.Action.TheVariants.{Turn, Reply, Drain}
 use Rattle.s3_bureau.specs.declared.entry.Entry.{Entry}
-use Rattle.s3_bureau.specs.Script.{entries_from}
+use Rattle.s3_bureau.specs.Script.{entries_from, entries_of}
 use Rattle.s3_replay.specs.declared.performed.Repeated.{Repeated}
 
 -- ---- entries that were performed
@@ -49,6 +49,29 @@ line_of entry n = letter_of entry.action ∷ level_digit entry.level ∷ behind 
 abbrev pub most_in_line : Action → ℕ
 most_in_line (Reply digit) = 1
 most_in_line _ = 9999
+
+-- ---- the script of what was performed
+-- how often each line asks: as often as a line can at most, while that goes, and then the rest
+abbrev pub counts_of : (most n : ℕ) → List ℕ
+counts_of most n = replicate (n / most) most ++ (if n % most == 0 then [] else n % most ∷ [])
+
+abbrev pub ended_line : Entry → ℕ → List ℕ
+ended_line entry n = line_of entry n ++ 10 ∷ []
+
+unfoldable pub lines_asking : Entry → ℕ → List ℕ
+lines_asking entry n = flat_map (ended_line entry) (counts_of (most_in_line entry.action) n)
+
+-- the lines of a part; a reply that is no digit has none
+unfoldable pub part_lines : Repeated → List ℕ
+part_lines part = if is_part_writable part then lines_asking part.entry part.times else []
+
+-- the script of parts: the lines of each, one after the other
+abbrev pub text_of : List Repeated → List ℕ
+text_of parts = flat_map part_lines parts
+
+-- it is read as just their entries
+abbrev pub ReadsBack : Type 0
+ReadsBack = (parts : List Repeated) → list_all is_part_writable parts ≡ true → entries_of (text_of parts) ≡ Ok (entries_in parts)
 
 -- ---- what a text says, whatever comes behind it
 -- entries before those of the lines that are left
