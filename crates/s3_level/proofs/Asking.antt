@@ -9,11 +9,11 @@ use Rattle.s3_solo.specs.World.{World, JobAtWork}
 use Rattle.s3_level.specs.declared.job.OpenJob.{OpenJob}
 use Rattle.s3_level.specs.declared.level.Level.{Level}
 use Rattle.s3_level.specs.Inner.Holds.{Around, Holds, HoldsAtWork}
-use Rattle.s3_level.specs.Inner.Queries.{AreUnread, IsCycleOf, files_of, is_left, number_of}
+use Rattle.s3_level.specs.Inner.Queries.{AreUnread, IsCycleOf, files_of, is_left}
 
 -- ---- the job at work
 -- a world has one where the level has
-same_job : (deck : List (List ℕ)) (job : Option OpenJob) (w : World) (meant : Option JobAtWork) → HoldsAtWork deck job w meant → is_some job ≡ is_some meant
+pub same_job : (deck : List (List ℕ)) (job : Option OpenJob) (w : World) (meant : Option JobAtWork) → HoldsAtWork deck job w meant → is_some job ≡ is_some meant
 same_job deck None w None held = refl
 same_job deck (Some job) w (Some meant) held = refl
 same_job deck None w (Some meant) held = absurd held
@@ -30,16 +30,6 @@ none_there deck (Some job) w meant none held = let clash : Some job ≡ None = n
 -- where the level has none the world has none
 no_job : (level : Level) (beside : Around) (w : World) → level.job ≡ None → Holds level beside w → w.job ≡ None
 no_job level beside w none held = none_there level.deck level.job w w.job none held.parts.job
-
-same_number : (deck : List (List ℕ)) (job : OpenJob) (w : World) (meant : Option JobAtWork) → HoldsAtWork deck (Some job) w meant → Some job.number ≡ number_of meant
-same_number deck job w None held = absurd held
-same_number deck job w (Some meant) held = ap (λ (n : ℕ). Some n) (sym held.number)
-
-pub number_held : (level : Level) (beside : Around) (w : World) (job : OpenJob) → level.job ≡ Some job → Holds level beside w → Some job.number ≡ number_of w.job
-number_held level beside w job there held = same_number level.deck job w w.job (subst (λ (o : Option OpenJob). HoldsAtWork level.deck o w w.job) there held.parts.job)
-
-pub no_number : (level : Level) (beside : Around) (w : World) → level.job ≡ None → Holds level beside w → None ≡ number_of w.job
-no_number level beside w none held = sym (ap number_of (no_job level beside w none held))
 
 -- ---- its cards
 same_cards : (deck cards : List (List ℕ)) (job : OpenJob) (w : World) (meant : Option JobAtWork) → cards ≡ deck → HoldsAtWork deck (Some job) w meant

@@ -1,5 +1,5 @@
 -- Jumps that are passed many at once: as many turns of the solo run.
-use Rattle.std.proofs.Common.{◌≡◌, ◌≤◌, ◌<◌, ℕ, zero, suc, List, [], ◌∷◌, ◌++◌, refl, sym, ◌∙◌, ap, subst, replicate, append-nil, append_assoc, Bool, false, if◌then◌else◌, Option, Some, None, Result, Ok, Err, map, slice_range, arith}
+use Rattle.std.proofs.Common.{◌≡◌, ◌≤◌, ◌<◌, ℕ, zero, suc, List, [], ◌∷◌, ◌++◌, refl, sym, ◌∙◌, ap, subst, replicate, append-nil, append_assoc, Bool, false, if◌then◌else◌, Option, Some, None, is_some, Result, Ok, Err, map, slice_range, arith}
 use Rattle.std.specs.Prelude.{IfOk}
 use Rattle.std.proofs.lemmas.Option.{none-some}
 use Rattle.s3_meaning.specs.Requests.{Answer, Request, Jump, Done}
@@ -23,7 +23,7 @@ use Rattle.s3_job_files.specs.declared.job_files.JobFiles.{JobFiles}
 use Rattle.s3_level.specs.declared.job.OpenJob.{OpenJob}
 use Rattle.s3_level.specs.declared.level.Level.{Level}
 use Rattle.s3_level.specs.declared.taken.Taken.{Taken}
-use Rattle.s3_level.specs.Inner.Holds.{HoldsJob, HoldsParts, IsUpTo, Shown, open_files}
+use Rattle.s3_level.specs.Inner.Holds.{HoldsJob, HoldsParts, IsUpTo, Repeats, Shown, StopsAtEnd, open_files}
 use Rattle.s3_level.specs.Inner.Turning.{AtWorkBecomes, JumpsBecome, KeepsPlace, Pends, TakesTurns, request_by, waits_by, with_done}
 use Rattle.s3_level.proofs.Running.{job_held, pends, standing_same}
 
@@ -128,16 +128,30 @@ quiet_in : (s : Shown) (old : Level) (w : World) → is_waiting old.halts ≡ fa
 quiet_in s old w quiet held = ap is_waiting held.halts ∙ quiet
 
 -- so many turns pass them
-pub jumps_taken_as_turns : (s : Shown) {E : Type 0} (old : Level) (new : World → Type 0) (most : ℕ) (result : Result Taken E) → is_waiting old.halts ≡ false → request_by old.job ≡ Some asks.Jump
-    → IfOk result (λ taken. IsUpTo most taken) → IfOk result (λ taken. taken.did ≡ Acted) → IfOk result (λ taken. JumpsBecome taken.times at_work (HoldsParts old s) new)
-    → TakesTurns result (HoldsParts old s) new
-jumps_taken_as_turns s old new most (Ok taken) quiet is times acted becomes = λ w held.
+takes_jumps : (s : Shown) (old : Level) (new : World → Type 0) (most : ℕ) (taken : Taken) → is_waiting old.halts ≡ false → request_by old.job ≡ Some asks.Jump
+    → IsUpTo most taken → taken.did ≡ Acted → JumpsBecome taken.times at_work (HoldsParts old s) new
+    → Repeats Turn taken.times taken.did (HoldsParts old s) new
+takes_jumps s old new most taken quiet is times acted becomes w held =
     let there = job_jumps s old w is held in
     let quiet' = quiet_in s old w quiet held in
     let goes = becomes w there.0 there.1 held in (
       λ n few. acted ∙ sym (ap (λ (o : Outcome). o.did) (turn_jumps taken.times n there.0 w few there.1 quiet' goes.0)),
       subst new (sym (turns_jump taken.times there.0 w times.some there.1 quiet' goes.0)) goes.1,
     )
+
+-- before the last of them the job is at work
+stays_in_jumps : (s : Shown) (old : Level) (new : World → Type 0) (taken : Taken) → is_waiting old.halts ≡ false → request_by old.job ≡ Some asks.Jump
+    → JumpsBecome taken.times at_work (HoldsParts old s) new
+    → StopsAtEnd Turn taken.times (HoldsParts old s)
+stays_in_jumps s old new taken quiet is becomes w held n some few =
+    let there = job_jumps s old w is held in
+    let goes = becomes w there.0 there.1 held in
+    ap (λ (v : World). is_some v.job) (turns_there n there.0 w there.1 (quiet_in s old w quiet held) (λ k within. goes.0 k (omega (arith, few, within))))
+
+pub jumps_taken_as_turns : (s : Shown) {E : Type 0} (old : Level) (new : World → Type 0) (most : ℕ) (result : Result Taken E) → is_waiting old.halts ≡ false → request_by old.job ≡ Some asks.Jump
+    → IfOk result (λ taken. IsUpTo most taken) → IfOk result (λ taken. taken.did ≡ Acted) → IfOk result (λ taken. JumpsBecome taken.times at_work (HoldsParts old s) new)
+    → TakesTurns result (HoldsParts old s) new
+jumps_taken_as_turns s old new most (Ok taken) quiet is times acted becomes = (takes_jumps s old new most taken quiet is times acted becomes, stays_in_jumps s old new taken quiet is becomes)
 jumps_taken_as_turns s old new most (Err fault) quiet is times acted becomes = λ w held.
     let there = job_jumps s old w is held in
     ap (λ (b : Bool). (if b then idle w else gone_on w.job w).did) (quiet_in s old w quiet held)

@@ -1,5 +1,5 @@
 -- Turns one after another.
-use Rattle.std.proofs.Common.{◌≡◌, ◌≢◌, ◌⊎◌, inl, inr, ℕ, zero, suc, ◌<◌, ◌≤◌, ◌+◌, ◌-◌, List, [], ◌∷◌, Bool, true, false, if◌then◌else◌, Option, Some, None, Result, Ok, Err, replicate, refl, sym, ap, subst, ◌∙◌, arith}
+use Rattle.std.proofs.Common.{◌≡◌, ◌≢◌, ◌⊎◌, inl, inr, ℕ, zero, suc, ◌<◌, ◌≤◌, ◌+◌, ◌-◌, List, [], ◌∷◌, Bool, true, false, if◌then◌else◌, Option, Some, None, is_some, Result, Ok, Err, replicate, refl, sym, ap, subst, ◌∙◌, arith}
 use Rattle.std.specs.Prelude.{OnErr}
 use Rattle.s3_cards.specs.declared.levels.LevelId.{LevelId}
 use Rattle.s3_store.proofs.Frames.{keeps_refl}
@@ -23,7 +23,8 @@ use Rattle.s3_solo.specs.Serving.{Outcome, acted, answered, begun, file_served, 
 use Rattle.s3_solo.specs.Solo.{gone_on, solo, step_of}
 use Rattle.s3_level.specs.declared.level.Level.{Level}
 use Rattle.s3_level.specs.declared.taken.Taken.{Taken}
-use Rattle.s3_level.specs.Inner.Holds.{AreAll, Around, Holds, IsReady, Repeats, Spares, Stays}
+use Rattle.s3_level.specs.Inner.Holds.{AreAll, Around, Holds, IsReady, IsUpTo, Repeats, Spares, Stays, StopsAtEnd}
+use Rattle.s3_level.proofs.Asking.{same_job}
 use Rattle.s3_level.proofs.Beside.{spares_none, spares_then}
 use Rattle.s3_level.proofs.Files.{stays_then}
 
@@ -101,6 +102,7 @@ turns_stay (suc n) w not = ap (λ (v : World). solo v (replicate n Turn)) (turn_
 -- so many turns acted
 pub record TurnedSo (n : ℕ) (old new : Level) (before after : Around) : Type 0 where
   pub worlds : Repeats Turn n Acted (Holds old before) (Holds new after)
+  pub stops : StopsAtEnd Turn n (Holds old before)
   pub ready : IsReady new (seen after.areas after.state.contents)
   pub spares : Spares old.id before after
   pub failures : after.state.failures ≡ before.state.failures
@@ -114,6 +116,7 @@ none_yet n level beside none ready are =
     subst (λ (k : ℕ). TurnedSo k level level beside beside) (sym none)
     (record {
       worlds = λ w held. ((λ k few. absurd (omega (arith, few))), held);
+      stops = λ w held k some few. absurd (omega (arith, few));
       ready = ready;
       spares = spares_none level.id beside ready.files.pack are;
       failures = refl;
@@ -129,21 +132,48 @@ pub says_after : (old middle : Level) (before between after : Around) → Stays 
     → KeepsSaid middle.id between.areas between.state.contents after.areas after.state.contents → KeepsSaid old.id before.areas before.state.contents after.areas after.state.contents
 says_after old middle before between after stays first second = λ said. subst (λ (l : LevelId). KeepsSaid l between.areas between.state.contents after.areas after.state.contents) stays.id second (first said)
 
+-- so many turns, after which a job is at work, and then so many more
+stops_then : (n m : ℕ) (old middle : Level) (before between : Around) → Repeats Turn n Acted (Holds old before) (Holds middle between) → StopsAtEnd Turn n (Holds old before)
+    → (1 ≤ n → is_some middle.job ≡ true)
+    → StopsAtEnd Turn m (Holds middle between)
+    → StopsAtEnd Turn (n + m) (Holds old before)
+stops_then n m old middle before between worlds first works second w held k some few = by (either k n) (either n k)
+  where
+    v : World
+    v = solo w (replicate n Turn)
+
+    there : Holds middle between v
+    there = (worlds w held).1
+
+    by : (k < n) ⊎ (n ≤ k) → (n < k) ⊎ (k ≤ n) → is_some (solo w (replicate k Turn)).job ≡ true
+    by (inl fewer) _ = first w held k some fewer
+    by (inr more) (inl further) =
+        let same : n + (k - n) ≡ k = omega (arith, more) in
+        sym (ap (λ (u : World). is_some u.job) (solo_then n (k - n) Turn w ∙ ap (λ (j : ℕ). solo w (replicate j Turn)) same))
+        ∙ second v there (k - n) (omega (arith, further)) (omega (arith, few, more))
+    by (inr more) (inr no_further) =
+        let same : k ≡ n = omega (arith, more, no_further) in
+        ap (λ (j : ℕ). is_some (solo w (replicate j Turn)).job) same
+        ∙ (sym (same_job middle.deck middle.job v v.job there.parts.job) ∙ works (omega (arith, some, no_further)))
+
 -- so many more
 pub then_turned : (n all : ℕ) (taken : Taken) (old middle new : Level) (before between after : Around) → all ≡ n + taken.times → TurnedSo n old middle before between → taken.did ≡ Acted
     → 1 ≤ taken.times
     → Repeats Turn taken.times taken.did (Holds middle between) (Holds new after)
+    → (1 ≤ n → is_some middle.job ≡ true)
+    → StopsAtEnd Turn taken.times (Holds middle between)
     → IsReady new (seen after.areas after.state.contents)
     → Spares middle.id between after
     → after.state.failures ≡ between.state.failures + 0
     → KeepsSaid middle.id between.areas between.state.contents after.areas after.state.contents
     → Stays middle new
     → TurnedSo all old new before after
-then_turned n all taken old middle new before between after is so acts once more ready spares failures says stays =
+then_turned n all taken old middle new before between after is so acts once more works stops ready spares failures says stays =
     let none_more : between.state.failures + 0 ≡ between.state.failures = omega arith in
     subst (λ (k : ℕ). TurnedSo k old new before after) (sym is)
     (record {
       worlds = repeats_then Turn Acted n taken.times (Holds old before) (Holds middle between) (Holds new after) so.worlds (subst (λ (did : Did). Repeats Turn taken.times did (Holds middle between) (Holds new after)) acts more);
+      stops = stops_then n taken.times old middle before between so.worlds so.stops works stops;
       ready = ready;
       spares = spares_after old middle before between after so.stays so.spares spares;
       failures = failures ∙ none_more ∙ so.failures;
@@ -174,6 +204,21 @@ ends_idle (suc n) taken result old middle new before between after none some so 
     let there = last v here.1 in
     let idles : (step_of v Turn).did ≢ Acted = λ acts. not (there.0 0 (omega (arith, once)) ∙ acts) in
     (here.0, subst (Holds new after) (turns_stay taken.times v idles) there.1))
+
+-- and then they stop as those before it, or as it alone does
+pub ends_stopped : (n : ℕ) (taken result : Taken) (old middle : Level) (before between : Around) → (n ≡ 0 → result ≡ taken) → (1 ≤ n → result ≡ record { did = Acted; times = n }) → Repeats Turn n Acted (Holds old before) (Holds middle between)
+    → StopsAtEnd Turn n (Holds old before)
+    → StopsAtEnd Turn taken.times (Holds middle between)
+    → StopsAtEnd Turn result.times (Holds old before)
+ends_stopped zero taken result old middle before between none some worlds stops last =
+    subst (λ (t : Taken). StopsAtEnd Turn t.times (Holds old before)) (sym (none refl)) (λ w held. last w (worlds w held).1)
+ends_stopped (suc n) taken result old middle before between none some worlds stops last =
+    subst (λ (t : Taken). StopsAtEnd Turn t.times (Holds old before)) (sym (some (omega arith))) stops
+
+-- and they are no more than they may be
+pub ends_up_to : (n most : ℕ) (taken result : Taken) → n ≤ most → (n ≡ 0 → result ≡ taken) → (1 ≤ n → result ≡ record { did = Acted; times = n }) → IsUpTo most taken → IsUpTo most result
+ends_up_to zero most taken result few none some up_to = subst (IsUpTo most) (sym (none refl)) up_to
+ends_up_to (suc n) most taken result few none some up_to = subst (IsUpTo most) (sym (some (omega arith))) (record { some = omega arith; few = few })
 
 -- where what is told didn't act, none was before it
 pub is_first : (n : ℕ) (result : Taken) → (1 ≤ n → result ≡ record { did = Acted; times = n }) → result.did ≢ Acted → n ≡ 0

@@ -25,7 +25,7 @@ use Rattle.s3_solo.specs.Serving.{Outcome, begun, file_served, idle, in_use, job
 use Rattle.s3_solo.specs.Serving as Serving
 use Rattle.s3_job_files.specs.Requests as files
 use Rattle.s3_solo.specs.Solo.{gone_on, solo, step_of}
-use Rattle.s3_level.specs.Inner.Holds.{Around, Shown, Holds, HoldsParts, IsUpTo, Becomes, Repeats, Steps, once, shown}
+use Rattle.s3_level.specs.Inner.Holds.{Around, Shown, Holds, HoldsParts, IsUpTo, Becomes, Repeats, Steps, StopsAtEnd, once, shown}
 use Rattle.s3_cards.specs.declared.levels.LevelId.{LevelId}
 use Rattle.s3_cards.specs.declared.name.Name.{Name}
 use Rattle.s3_match.specs.Inner.Types.{name_of_file}
@@ -190,11 +190,15 @@ one_step action taken old new up_to repeats w held =
     let here = repeats w held in
     (here.0 0 (omega (arith, some)), subst (λ (n : ℕ). new (solo w (replicate n action))) one here.1)
 
+-- one entry stops after itself
+pub stops_once : (action : Action) (old : World → Type 0) → StopsAtEnd action 1 old
+stops_once action old w held n some few = absurd (omega (arith, some, few))
+
 pub once_turns : (answer : Result Did SectorFault) (result : Result Taken SectorFault) (old new : World → Type 0) → result ≡ once answer → Turns answer old new → TakesTurns result old new
 once_turns answer result old new is turns = subst (λ (r : Result Taken SectorFault). TakesTurns r old new) (sym is) (by answer turns)
   where
     by : (a : Result Did SectorFault) → Turns a old new → TakesTurns (once a) old new
-    by (Ok did) steps = steps_once Turn did old new steps
+    by (Ok did) steps = (steps_once Turn did old new steps, stops_once Turn old)
     by (Err fault) acts = acts
 
 -- what is said of the answer
@@ -217,6 +221,9 @@ pub turns_wholly : {E : Type 0} (result : Result Taken E) (old new : Level) (bef
     → TakesTurns result (HoldsParts old (shown old.id before)) (HoldsParts new (shown old.id after))
     → IfOk result (λ taken. Repeats Turn taken.times taken.did (Holds old before) (Holds new after))
 turns_wholly (Ok taken) old new before after id turns = λ w held.
-    let here = turns w held.parts in
+    let here = turns.0 w held.parts in
     (here.0, record { parts = subst (λ (l : LevelId). HoldsParts new (shown l after) (solo w (replicate taken.times Turn))) (sym id) here.1; asked = solo_asks taken.times Turn w held.asked })
 turns_wholly (Err e) old new before after id turns = tt
+
+pub stops_wholly : (taken : Taken) (old : Level) (before : Around) (new : World → Type 0) → TakesTurns {E = SectorFault} (Ok taken) (HoldsParts old (shown old.id before)) new → StopsAtEnd Turn taken.times (Holds old before)
+stops_wholly taken old before new turns = λ w held. turns.1 w held.parts

@@ -53,7 +53,7 @@ impl Level {
     ghost use Rattle.s3_solo.specs.World.{World, at_start};
     ghost use Rattle.s3_solo.specs.Serving.{job_ended};
     ghost use Rattle.s3_solo.specs.Solo.{step_of};
-    ghost use Rattle.s3_level.specs.Inner.Holds.{Around, AreAll, around, Holds, IsFresh, IsQuiet, IsReady, IsUpTo, Becomes, Repeats, Steps, Stays, Spares};
+    ghost use Rattle.s3_level.specs.Inner.Holds.{Around, AreAll, around, Holds, IsFresh, IsQuiet, IsReady, IsUpTo, Becomes, Repeats, Steps, Stays, StopsAtEnd, Spares};
 
     /// A level with this deck, before its first entry.
     pub fn new(alloc: Global, id: LevelId, deck: Deck) -> Level
@@ -109,8 +109,8 @@ impl Level {
         Ok(self.turns(NonZeroU16::MIN, pack, spool)?.did)
     }
 
-    /// Takes turns one behind the other, at most `most` of them and at least one, as long as they act and up to the one in which a job
-    /// ends, so that who looks on sees each end. It answers how many they were and what each of them did.
+    /// Takes turns one after the other, at most `most` of them and at least one. They go on as long as they act, up to the one in
+    /// which a job ends, so that a caller sees each end (`stops`). It answers how many they were and what each of them did.
     ///
     /// Each turn performs the pending request of the job at work, or begins the next job. A first turn is idle, takes no memory
     /// and changes nothing where a halt waits, where no job is at work and none is left, and where the job would print and its
@@ -127,6 +127,7 @@ impl Level {
         requires blocks { AreAll spool.old }
         ensures times { IfOk result (λ taken. IsUpTo (non_zero_u16_get most) taken) }
         ensures steps { IfOk result (λ taken. Repeats Turn taken.times taken.did (Holds self.old (around pack.old.areas (P.state pack.old.pool) spool.old)) (Holds self.new (around pack.new.areas (P.state pack.new.pool) spool.new))) }
+        ensures stops { IfOk result (λ taken. StopsAtEnd Turn taken.times (Holds self.old (around pack.old.areas (P.state pack.old.pool) spool.old))) }
         ensures acts { OnErr result ((w : World) → Holds self.old (around pack.old.areas (P.state pack.old.pool) spool.old) w → (step_of w Turn).did ≡ Acted) }
         ensures ready { OnOk result (IsReady self.new (seen pack.new.areas (P.state pack.new.pool).contents)) }
         ensures spares { Spares self.old.id (around pack.old.areas (P.state pack.old.pool) spool.old) (around pack.new.areas (P.state pack.new.pool) spool.new) }

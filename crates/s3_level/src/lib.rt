@@ -8,7 +8,7 @@
 //! - a new level holds the world at the start over a pack as it was mounted (`Level::new`);
 //! - `turn`, `answer` and `drain` are one entry of the solo run (`step`): compile jobs, starts, cards, lines, jumps, requests to
 //!   files, replies, ends; `turns` is so many turns as it answers, one at least and no more than it may, each with that answer
-//!   (`steps`, `times`), and fails only where a turn acts (`acts`);
+//!   (`steps`, `times`). They stop where a job ends (`stops`), and it fails only where a turn acts (`acts`);
 //! - an entry that is idle or refused in a world that is held is answered so, and no fault comes in its place (`idle`,
 //!   `refused`); it leaves the pack, the store and the queues as they are (`quiet`, `queues`);
 //! - `close` ends the job at work and closes its files, `drain_all` drains the queue (`world`), and neither fails where there is
@@ -17,7 +17,7 @@
 //!   spool blocks and the level's own, in the store too (`spares`, `others`); labels that say the level's slots still do after an
 //!   answer (`says`); transfers that failed are counted (`failures`);
 //! - `lines` and `halts` are the drained lines and the halts;
-//! - what is asked of a level (`waits`, `has_work`, `place`, `job_number`, `unread`, `files`, `cycle` and others) is so in each world
+//! - what is asked of a level (`waits`, `has_work`, `place`, `unread`, `files`, `cycle` and others) is so in each world
 //!   that is held.
 //!
 //! Only tested: that memory is said to run out only where a growth was refused, which no contract can say.

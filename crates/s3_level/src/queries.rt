@@ -23,7 +23,7 @@ impl Level {
     ghost use Rattle.s3_operator.specs.Halts.{waiting};
     ghost use Rattle.s3_solo.specs.World.{World};
     ghost use Rattle.s3_level.specs.Inner.Holds.{Around, Holds};
-    ghost use Rattle.s3_level.specs.Inner.Queries.{AreUnread, IsCycleOf, files_of, has_work, is_left, number_of};
+    ghost use Rattle.s3_level.specs.Inner.Queries.{AreUnread, IsCycleOf, files_of, has_work, is_left};
 
     /// For what the level halts, while it waits for the reply; none where no halt waits.
     pub fn waits(&self) -> Option<HaltCode>
@@ -70,17 +70,6 @@ impl Level {
         ensures world { (beside : Around) (w : World) → Holds self.now beside w → w.deck.jobs ≡ jobs_from w.deck.cards result }
     {
         self.next
-    }
-
-    /// The number of the job at work, 0 to 999, if there is one.
-    #[tactic(auto, using(crate::proofs::Asking::number_held, crate::proofs::Asking::no_number))]
-    pub fn job_number(&self) -> Option<u16>
-        ensures world { (beside : Around) (w : World) → Holds self.now beside w → result ≡ number_of w.job }
-    {
-        let Some(job) = &self.job else {
-            return None;
-        };
-        Some(job.number)
     }
 
     /// Where the data cards stand that the job at work has not yet read, if there is a job. The last one that it has read stands

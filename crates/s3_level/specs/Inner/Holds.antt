@@ -1,5 +1,5 @@
 -- What it is that a level holds a world, with what it is shown of the pack and the spool.
-use Rattle.std.specs.Prelude.{◌≡◌, ◌≢◌, ℕ, ◌≤◌, ◌<◌, List, [], ◌++◌, length, map, replicate, slice_range, Option, Some, None, Result, Ok, Err}
+use Rattle.std.specs.Prelude.{◌≡◌, ◌≢◌, ℕ, ◌≤◌, ◌<◌, true, List, [], ◌++◌, length, map, replicate, slice_range, Option, Some, None, is_some, Result, Ok, Err}
 use Rattle.indexmap.specs.IndexMap.{get}
 use Rattle.s3_cards.specs.declared.levels.LevelId.{LevelId}
 use Rattle.s3_cards.specs.Inner.Levels.{other}
@@ -158,6 +158,10 @@ Steps action did old new = (w : World) → old w → (did ≡ (step_of w action)
 abbrev pub Repeats : Action → (times : ℕ) → Did → (World → Type 0) → (World → Type 0) → Type 0
 Repeats action times did old new =
     (w : World) → old w → ((n : ℕ) → n < times → did ≡ (step_of (solo w (replicate n action)) action).did) × new (solo w (replicate times action))
+
+-- These entries stop where a job ends: after each of them but the last a job is at work.
+abbrev pub StopsAtEnd : Action → (times : ℕ) → (World → Type 0) → Type 0
+StopsAtEnd action times old = (w : World) → old w → (n : ℕ) → 1 ≤ n → n < times → is_some (solo w (replicate n action)).job ≡ true
 
 -- one entry with this answer
 abbrev pub once : Result Did SectorFault → Result Taken SectorFault

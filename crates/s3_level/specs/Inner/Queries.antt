@@ -1,5 +1,5 @@
--- What is asked of a level's world: whether work is left, and of the job at work its number, its files, its unread data cards and its cycle.
-use Rattle.std.specs.Prelude.{◌≡◌, ℕ, Bool, true, false, ◌||◌, List, [], ◌∷◌, slice_range, Option, Some, None, is_some, option_map, Result}
+-- What is asked of a level's world: whether work is left, and of the job at work its files, its unread data cards and its cycle.
+use Rattle.std.specs.Prelude.{◌≡◌, ℕ, Bool, true, false, ◌||◌, List, [], ◌∷◌, slice_range, Option, Some, None, is_some, Result}
 use Rattle.s3_cycle.specs.declared.stepper.Stepper.{Stepper}
 use Rattle.s3_cycle.specs.Inner.Following.{Follows}
 use Rattle.s3_job_files.specs.Files.{JobFile}
@@ -16,10 +16,6 @@ is_left (job ∷ jobs) = true
 -- something is left to be done: a job is at work, or one is not begun yet
 abbrev pub has_work : World → Bool
 has_work w = is_some w.job || is_left w.deck.jobs
-
--- the number of the job at work, if there is one
-abbrev pub number_of : Option JobAtWork → Option ℕ
-number_of job = option_map (λ one. one.number) job
 
 -- the files of the job at work, if there is one
 abbrev pub files_of : Option JobAtWork → List JobFile

@@ -32,7 +32,7 @@ use Rattle.s3_cycle.specs.declared.request.Sought.TheVariants as sought
 use Rattle.s3_job_files.specs.Requests as files
 use Rattle.s3_job_files.specs.Requests.{Served}
 use Rattle.s3_solo.specs.Solo.{step_of}
-use Rattle.s3_level.specs.Inner.Holds.{Repeats, Steps}
+use Rattle.s3_level.specs.Inner.Holds.{Repeats, Steps, StopsAtEnd}
 
 -- ---- a job at work
 -- the pending request of an open job, and as the meaning has it
@@ -169,7 +169,7 @@ abbrev pub Turns : {E : Type 0} → Result Did E → (World → Type 0) → (Wor
 Turns (Ok did) old new = Steps Turn did old new
 Turns (Err _) old new = (w : World) → old w → (step_of w Turn).did ≡ Acted
 
--- each world that was held takes so many turns; it fails only where the first of them acts
+-- each world that was held takes so many turns, which stop where a job ends; it fails only where the first of them acts
 abbrev pub TakesTurns : {E : Type 0} → Result Taken E → (World → Type 0) → (World → Type 0) → Type 0
-TakesTurns (Ok taken) old new = Repeats Turn taken.times taken.did old new
+TakesTurns (Ok taken) old new = Repeats Turn taken.times taken.did old new × StopsAtEnd Turn taken.times old
 TakesTurns (Err _) old new = (w : World) → old w → (step_of w Turn).did ≡ Acted
