@@ -12,7 +12,7 @@ use Rattle.s3_solo.specs.declared.action.Action.{Action}
 use Rattle.s3_solo.specs.Solo.{closed}
 use Rattle.s3_solo.specs.World.{World}
 use Rattle.s3_level.specs.declared.level.Level.{Level}
-use Rattle.s3_level.specs.Inner.Holds.{Around, Becomes, Holds, IsReady, Repeats, Spares}
+use Rattle.s3_level.specs.Inner.Holds.{Around, Becomes, Holds, IsReady, Repeats, Spares, StopsAtEnd}
 use Rattle.s3_level.specs.declared.taken.Taken.{Taken}
 use Rattle.s3_bureau.specs.declared.bureau.Phase.{Phase}
 use Rattle.s3_bureau.specs.declared.bureau.Phase.TheVariants.{Open, Finished, Stopped}
@@ -78,7 +78,7 @@ entered_one level action most taken old now new_one after same is takes ready ac
       quiet = acts.quiet;
       times = acts.times;
       failures = acts.failures;
-      comes = (is_phase_open old.phase takes, acts.comes.1);
+      comes = (is_phase_open old.phase takes, acts.comes.1, acts.comes.2);
     }))
 
 pub entered_two : (level : LevelId) (action : Action) (most : ℕ) (taken : Taken) (old now : State) (new_two : Level) (after : Around) → old ≡ now → level ≡ Two → takes_entries old.phase ≡ true → IsReadyFor old.one old.two old.beside
@@ -94,7 +94,7 @@ entered_two level action most taken old now new_two after same is takes ready ac
       quiet = acts.quiet;
       times = acts.times;
       failures = acts.failures;
-      comes = (is_phase_open old.phase takes, acts.comes.1);
+      comes = (is_phase_open old.phase takes, acts.comes.1, acts.comes.2);
     }))
 
 -- or the bureau stopped
@@ -149,6 +149,9 @@ pub own_repeats : (level : LevelId) (action : Action) (most : ℕ) (taken : Take
 own_repeats level action most taken old new e w held =
     let here = e.comes.1 w held.world in
     (here.0, record { goes_on = open_has new.phase e.comes.0; world = here.1 })
+
+pub own_stops : (level : LevelId) (action : Action) (most : ℕ) (taken : Taken) (old new : State) → Enters level action most (Ok taken) old new → StopsAtEnd action taken.times (HoldsFor level old)
+own_stops level action most taken old new e w held = e.comes.2 w held.world
 
 -- where it stopped, no line was drained
 pub lines_stay : (level : LevelId) (action : Action) (most : ℕ) (fault : SectorFault) (old new : State) → Enters level action most (Err fault) old new → (one_or_two : LevelId) → lines_at one_or_two new ≡ lines_at one_or_two old

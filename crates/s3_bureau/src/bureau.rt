@@ -1,7 +1,9 @@
 //! The bureau: two levels, each with its own deck, that take turns over one pack.
-ghost use Rattle.std.specs.Prelude.{◌≡◌, ◌≢◌};
+ghost use Rattle.std.specs.Prelude.{◌≡◌, ◌≢◌, ◌≤◌, ℕ};
 ghost use Rattle.std.specs.Int.NonZero.{non_zero_u16_get};
 ghost use Rattle.s3_job_files.specs.Inner.Holds.{seen};
+ghost use Rattle.s3_spool.specs.Inner.Queues.{Blocks};
+ghost use Rattle.s3_solo.specs.declared.action.Action.TheVariants.{Turn, Reply, Drain};
 ghost use Rattle.s3_level.specs.Inner.Holds.{AreAll, IsReady, around};
 ghost use Rattle.s3_bureau.specs.Inner.Held.{IsReadyFor};
 ghost use Rattle.s3_bureau.specs.Inner.Calls.{Acts, ClosesLevel, ClosesBoth};
@@ -55,7 +57,46 @@ impl<S: PackStore> Model for Bureau<S> {
     ghost invariant = { λ b. IsLaidOut (record { beside = around b.pack.areas b.pack.pool b.spool; one = b.one; two = b.two; phase = b.phase }) };
 }
 
-/// An entry of a level, so many times at most and at least once. It is proved once, for either level.
+/// Takes turns of a level, so many at most and at least one.
+fn take_turns<S: PackStore>(
+    level: &mut Level,
+    pack: &mut Pack<Pool<S>>,
+    spool: &mut Spool,
+    most: NonZeroU16,
+) -> Result<Taken, SectorFault>
+    requires ready { IsReady level.old (seen pack.old.areas pack.old.pool.contents) }
+    requires blocks { AreAll spool.old }
+    ensures { Acts Turn (non_zero_u16_get most) result level.old level.new (around pack.old.areas pack.old.pool spool.old) (around pack.new.areas pack.new.pool spool.new) }
+{
+    level.turns(most, pack, spool)
+}
+
+/// Gives the halt of a level a reply.
+fn give_reply<S: PackStore>(
+    level: &mut Level,
+    pack: &mut Pack<Pool<S>>,
+    digit: u8,
+) -> Result<Taken, SectorFault>
+    requires ready { IsReady level.old (seen pack.old.areas pack.old.pool.contents) }
+    ensures { (most : ℕ) (blocks : Blocks) → 1 ≤ most → AreAll blocks → Acts (Reply digit) most result level.old level.new (around pack.old.areas pack.old.pool blocks) (around pack.new.areas pack.new.pool blocks) }
+{
+    Taken::once(level.answer(digit, pack))
+}
+
+/// Drains a line of a level.
+fn drain_line<S: PackStore>(
+    level: &mut Level,
+    pack: &mut Pack<Pool<S>>,
+    spool: &mut Spool,
+) -> Result<Taken, SectorFault>
+    requires ready { IsReady level.old (seen pack.old.areas pack.old.pool.contents) }
+    requires blocks { AreAll spool.old }
+    ensures { (most : ℕ) → 1 ≤ most → Acts Drain most result level.old level.new (around pack.old.areas pack.old.pool spool.old) (around pack.new.areas pack.new.pool spool.new) }
+{
+    Taken::once(level.drain(pack, spool))
+}
+
+/// Performs an entry of a level, so many times at most and at least once. It is proved once, for either level.
 fn act<S: PackStore>(
     level: &mut Level,
     pack: &mut Pack<Pool<S>>,
@@ -68,9 +109,9 @@ fn act<S: PackStore>(
     ensures { Acts action (non_zero_u16_get most) result level.old level.new (around pack.old.areas pack.old.pool spool.old) (around pack.new.areas pack.new.pool spool.new) }
 {
     match action {
-        Action::Turn => level.turns(most, pack, spool),
-        Action::Reply(digit) => Taken::once(level.answer(digit, pack)),
-        Action::Drain => Taken::once(level.drain(pack, spool)),
+        Action::Turn => take_turns(level, pack, spool, most),
+        Action::Reply(digit) => give_reply(level, pack, digit),
+        Action::Drain => drain_line(level, pack, spool),
     }
 }
 
@@ -130,7 +171,7 @@ impl<S: PackStore> Bureau<S> {
     ghost use Rattle.s3_solo.specs.Inner.Lines.{drained_lines};
     ghost use Rattle.s3_solo.specs.World.{World, at_start};
     ghost use Rattle.s3_solo.specs.Solo.{step_of, closed};
-    ghost use Rattle.s3_level.specs.Inner.Holds.{Holds, IsUpTo, Repeats, Spares, Steps};
+    ghost use Rattle.s3_level.specs.Inner.Holds.{Holds, IsUpTo, Repeats, Spares, Steps, StopsAtEnd};
     ghost use Rattle.s3_bureau.specs.Inner.Stops.{failed_stop};
     ghost use Rattle.s3_bureau.specs.Inner.Calls.{Closes, Enters};
     ghost use Rattle.s3_bureau.specs.Inner.Queries.{Fetches, IsFound, queued};
@@ -249,8 +290,8 @@ impl<S: PackStore> Bureau<S> {
         Ok(self.repeat(entry, NonZeroU16::MIN)?.did)
     }
 
-    /// Performs one entry of a script at most `most` times and at least once: several times only where its level takes turns,
-    /// which go on as long as they act. It answers how often, and what the entry did each time.
+    /// Performs one entry of a script at most `most` times and at least once. Only turns are several: they go on as long as they
+    /// act, up to the one in which a job ends. It answers how often the entry was performed, and what it did each time.
     ///
     /// Where memory runs out it answers `Stop::NoMemory`, and where a transfer of the store fails `Stop::Device`. Nothing more is
     /// done then: each later call answers `Stop::Stopped`, as it does after `finish`.
@@ -259,6 +300,9 @@ impl<S: PackStore> Bureau<S> {
 
         // The level's own world takes so many such entries, each with this answer.
         ensures own { IfOk result (λ taken. Repeats entry.action taken.times taken.did (HoldsFor entry.level self.old) (HoldsFor entry.level self.new)) }
+
+        // They stop where a job ends.
+        ensures stops { IfOk result (λ taken. StopsAtEnd entry.action taken.times (HoldsFor entry.level self.old)) }
 
         // What else changes, what stays, and how it stops is as `step` says.
         ensures other { OnOk result ((w : World) → HoldsFor (other entry.level) self.old w → HoldsFor (other entry.level) self.new w) }

@@ -30,15 +30,16 @@
 //!   `a_step_is_one_of_any`);
 //! - two bureaus that agree for a level agree after any entries with the same own ones (`other_entries_make_no_difference`).
 //!
-//! Proved of `run` and `run_on`: the texts are those of each level's closed solo run, or exactly the first bad line, else the
-//! header's fault, and never `Device`. The pack that they leave has as many sectors and nothing behind the last one, with header,
-//! masters, the sectors that nobody uses and all of a level without an entry as they were; a mount of it has the same header and
-//! masters, judges each slot of a level as its world has it, and none entangled, where none was before, and finds the records of each file
-//! of each level's world under the label that the world has for it (specs/Runs.antt). Two packs that are alike in what a level can read
-//! give it the same texts and files, whatever else they have and whatever the other level does (`no_level_learns_of_the_other`). A run
-//! over a migrated pack gives the same texts and leaves the same records, unless a halt `NS` is shown over the old one
-//! (`a_migrated_pack_gives_the_same_texts`, `a_migrated_pack_keeps_the_records`). Worked scripts and texts are computed
-//! (`scripts_are_read`, `reports_are_written`, `halt_texts_are_written`).
+//! Proved of `run_unwritten`, which the program calls, and of `run`, which makes the reports of such a run: the texts are those of
+//! each level's closed solo run, or exactly the first bad line, else the header's fault, and never `Device`. The pack that they
+//! leave has as many sectors and nothing behind the last one, with header, masters, the sectors that nobody uses and all of a level
+//! without an entry as they were; a mount of it has the same header and masters, judges each slot of a level as its world has it,
+//! and none entangled, where none was before, and finds the records of each file of each level's world under the label that the
+//! world has for it (specs/Runs.antt). Two packs that are alike in what a level can read give it the same texts and files, whatever
+//! else they have and whatever the other level does (`no_level_learns_of_the_other`). A run over a migrated pack gives the same
+//! texts and leaves the same records, unless a halt `NS` is shown over the old one (`a_migrated_pack_gives_the_same_texts`,
+//! `a_migrated_pack_keeps_the_records`). Worked scripts and texts are computed (`scripts_are_read`, `reports_are_written`,
+//! `halt_texts_are_written`).
 //!
 //! Only tested, by rows: what a saved pack has when it is mounted anew where a slot was entangled; that memory is said to run
 //! out only where a growth was refused, which no contract can say; and the texts of faults. Nobody says what a stop leaves of
@@ -67,7 +68,7 @@ pub use laws::{
 pub use outcome::{LevelTexts, Outcome};
 pub use report::{REPORT_ROOM, ReportTables};
 pub use run_fault::{RunFault, mount_number};
-pub use runs::{fault_of, fault_of_refusal, finish_texts, read_deck, run, run_on, run_unwritten};
+pub use runs::{fault_of, fault_of_refusal, finish_texts, read_deck, run, run_unwritten};
 pub use s3_labels::{Refusal, RefusedStore};
 pub use s3_level::{Action, Did, Halt, HaltCode, Taken};
 pub use stop::Stop;

@@ -37,7 +37,11 @@ use s3_store::{MemoryStore, PackStore, SectorFault};
 use std::alloc::{AllocError, Global};
 use std::num::NonZeroU16;
 
-/// What `run_on` gives or refuses, over a copy of the pack's bytes.
+/// The texts of both levels after a script's entries over a pack, each level over its own deck, and the pack that they leave. It makes
+/// the run of `run_unwritten` over a copy of the pack's bytes, and then both reports.
+///
+/// A script with a malformed line is refused before anything else, then a pack that isn't mounted. A deck that can't be
+/// read counts as empty, and its level's halt text begins with its fault, as of job 000.
 pub fn run(
     alloc: Global,
     pack: &[u8],
@@ -47,30 +51,14 @@ pub fn run(
 ) -> Result<Outcome, RunFault>
     ensures { Runs pack.now deck1.now deck2.now script.now result }
 {
-    run_on(alloc, Vec::from_slice(alloc, pack)?, deck1, deck2, script)
-}
-
-/// The texts of both levels after a script's entries over a pack, each level over its own deck, and the pack that they leave. The
-/// pack is handed over, and so isn't copied.
-///
-/// A script with an ill-formed line is refused before anything else, then a pack that isn't mounted. A deck that can't be
-/// read counts as empty, and its level's halt text begins with its fault, as of job 000.
-pub fn run_on(
-    alloc: Global,
-    pack: Vec<u8>,
-    deck1: &[u8],
-    deck2: &[u8],
-    script: &[u8],
-) -> Result<Outcome, RunFault>
-    ensures { Runs pack.items deck1.now deck2.now script.now result }
-{
-    let unwritten = run_unwritten(alloc, pack, deck1, deck2, script)?;
+    let bytes = Vec::from_slice(alloc, pack)?;
+    let unwritten = run_unwritten(alloc, bytes, deck1, deck2, script)?;
     let outcome = unwritten.written(alloc)?;
     Ok(outcome)
 }
 
-/// A run as `run_on` makes it, with no report written yet: it hands out the printed lines that a report is made of. So who writes
-/// them needs no room for a whole report.
+/// The run of `run`, with no report made yet: it hands out the printed lines that a report is made of. So a caller that writes them
+/// needs no memory for a whole report. The pack is handed over, and so isn't copied.
 pub fn run_unwritten(
     alloc: Global,
     pack: Vec<u8>,

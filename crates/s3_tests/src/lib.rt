@@ -7,6 +7,7 @@
 //! - `bureau`: three whole sessions over a store that fails at each call in turn, and where memory runs out.
 //! - `sessions`: a session whose reader or writer fails at each call in turn, or gives and takes a byte a call.
 //! - `documents`: PDF documents that no command asks for.
+//! - `surface`: the calls of the machine's surface that the program doesn't make (docs/DECISIONS.md).
 //!
 //! Each call with many postconditions is made in one small function, and what owns a large value has no `?`: docs/DEVELOPING.md
 //! has the reason, under "Slow proofs".
@@ -31,6 +32,8 @@ mod packs;
 mod pool;
 #[cfg(test)]
 mod sessions;
+#[cfg(test)]
+mod surface;
 
 /// The first column of each entry that the rules of the sheets have is a stop of its sheet.
 #[tactic(auto, unfolding(s3_sheets::specs::Tables::header_rules, s3_sheets::specs::Tables::file_rules, s3_sheets::specs::Tables::record_rules, s3_sheets::specs::Tables::record_and_rules, s3_sheets::specs::Tables::record_or_rules, s3_sheets::specs::Tables::field_rules, s3_sheets::specs::Tables::calculation_rules, s3_sheets::specs::Tables::output_line_rules, s3_sheets::specs::Tables::output_group_rules, s3_sheets::specs::Tables::output_field_rules))]

@@ -19,7 +19,7 @@ use Rattle.s3_solo.specs.Solo.{closed, step_of}
 use Rattle.s3_solo.specs.World.{World}
 use Rattle.s3_level.specs.declared.level.Level.{Level}
 use Rattle.s3_level.specs.declared.taken.Taken.{Taken}
-use Rattle.s3_level.specs.Inner.Holds.{Around, Becomes, Holds, IsReady, IsUpTo, Repeats, Spares}
+use Rattle.s3_level.specs.Inner.Holds.{Around, Becomes, Holds, IsReady, IsUpTo, Repeats, Spares, StopsAtEnd}
 use Rattle.s3_bureau.specs.declared.bureau.Phase.TheVariants.{Open, Finished, Stopped}
 use Rattle.s3_bureau.specs.Inner.Held.{HasNoWork, IsDone, IsReadyFor, State, header_of, is_open, level_of, rests}
 use Rattle.s3_bureau.specs.Sharing.{IsCommon, IsOwn}
@@ -27,7 +27,9 @@ use Rattle.s3_bureau.specs.Sharing.{IsCommon, IsOwn}
 -- ---- one level, and what is beside it
 -- an entry was performed so many times, or it stopped: then it would have acted, and the drained lines are the same
 abbrev pub ActsTo : Action → Result Taken SectorFault → (old new : Level) → (before after : Around) → Type 0
-ActsTo action (Ok taken) old new before after = IsReady new (seen after.areas after.state.contents) × Repeats action taken.times taken.did (Holds old before) (Holds new after)
+ActsTo action (Ok taken) old new before after =
+    IsReady new (seen after.areas after.state.contents) × Repeats action taken.times taken.did (Holds old before) (Holds new after)
+    × StopsAtEnd action taken.times (Holds old before)
 ActsTo action (Err fault) old new before after = (new.lines.items ≡ old.lines.items) × ((w : World) → Holds old before w → (step_of w action).did ≡ Acted)
 
 pub record Acts (action : Action) (most : ℕ) (result : Result Taken SectorFault) (old new : Level) (before after : Around) : Type 0 where
@@ -83,7 +85,9 @@ pub record ClosesBoth (result : Result (Unit {0}) SectorFault) (one two new_one 
 -- ---- a bureau
 -- an entry of a level was performed so many times, or the bureau stopped
 abbrev pub EntersTo : LevelId → Action → Result Taken SectorFault → (old new : State) → Type 0
-EntersTo level action (Ok taken) old new = (new.phase ≡ Open) × Repeats action taken.times taken.did (Holds (level_of level old) old.beside) (Holds (level_of level new) new.beside)
+EntersTo level action (Ok taken) old new =
+    (new.phase ≡ Open) × Repeats action taken.times taken.did (Holds (level_of level old) old.beside) (Holds (level_of level new) new.beside)
+    × StopsAtEnd action taken.times (Holds (level_of level old) old.beside)
 EntersTo level action (Err fault) old new =
     (new.phase ≡ Stopped) × ((level_of level new).lines.items ≡ (level_of level old).lines.items)
     × ((w : World) → Holds (level_of level old) old.beside w → (step_of w action).did ≡ Acted)

@@ -2,7 +2,7 @@
 //! `tools/refuse-memory` makes each request of these tests fail in turn.
 
 mod calls;
-mod decks;
+pub mod decks;
 mod fuse_rows;
 mod memory_rows;
 mod packs;

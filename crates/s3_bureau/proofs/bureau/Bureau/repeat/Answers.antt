@@ -1,6 +1,6 @@
 use Rattle.std.proofs.Common.{◌≡◌, Err, rules}
 use Rattle.s3_bureau.specs.Inner.Stops.{stop_of}
-use Rattle.s3_bureau.proofs.Entering.{cause_failed, foreign_unchanged, has_none, header_stays, is_cause, is_stopped, lines_stay, other_keeps, other_kept, own_repeats, stays_open, was_open}
+use Rattle.s3_bureau.proofs.Entering.{cause_failed, foreign_unchanged, has_none, header_stays, is_cause, is_stopped, lines_stay, other_keeps, other_kept, own_repeats, own_stops, stays_open, was_open}
 use Rattle.s3_bureau.proofs.bureau.Bureau.repeat.Goals as goal
 
 pub returns-clause-other : goal.returns-clause-other
@@ -17,6 +17,9 @@ returns-in_err-taken-clause-unchanged g c = foreign_unchanged c.args.entry.level
 
 pub returns-clause-own : goal.returns-clause-own
 returns-clause-own g c = own_repeats c.args.entry.level c.args.entry.action _ c.in_ok-taken.taken _ _ c.in_ok-taken.ensures
+
+pub returns-clause-stops : goal.returns-clause-stops
+returns-clause-stops g c = own_stops c.args.entry.level c.args.entry.action _ c.in_ok-taken.taken _ _ c.in_ok-taken.ensures
 
 pub returns-clause-said : goal.returns-clause-said
 returns-clause-said g c = λ level said. c.in_ok-taken.ensures.says level said

@@ -1,0 +1,2 @@
+pub mod FirstTurn
+pub mod SmallFile
