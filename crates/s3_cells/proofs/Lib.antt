@@ -1,6 +1,11 @@
 pub mod TextLemmas
+pub mod MarkLemmas
+pub mod MarkLaws
 pub mod NumberLemmas
 pub mod Cells
 pub mod TextLaws
 pub mod NumberLaws
+pub mod DateLaws
+pub mod DateLemmas
 pub mod CellLaws
+pub mod StyleLemmas

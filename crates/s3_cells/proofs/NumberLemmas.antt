@@ -1,18 +1,21 @@
 -- Digits in front of a point and behind it.
-use Rattle.std.proofs.Common.{◌≡◌, ℕ, ◌+◌, ◌-◌, ◌*◌, ◌^◌, ◌<◌, ◌≤◌, refl, arith, sym, ◌∙◌, ap, Bool, true, false, cond, List, [], ◌∷◌, ◌++◌, map, length, take, drop, get_or, replicate, append_assoc, min, nat_le, ℤ, unsigned_abs, to_z, of_z, w64, FitsSigned}
+use Rattle.std.proofs.Common.{◌≡◌, ℕ, ◌+◌, ◌-◌, ◌*◌, ◌%◌, ◌^◌, ◌<◌, ◌≤◌, refl, arith, sym, ◌∙◌, ap, ap₂, Bool, true, false, cond, List, [], ◌∷◌, ◌++◌, map, length, take, drop, get_or, replicate, append_assoc, min, nat_le, ℤ, unsigned_abs, to_z, of_z, w64, FitsSigned}
 use Rattle.std.specs.Bool.{◌==◌}
 use Rattle.std.specs.List.{after_first, before_first, position_or_len}
 use Rattle.std.proofs.lemmas.List.{take_more, take_all, map-append, drop_all, length-drop, replicate-append-replicate}
 use Rattle.std.specs.Prelude.{Option, Some, None}
 use Rattle.std.specs.Option.{option_map}
-use Rattle.std.proofs.lemmas.Bool.{eqb-true, le-leb, lt-leb}
+use Rattle.std.proofs.lemmas.Bool.{eqb-true, le-leb, lt-leb, ne_eqb}
 use Rattle.std.proofs.lemmas.Int.{fits_signed_from_abs, to_z-of_z}
 use Rattle.s3_decimal.specs.Exact.{is_negative, signed}
 use Rattle.s3_decimal.proofs.Powers.{ten_le}
 use Rattle.s3_decimal.proofs.Bounds.{unsigned_abs-signed}
 use Rattle.s3_decimal.specs.Records.{number_of}
 use Rattle.s3_decimal.proofs.DigitsRead.{number_push}
-use Rattle.s3_cells.specs.Inner.Numbers.{are_digits, decimals_text, digit_character, digit_value, fifteen, has_minus, is_point, magnitude_in, magnitude_read, number_read, number_text, sign_text, significant, without_sign}
+use Rattle.s3_cells.specs.Inner.Marks.{mark_of, swapped}
+use Rattle.s3_cells.specs.declared.marks.DecimalMark.{DecimalMark}
+use Rattle.s3_cells.specs.declared.marks.DecimalMark.TheVariants.{Point, Comma}
+use Rattle.s3_cells.specs.Inner.Numbers.{are_digits, decimals_text, decimals_with, digit_character, digit_value, fifteen, has_minus, is_point, magnitude_in, magnitude_read, number_read, number_text, sign_text, significant, without_sign}
 
 pub whole_before : (text : List ℕ) (point : ℕ) → point ≡ position_or_len is_point text → take point text ≡ before_first is_point text
 whole_before text point e = ap (λ n. take n text) e
@@ -128,3 +131,40 @@ pub passed_same : (v : ℤ) (digits : ℕ) → unsigned_abs v < 10 ^ digits → 
 passed_same v digits h few =
     let small : unsigned_abs v < 10 ^ 15 = omega (arith, ten_le digits 15 few) in
     to_z-of_z w64 v (fits_signed_from_abs w64 v (omega arith))
+
+-- ---- its mark
+not_mark : (b c : ℕ) → c < 48 → (48 + b % 16 == c) ≡ false
+not_mark b c h = ne_eqb (48 + b % 16) c (λ e. omega arith)
+
+digits_stay : (mark : DecimalMark) (zs : List ℕ) → map (swapped mark) (map digit_character zs) ≡ map digit_character zs
+digits_stay mark [] = refl
+digits_stay Point (z ∷ zs) = ap (λ t. digit_character z ∷ t) (digits_stay Point zs)
+digits_stay Comma (z ∷ zs) = rw (not_mark z 46 (omega arith), not_mark z 44 (omega arith)) (ap (λ t. digit_character z ∷ t) (digits_stay Comma zs))
+
+sign_stays : (mark : DecimalMark) (negative : Bool) → map (swapped mark) (sign_text negative) ≡ sign_text negative
+sign_stays Point true = refl
+sign_stays Point false = refl
+sign_stays Comma true = refl
+sign_stays Comma false = refl
+
+mark_first : (mark : DecimalMark) → swapped mark 46 ≡ mark_of mark
+mark_first Point = refl
+mark_first Comma = refl
+
+mark_told : (mark : DecimalMark) (zs : List ℕ) → map (swapped mark) (decimals_text zs) ≡ decimals_with (mark_of mark) zs
+mark_told mark [] = refl
+mark_told mark (z ∷ zs) = ap₂ (λ a b. a ∷ b) (mark_first mark) (digits_stay mark (z ∷ zs))
+
+pub number_marked : (mark : DecimalMark) (d : ℕ) (v : ℤ) (negative : Bool) (zoned front back digits before signed_text whole all : List ℕ) → negative ≡ is_negative v → zoned ≡ fifteen (unsigned_abs v) → front ≡ take (15 - d) zoned → back ≡ drop (15 - d) zoned
+    → digits ≡ significant front → signed_text ≡ before ++ sign_text negative → whole ≡ signed_text ++ map digit_character digits → all ≡ whole ++ decimals_with (mark_of mark) back → all ≡ before ++ map (swapped mark) (number_text d v)
+number_marked mark d v negative zoned front back digits before signed_text whole all n z f b g s w a =
+    let plain : sign_text negative ++ (map digit_character digits ++ decimals_text back) ≡ number_text d v =
+    number_joined d v negative zoned front back digits [] (sign_text negative) (sign_text negative ++ map digit_character digits) (sign_text negative ++ (map digit_character digits ++ decimals_text back)) n z f b g refl refl (sym (append_assoc (sign_text negative) (map digit_character digits) (decimals_text back))) in
+    let part : map (swapped mark) (map digit_character digits ++ decimals_text back) ≡ map digit_character digits ++ decimals_with (mark_of mark) back =
+    map-append (swapped mark) (map digit_character digits) (decimals_text back) ∙ ap₂ (λ x y. x ++ y) (digits_stay mark digits) (mark_told mark back) in
+    let parted : map (swapped mark) (number_text d v) ≡ sign_text negative ++ (map digit_character digits ++ decimals_with (mark_of mark) back) =
+    ap (map (swapped mark)) (sym plain) ∙ map-append (swapped mark) (sign_text negative) (map digit_character digits ++ decimals_text back) ∙ ap₂ (λ x y. x ++ y) (sign_stays mark negative) part in
+    a ∙ ap (λ t. t ++ decimals_with (mark_of mark) back) (w ∙ ap (λ t. t ++ map digit_character digits) s)
+    ∙ append_assoc (before ++ sign_text negative) (map digit_character digits) (decimals_with (mark_of mark) back)
+    ∙ append_assoc before (sign_text negative) (map digit_character digits ++ decimals_with (mark_of mark) back)
+    ∙ ap (λ t. before ++ t) (sym parted)

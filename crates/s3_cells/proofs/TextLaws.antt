@@ -1,5 +1,5 @@
 -- What texts and their codes make of each other.
-use Rattle.std.proofs.Common.{◌≡◌, ℕ, ◌+◌, ◌-◌, ◌≤◌, refl, arith, sym, ◌∙◌, ap, ap₂, Bool, true, false, ◌&&◌, cond, suc, zero, List, [], ◌∷◌, ◌++◌, map, length, replicate, append_assoc, nat_le}
+use Rattle.std.proofs.Common.{◌≡◌, ℕ, ◌-◌, ◌≤◌, refl, arith, sym, ◌∙◌, ap, ap₂, Bool, true, false, ◌&&◌, cond, suc, zero, List, [], ◌∷◌, ◌++◌, map, length, replicate, append_assoc, nat_le}
 use Rattle.std.specs.Prelude.{unwrap_or, is_some, Option, Some, None}
 use Rattle.std.specs.Bool.{◌==◌}
 use Rattle.std.specs.List.{list_all}
@@ -24,13 +24,13 @@ some_of None h = absurd cc
 some_of (Some n) h = (n, refl)
 
 -- ---- a code and its character
-code_shown : (character : ℕ) → has_code character ≡ true → (has_character (unwrap_or (ebcdic_of character) 0) ≡ true) × (shown_byte (unwrap_or (ebcdic_of character) 0) ≡ character)
+pub code_shown : (character : ℕ) → has_code character ≡ true → (has_character (unwrap_or (ebcdic_of character) 0) ≡ true) × (shown_byte (unwrap_or (ebcdic_of character) 0) ≡ character)
 code_shown character h =
     let some = some_of (ebcdic_of character) h in
     let shown : host_of some.0 ≡ Some character = (both_ways character some.0).0 some.1 in
     (ap (λ o. is_some (host_of (unwrap_or o 0))) some.1 ∙ ap is_some shown, ap (λ o. unwrap_or (host_of (unwrap_or o 0)) 63) some.1 ∙ ap (λ o. unwrap_or o 63) shown)
 
-character_coded : (code : ℕ) → has_character code ≡ true → ebcdic_of (shown_byte code) ≡ Some code
+pub character_coded : (code : ℕ) → has_character code ≡ true → ebcdic_of (shown_byte code) ≡ Some code
 character_coded code h =
     let some = some_of (host_of code) h in
     ap (λ o. ebcdic_of (unwrap_or o 63)) some.1 ∙ (both_ways some.0 code).1 some.1
@@ -43,7 +43,7 @@ codes_shown (x ∷ xs) h =
     let parts = and_parts (has_code x) (list_all has_code xs) h in
     ap₂ (λ a b. a && b) (code_shown x parts.0).0 (codes_shown xs parts.1)
 
-codes_back : (text : List ℕ) → list_all has_code text ≡ true → map shown_byte (ebcdic text) ≡ text
+pub codes_back : (text : List ℕ) → list_all has_code text ≡ true → map shown_byte (ebcdic text) ≡ text
 unfolding ebcdic
 codes_back [] h = refl
 codes_back (x ∷ xs) h =

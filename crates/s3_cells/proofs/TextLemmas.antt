@@ -33,7 +33,7 @@ mark_alone : (y : ℕ) → (y == 32) ≡ false → trimmed (y ∷ []) ≡ y ∷ 
 unfolding trimmed
 mark_alone y h = rw h refl
 
-mark_kept : (xs : List ℕ) (y : ℕ) → (y == 32) ≡ false → trimmed (xs ++ y ∷ []) ≡ xs ++ y ∷ []
+pub mark_kept : (xs : List ℕ) (y : ℕ) → (y == 32) ≡ false → trimmed (xs ++ y ∷ []) ≡ xs ++ y ∷ []
 mark_kept [] y h = mark_alone y h
 mark_kept (x ∷ xs) y h = trimmed_cons x (xs ++ y ∷ []) (xs ++ y ∷ []) (mark_kept xs y h) (not_empty xs y)
 

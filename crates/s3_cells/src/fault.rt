@@ -11,6 +11,8 @@ pub enum ShowFault {
     NoCharacter(u16),
     /// The number has a digit above 9.
     NoNumber,
+    /// The field has no date of the calendar, but these characters.
+    NoDate([u8; 6]),
     /// Memory was refused.
     NoMemory,
 }
@@ -43,4 +45,20 @@ pub enum CellFault {
     /// The text has a character that no card can have.
     #[error("the text has a character that no card can have")]
     NoCharacter,
+    /// The cell is no date YYYY-MM-DD of the years 1900 to 1999.
+    #[error("this is no date")]
+    NoDate,
+    /// Memory was refused.
+    #[error("memory was refused")]
+    NoMemory,
+}
+
+impl From<AllocError> for CellFault {
+    ghost use Rattle.s3_cells.specs.declared.fault.CellFault.TheVariants.{NoMemory as NoMemoryVariant};
+
+    ghost from_gives = { λ _ fault. fault ≡ NoMemoryVariant };
+
+    fn from(_: AllocError) -> Self {
+        CellFault::NoMemory
+    }
 }

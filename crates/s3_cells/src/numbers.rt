@@ -3,10 +3,12 @@ ghost use Rattle.std.specs.Prelude.{◌≡◌, ◌+◌, ◌*◌, ◌^◌, ◌<�
 ghost use Rattle.std.specs.Option.{option_map};
 ghost use Rattle.std.specs.List.{list_all, before_first, after_first, position_or_len};
 ghost use Rattle.s3_decimal.specs.Records.{number_of};
-ghost use Rattle.s3_cells.specs.Inner.Numbers.{digit_character, digit_value, is_digit, is_point, are_digits as are_digits_spec, number_text, decimals_text, sign_text, fifteen, number_read, significant as significant_spec, has_minus as has_minus_spec, without_sign as without_sign_spec, magnitude_read};
+ghost use Rattle.s3_cells.specs.Inner.Marks.{swapped};
+ghost use Rattle.s3_cells.specs.Inner.Numbers.{digit_character, digit_value, is_digit, is_point, are_digits as are_digits_spec, number_text, decimals_with, sign_text, fifteen, number_read, significant as significant_spec, has_minus as has_minus_spec, without_sign as without_sign_spec, magnitude_read};
 ghost use Rattle.s3_cells.specs.Inner.Refusals.{IsNumberRefusal, IsOfForm};
 
 use crate::fault::CellFault;
+use crate::marks::{DecimalMark, mark};
 use s3_decimal::{Dec, is_negative, with_sign, zoned_write};
 use std::alloc::AllocError;
 
@@ -16,11 +18,16 @@ const MOST_DIGITS: usize = 15;
 /// The first number of more digits than any field has.
 const LIMIT: u64 = 1_000_000_000_000_000;
 
-/// Appends a number in units of its last decimal, with so many decimals.
-pub fn push_number(text: &mut Vec<u8>, value: i64, decimals: u8) -> Result<(), AllocError>
+/// Appends a number in units of its last decimal, with so many decimals and this mark before them.
+pub fn push_number(
+    text: &mut Vec<u8>,
+    value: i64,
+    decimals: u8,
+    decimal: DecimalMark,
+) -> Result<(), AllocError>
     requires few { decimals ≤ 9 }
     requires short { unsigned_abs value < 10 ^ 15 }
-    ensures { OnOk result (text.new.items ≡ text.old.items ++ number_text decimals value) }
+    ensures { OnOk result (text.new.items ≡ text.old.items ++ map (swapped decimal) (number_text decimals value)) }
 {
     push_sign(text, is_negative(value))?;
     let zoned = digits_of(value.unsigned_abs());
@@ -28,7 +35,7 @@ pub fn push_number(text: &mut Vec<u8>, value: i64, decimals: u8) -> Result<(), A
         .as_slice()
         .split_at(MOST_DIGITS - usize::from(decimals));
     push_digits(text, significant(whole))?;
-    push_decimals(text, fraction)?;
+    push_decimals(text, fraction, mark(decimal))?;
     Ok(())
 }
 
@@ -81,14 +88,14 @@ fn push_digits(text: &mut Vec<u8>, zoned: &[u8]) -> Result<(), AllocError>
     Ok(())
 }
 
-/// Appends a point and the decimals behind it, if there are any.
-fn push_decimals(text: &mut Vec<u8>, zoned: &[u8]) -> Result<(), AllocError>
-    ensures { OnOk result (text.new.items ≡ text.old.items ++ decimals_text zoned.now) }
+/// Appends a mark and the decimals behind it, if there are any.
+fn push_decimals(text: &mut Vec<u8>, zoned: &[u8], mark: u8) -> Result<(), AllocError>
+    ensures { OnOk result (text.new.items ≡ text.old.items ++ decimals_with mark zoned.now) }
 {
     if zoned.is_empty() {
         return Ok(());
     }
-    text.push(b'.')?;
+    text.push(mark)?;
     push_digits(text, zoned)
 }
 
@@ -117,7 +124,7 @@ fn has_minus(text: &[u8]) -> bool
 }
 
 /// A text without the sign in front.
-fn without_sign(text: &[u8]) -> &[u8]
+pub fn without_sign(text: &[u8]) -> &[u8]
     ensures { result.now ≡ without_sign_spec text.now }
 {
     match text.split_first() {
@@ -146,7 +153,7 @@ fn read_magnitude(text: &[u8], decimals: u8) -> Result<u64, CellFault>
 
 /// The digits in front of the first point, and those behind it.
 #[tactic(auto, using(crate::proofs::NumberLemmas::whole_before, crate::proofs::NumberLemmas::decimals_behind, crate::proofs::NumberLemmas::no_point, crate::proofs::NumberLemmas::no_decimals))]
-fn parts_of(text: &[u8]) -> (&[u8], &[u8])
+pub fn parts_of(text: &[u8]) -> (&[u8], &[u8])
     ensures whole { result.0.now ≡ before_first is_point text.now }
     ensures fraction { result.1.now ≡ after_first is_point text.now }
 {
@@ -179,7 +186,8 @@ fn are_digits(whole: &[u8], fraction: &[u8]) -> bool
     some && all_digits(whole) && all_digits(fraction)
 }
 
-fn all_digits(text: &[u8]) -> bool
+/// Whether each of these characters is a digit.
+pub fn all_digits(text: &[u8]) -> bool
     ensures { result ≡ list_all is_digit text.now }
 {
     text.iter().all(|byte| b'0' <= *byte && *byte <= b'9')

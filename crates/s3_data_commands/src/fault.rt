@@ -1,8 +1,10 @@
 //! Why a command isn't done.
 ghost use Rattle.std.specs.Prelude.{◌≤◌};
 
+use crate::filled::push_shown_name;
 use s3_host_files::{FileFault, Hindrance, StandardStream};
 use s3_paper_commands::status::{FILE_FAILED, PERSON_NEEDED, REFUSED, WRONG_WORDS};
+use s3_refusals::Shown;
 use std::alloc::{AllocError, AllocFailed, Global};
 use std::io;
 use std::io::{ErrorKind, Write};
@@ -80,7 +82,7 @@ fn push_call(
     error: &io::Error,
     path: &str,
 ) -> Result<(), AllocError> {
-    text.push_str(path)?;
+    push_shown_name(text, path)?;
     text.push_str(match used {
         Use::Reads => " can't be read: ",
         Use::Saves => " can't be saved: ",
@@ -120,21 +122,22 @@ fn save_cure(kind: ErrorKind) -> &'static str {
 
 /// What a failed call on the file of a pack is.
 pub fn of_pack(rt: &HostRuntime, used: Use, fault: &FileFault, path: &str) -> Fault {
+    let shown = Shown(path);
     match fault {
         FileFault::Call(error) => of_call(rt, used, error, path),
         FileFault::InUse => refused_or_memory(format!(in rt.alloc();
-            "the pack {path} is in use by another command; try again when that is done"
+            "the pack {shown} is in use by another command; try again when that is done"
         )),
         FileFault::Exists => refused_or_memory(format!(in rt.alloc();
-            "{path} is there already; give another name, or say --overwrite to write over it"
+            "{shown} is there already; give another name, or say --overwrite to write over it"
         )),
         FileFault::NoPack => refused_or_memory(format!(in rt.alloc();
-            "{path} is there and is no pack, so no pack is saved over it; give another name, or remove that file"
+            "{shown} is there and is no pack, so no pack is saved over it; give another name, or remove that file"
         )),
         FileFault::Hindered(hindrance) => file_or_memory(hindered(rt.alloc(), *hindrance, path)),
         FileFault::Stream(stream) => refused_or_memory(is_stream(rt.alloc(), *stream, path)),
         FileFault::Unsynced(error) => file_or_memory(format!(in rt.alloc();
-            "the pack is saved in {path}, but may not survive a power cut, because its folder can't be brought to the disk: {error}"
+            "the pack is saved in {shown}, but may not survive a power cut, because its folder can't be brought to the disk: {error}"
         )),
     }
 }
@@ -142,14 +145,16 @@ pub fn of_pack(rt: &HostRuntime, used: Use, fault: &FileFault, path: &str) -> Fa
 /// Why a file isn't replaced by a pack.
 fn hindered(alloc: Global, hindrance: Hindrance, path: &str) -> Result<String, AllocError> {
     let words = hindrance.words();
-    format!(in alloc; "{path} {words}")
+    let shown = Shown(path);
+    format!(in alloc; "{shown} {words}")
 }
 
 /// The sentence about a file that is also a standard stream.
 fn is_stream(alloc: Global, stream: StandardStream, path: &str) -> Result<String, AllocError> {
     let stream = stream.name();
+    let shown = Shown(path);
     format!(in alloc;
-        "{path} is also {stream}, so what is printed would get into it; send {stream} to another file"
+        "{shown} is also {stream}, so what is printed would get into it; send {stream} to another file"
     )
 }
 

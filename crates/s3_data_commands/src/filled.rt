@@ -2,6 +2,7 @@
 //! choose among such sentences takes no memory, so a function that chooses one of many can't fail before its end.
 
 use s3_cards::{Name, host_byte, word_len};
+use s3_refusals::Shown;
 use std::alloc::{AllocError, Global};
 
 /// The values that a sentence can name.
@@ -77,14 +78,20 @@ impl<'a> Words<'a> {
     /// Appends the value of a name.
     fn push_value(self, text: &mut String, name: &str) -> Result<(), AllocError> {
         match name {
-            "path" => text.push_str(self.path),
+            "path" => push_shown_name(text, self.path),
             "area" => push_number(text, u64::from(self.area)),
-            "label" => text.push_str(self.label),
+            "label" => push_shown_name(text, self.label),
             "number" => push_number(text, self.number),
             "field" => push_name(text, self.field),
             _ => push_name(text, self.other),
         }
     }
+}
+
+/// Appends a name of a file as a terminal shows it: a control character as `\x` and its code.
+pub fn push_shown_name(text: &mut String, name: &str) -> Result<(), AllocError> {
+    let shown = Shown(name);
+    write!(text, "{shown}")
 }
 
 fn push_number(text: &mut String, number: u64) -> Result<(), AllocError> {

@@ -2,6 +2,7 @@
 ghost use Rattle.std.specs.Prelude.{◌≤◌, length, IfOk, IfSome};
 
 use crate::fault::{Fault, Use, of_call};
+use crate::filled::Words;
 use crate::pack_words::{label_of, refused, wrong_words};
 use crate::sentences::layout_sentence;
 use clap::ArgMatches;
@@ -44,8 +45,9 @@ pub fn layout_of(
     let deck = deck_of(rt, &text)?;
     match source_of(rt, &deck)? {
         Some(source) => layout_in(rt, path, &text, &deck, source, choice),
-        None => Err(refused(format!(in rt.alloc();
-            "the deck {path} has no source: no job of it compiles one, and it doesn't begin with the cards of one; give the deck of a program, or the cards of its source alone"
+        None => Err(refused(Words::of_path(path).fill(
+            rt.alloc(),
+            "the deck {path} has no source: no job of it compiles one, and it doesn't begin with the cards of one; give the deck of a program, or the cards of its source alone",
         ))),
     }
 }
@@ -106,8 +108,9 @@ fn choice_of(rt: &HostRuntime, matches: &ArgMatches<'_>) -> Result<Choice, Fault
 /// The name of a file of the source that a word gives.
 fn source_file_of(rt: &HostRuntime, text: &str) -> Result<Name, Fault> {
     match label_of(rt, text) {
-        Err(Fault::Usage(_)) => Err(Fault::Usage(format!(in rt.alloc();
-            "{text} is no name of a file; the F sheet of the source has the names, in columns 7 to 14"
+        Err(Fault::Usage(_)) => Err(Fault::Usage(Words::of_path(text).fill(
+            rt.alloc(),
+            "{path} is no name of a file; the F sheet of the source has the names, in columns 7 to 14",
         )?)),
         other => other,
     }
@@ -119,6 +122,12 @@ fn text_at<'a>(rt: &HostRuntime, path: &'a str) -> Result<DeckText<'a>, Fault> {
         Ok(bytes) => bytes,
         Err(error) => return Err(of_call(rt, Use::Reads, &error, path)),
     };
+    if bytes.starts_with(b"S3PACK01") || bytes.starts_with(b"S3PACK02") {
+        return Err(refused(Words::of_path(path).fill(
+            rt.alloc(),
+            "{path} is a pack; --layout takes a deck with the RPG source of a program that uses the file",
+        )));
+    }
     let mut text = DeckText::new(rt.alloc());
     if is_plain_text(path) {
         add_punched(&mut text, path, sound_punched(rt, path, &bytes)?)?;
@@ -135,8 +144,9 @@ fn sound_punched(rt: &HostRuntime, path: &str, text: &[u8]) -> Result<Punched, F
         return Ok(punched);
     }
     tell_punched(rt, path, &punched);
-    Err(refused(format!(in rt.alloc();
-        "the text {path} can't be punched; mend what is told above"
+    Err(refused(Words::of_path(path).fill(
+        rt.alloc(),
+        "the text {path} can't be punched; mend what is told above",
     )))
 }
 

@@ -7,6 +7,7 @@
 //! standard input and standard output give and take isn't claimed: they are used as the toolchain offers them.
 #![tactic(auto)]
 
+mod cells;
 pub mod check_pack;
 pub mod copy;
 pub mod delete;

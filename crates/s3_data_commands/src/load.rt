@@ -1,8 +1,9 @@
 //! `bureau load`: a table in CSV from standard input, into a file of a pack.
 ghost use Rattle.std.specs.Prelude.{◌≤◌};
 
+use crate::cells::{Reading, with_cells};
 use crate::fault::Fault;
-use crate::filled::Words;
+use crate::filled::{Words, push_shown_name};
 use crate::inputs::{delimiter_of, layout_of};
 use crate::load_sentences::{heading_sentence, load_sentence, value_sentence};
 use crate::pack_words::{
@@ -10,7 +11,8 @@ use crate::pack_words::{
     saved, tell_done, wrong_words,
 };
 use crate::words::{
-    DELIMITER, LABEL, LAYOUT, LAYOUT_FILE, LAYOUT_TYPE, LEVEL, OVERWRITE, PACK, SAVE,
+    DATE_FIELDS, DECIMAL, DELIMITER, LABEL, LAYOUT, LAYOUT_FILE, LAYOUT_TYPE, LEVEL, OVERWRITE,
+    PACK, SAFE_CELLS, SAVE,
 };
 use clap::ArgMatches;
 use s3_cards::ebcdic::DIGIT_0;
@@ -21,6 +23,7 @@ use s3_listing::file_size;
 use s3_load::{HeadingFault, LoadFault, Order, Room, ValueFault};
 use s3_paper_commands::status::DONE;
 use s3_paper_commands::words::{CommandWords, Takes, Word, value_of};
+use s3_refusals::Shown;
 use s3_unload::{Area, find_file};
 use std::alloc::{AllocError, Global};
 use std::io::Write;
@@ -74,6 +77,19 @@ pub const LOAD: CommandWords = CommandWords {
             help: "Fields that the table doesn't have are blank or 0",
         },
         DELIMITER,
+        SAFE_CELLS,
+        DECIMAL,
+        Word {
+            name: "thousands",
+            takes: Takes::Value("C"),
+            help: "The mark that the table may have between thousands: . or , or a blank or an apostrophe",
+        },
+        Word {
+            name: "capitals",
+            takes: Takes::Nothing,
+            help: "Takes small letters in texts as capitals",
+        },
+        DATE_FIELDS,
         OVERWRITE,
     ],
 };
@@ -105,6 +121,8 @@ struct LoadWords<'a> {
     appends: bool,
     fills: bool,
     delimiter: u8,
+    /// Whether a comma is before the decimals.
+    has_comma: bool,
 }
 
 impl<'a> LoadWords<'a> {
@@ -127,13 +145,19 @@ impl<'a> LoadWords<'a> {
             appends: matches.get_flag("append"),
             fills: matches.get_flag("fill"),
             delimiter: delimiter_of(rt, matches)?,
+            has_comma: matches.get_str("decimal") == Some(","),
         })
     }
 }
 
 fn load_table(rt: &HostRuntime, matches: &ArgMatches<'_>) -> Result<(), Fault> {
     let words = LoadWords::read(rt, matches)?;
+    let reading = Reading {
+        capitals: matches.get_flag("capitals"),
+        thousands: matches.get_str("thousands"),
+    };
     let layout = layout_of(rt, matches, words.source)?;
+    let layout = with_cells(rt, matches, words.source, layout, reading)?;
     let (pack, locked) = pack_to_change(rt, matches, words.path, words.save)?;
     keep_input(rt, words.save, words.source)?;
     let replaced = replaced_file(rt.alloc(), &words, &pack);
@@ -161,9 +185,20 @@ fn loaded(
         fills: words.fills,
         delimiter: words.delimiter,
     };
+    tell_waiting(rt);
     match s3_load::load(rt.alloc(), pack, &order, rt.stdin()) {
         Ok(loaded) => Ok(loaded),
         Err(fault) => Err(fault_of(rt, words, &fault)),
+    }
+}
+
+/// Tells what is waited for, where standard input is a terminal.
+fn tell_waiting(rt: &HostRuntime) {
+    if rt.stdin().is_terminal() {
+        let _ = writeln!(
+            rt.stderr(),
+            "load waits for the table in CSV on standard input: type it, and Control-D at its end"
+        );
     }
 }
 
@@ -243,7 +278,7 @@ fn push_replaced(
     push_grouped(text, count)?;
     let level = number_of(words.level);
     write!(text, " in level {level} of ")?;
-    text.push_str(words.save)
+    push_shown_name(text, words.save)
 }
 
 /// Appends a number with a comma before its last three digits, if it has more.
@@ -278,7 +313,8 @@ fn push_codes(text: &mut String, tens: u8, ones: u8) -> Result<(), AllocError> {
 fn loaded_sentence(alloc: Global, words: &LoadWords<'_>, count: u32) -> Result<String, AllocError> {
     let level = number_of(words.level);
     let records = if count == 1 { "record" } else { "records" };
-    let LoadWords { label, save, .. } = *words;
+    let label = words.label;
+    let save = Shown(words.save);
     format!(in alloc; "{label} of level {level} of {save} is loaded: it has {count} {records} now")
 }
 
@@ -372,7 +408,7 @@ fn test_words(rt: &HostRuntime, matches: &ArgMatches<'_>) -> Result<(), Fault> {
 
 /// What a refusal is to the command; what is wrong with the heading or the rows is told before it, a line each.
 fn fault_of(rt: &HostRuntime, words: &LoadWords<'_>, fault: &LoadFault) -> Fault {
-    if tell_all(rt, fault).is_err() {
+    if tell_all(rt, words, fault).is_err() {
         return Fault::NoMemory;
     }
     if let LoadFault::Label(LabelFault::NoSpace) = fault {
@@ -417,10 +453,10 @@ fn no_room(rt: &HostRuntime, words: &LoadWords<'_>) -> Fault {
 }
 
 /// Tells what is wrong with the heading or the rows, a line each, up to 20 of them, and how many others there are.
-fn tell_all(rt: &HostRuntime, fault: &LoadFault) -> Result<(), AllocError> {
+fn tell_all(rt: &HostRuntime, words: &LoadWords<'_>, fault: &LoadFault) -> Result<(), AllocError> {
     match fault {
         LoadFault::Heading(faults) => tell_heading(rt, faults),
-        LoadFault::Values(faults, count) => tell_values(rt, faults, *count),
+        LoadFault::Values(faults, count) => tell_values(rt, words, faults, *count),
         _ => Ok(()),
     }
 }
@@ -434,9 +470,14 @@ fn tell_heading(rt: &HostRuntime, faults: &[HeadingFault]) -> Result<(), AllocEr
     Ok(())
 }
 
-fn tell_values(rt: &HostRuntime, faults: &[ValueFault], count: u64) -> Result<(), AllocError> {
+fn tell_values(
+    rt: &HostRuntime,
+    words: &LoadWords<'_>,
+    faults: &[ValueFault],
+    count: u64,
+) -> Result<(), AllocError> {
     for place in 0..faults.len().min(MOST_TOLD) {
-        let sentence = value_sentence(rt.alloc(), &faults[place])?;
+        let sentence = value_sentence(rt.alloc(), &faults[place], words.has_comma)?;
         let _ = writeln!(rt.stderr(), "{sentence}");
     }
     tell_others(rt, count);

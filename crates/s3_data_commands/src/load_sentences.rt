@@ -167,11 +167,15 @@ fn unknown_cure(name: &[u8]) -> &'static str {
     "leave the column out, or name a field as the I sheet does"
 }
 
-/// What is wrong with a row.
-pub fn value_sentence(alloc: Global, fault: &ValueFault) -> Result<String, AllocError> {
+/// What is wrong with a row of a table whose numbers have a comma before their decimals, or a point.
+pub fn value_sentence(
+    alloc: Global,
+    fault: &ValueFault,
+    has_comma: bool,
+) -> Result<String, AllocError> {
     let mut text = String::new(alloc);
     push_place(&mut text, fault.line, fault.field)?;
-    push_reason(&mut text, &fault.reason)?;
+    push_reason(&mut text, &fault.reason, has_comma)?;
     Ok(text)
 }
 
@@ -184,11 +188,11 @@ fn push_place(text: &mut String, line: u64, field: Option<Name>) -> Result<(), A
     text.push_str(": ")
 }
 
-fn push_reason(text: &mut String, reason: &Reason) -> Result<(), AllocError> {
+fn push_reason(text: &mut String, reason: &Reason, has_comma: bool) -> Result<(), AllocError> {
     match reason {
         Reason::Cell(fault, cell) => {
             push_quoted(text, cell)?;
-            text.push_str(words_of(*fault))
+            text.push_str(words_of(*fault, has_comma))
         }
         Reason::OverLines(cell) => {
             text.push_str("the cell ")?;
@@ -218,8 +222,10 @@ fn push_reason(text: &mut String, reason: &Reason) -> Result<(), AllocError> {
 }
 
 /// What is wrong with a cell, and what mends it.
-fn words_of(fault: CellFault) -> &'static str {
+fn words_of(fault: CellFault, has_comma: bool) -> &'static str {
     match fault {
+        CellFault::NoNumber if has_comma =>
+            " is no number; write digits, with a minus in front and a comma where they are needed",
         CellFault::NoNumber =>
             " is no number; write digits, with a minus in front and a point where they are needed",
         CellFault::TooManyDecimals => " has more decimals than the field; round it",
@@ -228,6 +234,9 @@ fn words_of(fault: CellFault) -> &'static str {
         CellFault::TooLong => " is longer than the field; shorten it",
         CellFault::NoCharacter =>
             " has a character that no card can have; use capital letters, digits and the signs of cards",
+        CellFault::NoDate =>
+            " is no date of the years 1900 to 1999; write it as YYYY-MM-DD, or leave the cell empty",
+        CellFault::NoMemory => "",
     }
 }
 

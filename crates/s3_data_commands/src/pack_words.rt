@@ -9,6 +9,7 @@ use s3_host_files::{Limit, LockedPack, Target, read_pack, read_to_save, save_new
 use s3_labels::{LabelFault, MountFault};
 use s3_listing::{FreeRoom, file_size, free_room};
 use s3_pack_care::CareFault;
+use s3_refusals::Shown;
 use std::alloc::{AllocError, Global};
 use std::fs;
 use std::io::Write;
@@ -165,8 +166,10 @@ pub fn keep_input(rt: &HostRuntime, save: &str, input: &str) -> Result<(), Fault
     if !is_same_file(rt, save, input) {
         return Ok(());
     }
+    let shown = Shown(save);
+    let read = Shown(input);
     Err(refused(format!(in rt.alloc();
-        "--save {save} names the file that is read as {input}, and what stands there would be lost; give another name"
+        "--save {shown} names the file that is read as {read}, and what stands there would be lost; give another name"
     )))
 }
 

@@ -131,6 +131,13 @@ fn push_reason(text: &mut String, fault: ShowFault) -> Result<(), AllocError> {
                 "has a byte that is no character at position {position}"
             )
         }
+        ShowFault::NoDate(date) => {
+            text.push_str("has \"")?;
+            for byte in date {
+                text.push(char::from(byte))?;
+            }
+            text.push_str("\", which is no date MMDDYY")
+        }
         _ => text.push_str("is no number"),
     }
 }

@@ -1,11 +1,15 @@
 //! `bureau unload`: the records of a file, for other programs.
 ghost use Rattle.std.specs.Prelude.{◌≤◌};
 
+use crate::cells::{Reading, with_cells};
 use crate::fault::Fault;
 use crate::inputs::{delimiter_of, layout_of};
 use crate::pack_words::{area_number, label_of, pack_of, wrong_words};
 use crate::sentences::unload_sentence;
-use crate::words::{AREA, DELIMITER, LABEL, LAYOUT, LAYOUT_FILE, LAYOUT_TYPE, PACK};
+use crate::words::{
+    AREA, DATE_FIELDS, DECIMAL, DELIMITER, LABEL, LAYOUT, LAYOUT_FILE, LAYOUT_TYPE, PACK,
+    SAFE_CELLS,
+};
 use clap::ArgMatches;
 use s3_cards::{LevelId, Name};
 use s3_host_files::StandardOutput;
@@ -31,6 +35,9 @@ pub const UNLOAD: CommandWords = CommandWords {
             help: "csv, text or hex; csv with a layout, else text, if it isn't said",
         },
         DELIMITER,
+        SAFE_CELLS,
+        DECIMAL,
+        DATE_FIELDS,
     ],
 };
 
@@ -98,7 +105,17 @@ fn unload_table(
     layout: &str,
 ) -> Result<Result<(), UnloadFault>, Fault> {
     let delimiter = delimiter_of(rt, matches)?;
-    let layout = layout_of(rt, matches, layout)?;
+    let reading = Reading {
+        capitals: false,
+        thousands: None,
+    };
+    let layout = with_cells(
+        rt,
+        matches,
+        layout,
+        layout_of(rt, matches, layout)?,
+        reading,
+    )?;
     let pack = pack_of(rt, path)?;
     Ok(s3_unload::unload(
         rt.alloc(),
@@ -145,6 +162,15 @@ fn test_words(
         return Err(wrong_words(
             rt.alloc(),
             "--file and --type choose in a layout; name a deck with the source by --layout, or leave them out",
+        ));
+    }
+    let is_styled = matches.get_flag("safe-cells")
+        || matches.get_str("decimal").is_some()
+        || matches.get_str("date-fields").is_some();
+    if form.is_some() && is_styled {
+        return Err(wrong_words(
+            rt.alloc(),
+            "--safe-cells, --decimal and --date-fields are about the cells of a table, and text and hex have none; leave them out, or give a layout and --as csv",
         ));
     }
     if form.is_some() && matches.get_str("delimiter").is_some() {

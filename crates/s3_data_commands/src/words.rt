@@ -71,3 +71,24 @@ pub const DELIMITER: Word = Word {
     takes: Takes::Value("C"),
     help: "The character between the cells, a comma if it isn't said",
 };
+
+/// An apostrophe before texts that begin as formulas do.
+pub const SAFE_CELLS: Word = Word {
+    name: "safe-cells",
+    takes: Takes::Nothing,
+    help: "A text that begins with = + - or @ has an apostrophe before it in the table",
+};
+
+/// What is before the decimals of a number.
+pub const DECIMAL: Word = Word {
+    name: "decimal",
+    takes: Takes::Value("C"),
+    help: "The mark before the decimals in the table, . or , and a point by default",
+};
+
+/// The fields that are dates.
+pub const DATE_FIELDS: Word = Word {
+    name: "date-fields",
+    takes: Takes::Value("FIELD:YYYY-MM-DD,.."),
+    help: "Fields of six digits MMDDYY that are dates of 1900 to 1999 in the table",
+};

@@ -5,7 +5,7 @@ ghost use Rattle.s3_cells.specs.Inner.Fields.{LiesIn};
 ghost use Rattle.s3_layout.specs.Inner.Columns.{AreFieldsOf, column_of, entry_column, kind_of as kind_of_spec};
 
 use crate::fault::LayoutFault;
-use s3_cells::{Field, FieldKind};
+use s3_cells::{Field, FieldKind, NumberCells, TextCells};
 use s3_lines::sheet::{FieldForm, FieldLine};
 use std::alloc::Global;
 
@@ -71,9 +71,9 @@ fn kind_of(form: FieldForm) -> Option<FieldKind>
     ensures { result ≡ kind_of_spec form }
 {
     match form {
-        FieldForm::Alphanumeric => Some(FieldKind::Text),
-        FieldForm::Zoned(decimals) => Some(FieldKind::Zoned(decimals)),
-        FieldForm::Packed(decimals) => Some(FieldKind::Packed(decimals)),
+        FieldForm::Alphanumeric => Some(FieldKind::Text(TextCells::PLAIN)),
+        FieldForm::Zoned(decimals) => Some(FieldKind::Zoned(decimals, NumberCells::PLAIN)),
+        FieldForm::Packed(decimals) => Some(FieldKind::Packed(decimals, NumberCells::PLAIN)),
         FieldForm::PackedText => None,
     }
 }

@@ -9,18 +9,21 @@ use Rattle.std.proofs.lemmas.Bool.{and_parts, cases_Bool, leb-true, ltb-true}
 use Rattle.std.proofs.lemmas.List.{get_or-drop, get_or-take}
 use Rattle.std.proofs.lemmas.List.Folds.{Any-from_list_any}
 use Rattle.s3_cards.specs.Codes.{code_page, ebcdic}
-use Rattle.s3_cards.specs.declared.ebcdic.TheConstants.{BLANK}
+use Rattle.s3_cards.specs.declared.ebcdic.TheConstants.{BLANK, DIGIT_0}
 use Rattle.s3_decimal.specs.Records.{low_half, packed_bytes, zone_at, zoned_bytes}
 use Rattle.s3_store.specs.Bytes.{part}
 use Rattle.s3_store.specs.Inner.Bytes.{with_part}
 use Rattle.s3_keyed.specs.KeyOrder.{number_of}
-use Rattle.s3_cells.specs.Inner.Fields.{field_bytes}
-use Rattle.s3_cells.specs.Inner.Values.{Value, bytes_of, Number, Characters}
+use Rattle.s3_cells.specs.Inner.Fields.{field_bytes, zeroed}
+use Rattle.s3_cells.specs.Inner.Values.{Value, bytes_of, Number, Characters, zeroed_bytes}
 use Rattle.s3_cells.specs.declared.field.Field.{Field}
 use Rattle.s3_cells.specs.declared.kind.FieldKind.{FieldKind}
-use Rattle.s3_cells.specs.declared.kind.FieldKind.TheVariants.{Text as TextKind, Zoned, Packed}
+use Rattle.s3_cells.specs.declared.kind.FieldKind.TheVariants.{Text as TextKind, Zoned, Packed, Date}
+use Rattle.s3_cells.specs.Inner.Dates.{date_bytes, none_of}
+use Rattle.s3_cells.specs.declared.dates.DateField.{DateField}
+use Rattle.s3_cells.specs.declared.dates.DateField.TheVariants.{Text as TextDate, Number as NumberDate}
 use Rattle.s3_load.specs.Inner.Columns.{has_byte, is_inside, is_number}
-use Rattle.s3_load.specs.Inner.Records.{IsRecordOf, empty_record, with_zero, with_zeros}
+use Rattle.s3_load.specs.Inner.Records.{IsRecordOf, empty_record, with_zeros}
 
 unfoldable pub AreBytes : List ℕ → Type 0
 AreBytes [] = Unit {0}
@@ -108,27 +111,42 @@ unfolding AreBytes
 packed negative zero n = tt
 packed negative (suc place) n = let half = half_below negative place n in (omega (arith, half), packed negative place n)
 
+none_below : (form : DateField) → none_of form < 256
+none_below TextDate = omega arith
+none_below NumberDate = omega arith
+
+dated : (form : DateField) (width : ℕ) (text : List ℕ) → AreBytes (date_bytes form width text)
+dated form width [] = repeated width (none_of form) (none_below form)
+dated form width (first ∷ rest) = coded (first ∷ rest)
+
 value_bytes : (kind : FieldKind) (width : ℕ) (value : Value) → AreBytes (bytes_of kind width value)
 unfolding AreBytes
-value_bytes TextKind width (Characters text) = joined (ebcdic text) (replicate (width - length text) BLANK) (coded text) (repeated (width - length text) BLANK (omega arith))
-value_bytes (Zoned decimals) width (Number value) = zoned _ width _
-value_bytes (Packed decimals) width (Number value) = packed _ width _
-value_bytes (Zoned decimals) width (Characters text) = tt
-value_bytes (Packed decimals) width (Characters text) = tt
-value_bytes TextKind width (Number value) = tt
+value_bytes (TextKind cells) width (Characters text) = joined (ebcdic text) (replicate (width - length text) BLANK) (coded text) (repeated (width - length text) BLANK (omega arith))
+value_bytes (Zoned decimals cells) width (Number value) = zoned _ width _
+value_bytes (Packed decimals cells) width (Number value) = packed _ width _
+value_bytes (Zoned decimals cells) width (Characters text) = tt
+value_bytes (Packed decimals cells) width (Characters text) = tt
+value_bytes (TextKind cells) width (Number value) = tt
+value_bytes (Date form) width (Characters text) = dated form width text
+value_bytes (Date form) width (Number value) = tt
 
 -- ---- records
-zero_bytes : (bytes : List ℕ) (field : Field) → AreBytes bytes → AreBytes (with_zero bytes field)
+zeroed_kind : (kind : FieldKind) (bytes : List ℕ) → AreBytes bytes → AreBytes (zeroed_bytes kind bytes)
+zeroed_kind (TextKind cells) bytes h = h
+zeroed_kind (Zoned decimals cells) bytes h = value_bytes (Zoned decimals cells) (length bytes) (Number (pos 0))
+zeroed_kind (Packed decimals cells) bytes h = value_bytes (Packed decimals cells) (length bytes) (Number (pos 0))
+zeroed_kind (Date TextDate) bytes h = h
+zeroed_kind (Date NumberDate) bytes h = repeated (length bytes) DIGIT_0 (omega arith)
+
+zero_bytes : (bytes : List ℕ) (field : Field) → AreBytes bytes → AreBytes (zeroed bytes field)
 zero_bytes bytes field h =
-    let piece = bytes_of field.kind field.width (Number (pos 0)) in
-    elim (is_number field.kind) as (λ b. AreBytes (cond b (with_part bytes field.start piece) bytes)) [
-      | true ↦ joined (take field.start bytes ++ piece) (drop (field.start + length piece) bytes) (joined (take field.start bytes) piece (bytes_taken field.start bytes h) (value_bytes field.kind field.width (Number (pos 0)))) (bytes_dropped (field.start + length piece) bytes h)
-      | false ↦ h
-    ]
+    let piece = zeroed_bytes field.kind (field_bytes field bytes) in
+    let good : AreBytes piece = zeroed_kind field.kind (field_bytes field bytes) (bytes_taken field.width (drop field.start bytes) (bytes_dropped field.start bytes h)) in
+    joined (take field.start bytes ++ piece) (drop (field.start + length piece) bytes) (joined (take field.start bytes) piece (bytes_taken field.start bytes h) good) (bytes_dropped (field.start + length piece) bytes h)
 
 zeros_bytes : (bytes : List ℕ) (fields : List Field) → AreBytes bytes → AreBytes (with_zeros bytes fields)
 zeros_bytes bytes [] h = h
-zeros_bytes bytes (x ∷ xs) h = zeros_bytes (with_zero bytes x) xs (zero_bytes bytes x h)
+zeros_bytes bytes (x ∷ xs) h = zeros_bytes (zeroed bytes x) xs (zero_bytes bytes x h)
 
 byte_in : (bytes : List ℕ) (start width place : ℕ) → start ≤ place → place < start + width → get_or (part bytes start width) (place - start) 0 ≡ get_or bytes place 0
 byte_in bytes start width place low high =

@@ -15,15 +15,15 @@ use Rattle.s3_store.specs.Bytes.{part}
 use Rattle.s3_store.specs.Inner.Bytes.{SameOutside, with_part}
 use Rattle.s3_store.proofs.SectorParts.{length-with_part, outside-with_part, part-with_part}
 use Rattle.s3_files.proofs.PartLemmas.{part-after, part-before}
-use Rattle.s3_cells.specs.Inner.Fields.{IsNotTaken, LiesIn, Takes, field_bytes}
+use Rattle.s3_cells.specs.Inner.Fields.{LiesIn, Takes, field_bytes, zeroed}
 use Rattle.s3_cells.specs.Inner.Numbers.{magnitude_read, number_read}
-use Rattle.s3_cells.specs.Inner.Values.{GetsValue, Number, bytes_of, is_held, value_read}
+use Rattle.s3_cells.specs.Inner.Values.{GetsValue}
 use Rattle.s3_cells.specs.declared.fault.CellFault.{CellFault}
 use Rattle.s3_cells.specs.declared.field.Field.{Field}
 use Rattle.s3_cells.specs.declared.kind.FieldKind.{FieldKind}
 use Rattle.s3_cells.specs.declared.kind.FieldKind.TheVariants.{Text as TextKind, Zoned, Packed}
 use Rattle.s3_load.specs.Inner.Columns.{AreNamed, LieApart, has_byte, is_covered, is_inside, is_number, left_out, overlap}
-use Rattle.s3_load.specs.Inner.Records.{HasTaken, IsRecordOf, empty_record, with_zero, with_zeros}
+use Rattle.s3_load.specs.Inner.Records.{HasTaken, IsRecordOf, empty_record, with_zeros}
 
 pub field_lies : (fields : List Field) (n i : ℕ) (f : Field) → All (LiesIn n) fields → i < length fields → f ≡ get_or fields i f → LiesIn n f
 field_lies fields n i f all h is = subst (LiesIn n) (sym is) (All-get_or (LiesIn n) fields i f h all)
@@ -148,41 +148,5 @@ is_record n columns filled cells start bytes is long counted taken =
     }
 
 -- ---- numbers that are filled
-zeros_are_zero : (n : ℕ) → number_of (replicate n 0) ≡ 0
-zeros_are_zero zero = refl
-zeros_are_zero (suc n) = ap (λ k. k + number_of (replicate n 0)) (zero-mul (10 ^ length (replicate n 0))) ∙ zero-add (number_of (replicate n 0)) ∙ zeros_are_zero n
-
-zero_read : (decimals : ℕ) → number_read decimals (48 ∷ []) ≡ Some (pos 0)
-unfolding magnitude_read
-zero_read decimals =
-    let few : nat_le 0 decimals ≡ true = le-leb 0 decimals (omega arith) in
-    rw few (ap (λ n. Some (pos n)) (zeros_are_zero (suc (decimals - 0))))
-
-zero_value : (kind : FieldKind) → is_number kind ≡ true → value_read kind (48 ∷ []) ≡ Some (Number (pos 0))
-zero_value TextKind h = absurd cc
-zero_value (Zoned d) h = ap (option_map Number) (zero_read d)
-zero_value (Packed d) h = ap (option_map Number) (zero_read d)
-
-zero_held : (kind : FieldKind) (width : ℕ) → is_number kind ≡ true → is_held kind width (Number (pos 0)) ≡ true
-zero_held TextKind width h = absurd cc
-zero_held (Zoned d) width h = lt-ltb 0 (10 ^ width) (ten_pos width)
-zero_held (Packed d) width h = lt-ltb 0 (10 ^ (2 * width - 1)) (ten_pos (2 * width - 1))
-
-got_zero : (f : Field) (old new : List ℕ) → is_number f.kind ≡ true → Takes f (48 ∷ []) old new → new ≡ with_zero old f
-got_zero f old new number takes =
-    let value : Some takes.got.value ≡ Some (Number (pos 0)) = sym takes.got.said ∙ zero_value f.kind number in
-    let is : takes.got.value ≡ Number (pos 0) = cc in
-    let bytes : takes.bytes ≡ bytes_of f.kind f.width (Number (pos 0)) = takes.got.written ∙ ap (bytes_of f.kind f.width) is in
-    takes.new_record ∙ ap (with_part old f.start) bytes ∙ sym (ap (λ b. cond b (with_part old f.start (bytes_of f.kind f.width (Number (pos 0)))) old) number)
-
--- a number of any form takes a 0
-pub zero_given : (f : Field) (old new : List ℕ) (r : Result (Unit {0}) CellFault) → is_number f.kind ≡ true → OnOk r (Takes f (48 ∷ []) old new) → OnErr r (IsNotTaken f (48 ∷ [])) → new ≡ with_zero old f
-zero_given f old new (Ok done) number taken refused = got_zero f old new number taken
-zero_given f old new (Err fault) number taken refused =
-    absurd (cc (refused (Number (pos 0)) (zero_value f.kind number), zero_held f.kind f.width number))
-
-pub text_stays : (f : Field) (old : List ℕ) → is_number f.kind ≡ false → with_zero old f ≡ old
-text_stays f old h = ap (λ b. cond b (with_part old f.start (bytes_of f.kind f.width (Number (pos 0)))) old) h
-
-pub one_more_zero : (bytes : List ℕ) (fields : List Field) (i : ℕ) (f : Field) → i < length fields → f ≡ get_or fields i f → with_zero (with_zeros bytes (take i fields)) f ≡ with_zeros bytes (take (i + 1) fields)
-one_more_zero bytes fields i f h is = sym (fold_more with_zero bytes fields i f h ∙ ap (with_zero (with_zeros bytes (take i fields))) (sym is))
+pub one_more_zero : (bytes : List ℕ) (fields : List Field) (i : ℕ) (f : Field) → i < length fields → f ≡ get_or fields i f → zeroed (with_zeros bytes (take i fields)) f ≡ with_zeros bytes (take (i + 1) fields)
+one_more_zero bytes fields i f h is = sym (fold_more zeroed bytes fields i f h ∙ ap (zeroed (with_zeros bytes (take i fields))) (sym is))

@@ -11,8 +11,9 @@ use Rattle.s3_cells.specs.Inner.Fields.{LiesIn, cell_of, field_bytes, is_shown}
 use Rattle.s3_cells.specs.Inner.Values.{GetsValue, IsAsWritten, IsTidy, Value, bytes_of, cell_text, is_kind_of, is_shown_in, value_in, value_read}
 use Rattle.s3_cells.specs.declared.field.Field.{Field}
 use Rattle.s3_cells.specs.declared.kind.FieldKind.{FieldKind}
-use Rattle.s3_cells.specs.declared.kind.FieldKind.TheVariants.{Text as TextKind, Zoned, Packed}
+use Rattle.s3_cells.specs.declared.kind.FieldKind.TheVariants.{Text as TextKind, Zoned, Packed, Date}
 use Rattle.s3_cells.proofs.CellLaws.{cell_back, read_tidy, shown_again, shown_held, taken_back, taken_shown}
+use Rattle.s3_cells.proofs.DateLaws.{date_in_tidy}
 use Rattle.s3_cells.proofs.TextLemmas.{trimmed_twice}
 use Rattle.s3_unload.specs.Inner.Tables.{are_shown, row_of}
 use Rattle.s3_load.specs.Inner.Columns.{has_byte, is_inside}
@@ -40,10 +41,11 @@ loaded_values n columns filled cells bytes lie is k d low =
     value_back (get_or columns k d).kind (get_or columns k d).width (get_or cells k []) (field_bytes (get_or columns k d) bytes) (get_or columns k d).suits (is.said k d low)
 
 -- ---- unloaded, then loaded
-tidy_in : (kind : FieldKind) (bytes : List ℕ) → IsTidy (value_in kind bytes)
-tidy_in TextKind bytes = trimmed_twice _
-tidy_in (Zoned d) bytes = tt
-tidy_in (Packed d) bytes = tt
+tidy_in : (kind : FieldKind) (bytes : List ℕ) → is_shown_in kind bytes ≡ true → IsTidy (value_in kind bytes)
+tidy_in (TextKind cells) bytes h = trimmed_twice _
+tidy_in (Zoned d cells) bytes h = tt
+tidy_in (Packed d cells) bytes h = tt
+tidy_in (Date form) bytes h = date_in_tidy form bytes h
 
 some_same : (a b : Value) → Some a ≡ Some b → a ≡ b
 some_same a b h = cc
@@ -51,7 +53,7 @@ some_same a b h = cc
 bytes_back : (kind : FieldKind) (width : ℕ) (old new : List ℕ) → length old ≡ width → is_kind_of kind width ≡ true → is_shown_in kind old ≡ true → IsAsWritten kind old → GetsValue kind (cell_text kind (value_in kind old)) width new → new ≡ old
 bytes_back kind width old new long k shown written got =
     let kl : is_kind_of kind (length old) ≡ true = ap (is_kind_of kind) long ∙ k in
-    let cell : value_read kind (cell_text kind (value_in kind old)) ≡ Some (value_in kind old) = cell_back kind (length old) (value_in kind old) kl (shown_held kind old kl shown) (tidy_in kind old) in
+    let cell : value_read kind (cell_text kind (value_in kind old)) ≡ Some (value_in kind old) = cell_back kind (length old) (value_in kind old) kl (shown_held kind old kl shown) (tidy_in kind old shown) in
     let same : got.value ≡ value_in kind old = some_same got.value (value_in kind old) (sym got.said ∙ cell) in
     got.written ∙ ap (bytes_of kind width) same ∙ ap (λ w. bytes_of kind w (value_in kind old)) (sym long) ∙ shown_again kind old kl shown written
 

@@ -9,7 +9,7 @@ ghost use Rattle.s3_load.specs.Inner.Columns.{AddsColumn, AreNamed, IsHeading, I
 use crate::fault::{HeadingFault, LoadFault};
 use csv::ByteRecord;
 use s3_cards::{Name, host_byte, word_len};
-use s3_cells::{Field, FieldKind, trimmed};
+use s3_cells::{DateField, Field, FieldKind, trimmed};
 use std::alloc::{AllocError, Global};
 
 /// The field of each column, and the fields that no column has and that get a blank or 0.
@@ -305,13 +305,13 @@ fn tell_under(
     }
 }
 
-/// Whether a field of this form is a number.
-pub fn is_number(kind: FieldKind) -> bool
+/// Whether a field of this form is a number, or a date that is one.
+fn is_number(kind: FieldKind) -> bool
     ensures { result ≡ is_number_spec kind }
 {
     match kind {
-        FieldKind::Text => false,
-        FieldKind::Zoned(_) | FieldKind::Packed(_) => true,
+        FieldKind::Text(_) | FieldKind::Date(DateField::Text) => false,
+        FieldKind::Zoned(..) | FieldKind::Packed(..) | FieldKind::Date(DateField::Number) => true,
     }
 }
 

@@ -4,15 +4,15 @@ ghost use Rattle.std.specs.List.{All};
 ghost use Rattle.csv.specs.Records.{fields_of};
 ghost use Rattle.s3_cells.specs.Inner.Fields.{LiesIn, Takes};
 ghost use Rattle.s3_load.specs.Inner.Columns.{LieApart};
-ghost use Rattle.s3_load.specs.Inner.Records.{HasTaken, IsRecordOf, with_zero, with_zeros};
+ghost use Rattle.s3_load.specs.Inner.Records.{HasTaken, IsRecordOf, with_zeros};
 
-use crate::columns::{Columns, cell_at, is_number};
+use crate::columns::{Columns, cell_at};
 use crate::fault::{Reason, ValueFault};
 use crate::order::Order;
 use crate::quotes::is_line_end;
 use csv::ByteRecord;
 use s3_cards::ebcdic::BLANK;
-use s3_cells::Field;
+use s3_cells::{CellFault, Field};
 use s3_lines::sheet::KeyField;
 use std::alloc::{AllocError, Global};
 
@@ -229,8 +229,9 @@ fn take_cell(
     ensures key { IfOk result (λ has_key. has_key ≡ true ⊎ (0 < faults.new.count)) }
     ensures before { OnOk result (faults.new.count ≡ 0 → faults.old.count ≡ 0) }
 {
-    match field.take(cell, bytes) {
+    match field.take(alloc, cell, bytes) {
         Ok(()) => Ok(true),
+        Err(CellFault::NoMemory) => Err(AllocError),
         Err(fault) => {
             let cell = Vec::from_slice(alloc, cell)?;
             faults.add(ValueFault {
@@ -263,25 +264,13 @@ fn line_of(cells: &ByteRecord, lines: &mut Lines<'_>) -> u64 {
     }
 }
 
-/// Has the numbers among some fields 0 in a record.
+/// Makes the numbers among some fields 0 in a record.
 #[tactic(auto, using(crate::proofs::RecordLemmas::field_lies, crate::proofs::RecordLemmas::one_more_zero))]
 fn fill(fields: &[Field], bytes: &mut [u8])
     requires { All (LiesIn (length bytes.old)) fields.now }
     ensures { bytes.new ≡ with_zeros bytes.old fields.now }
 {
     for field in fields {
-        zero(field, bytes);
-    }
-}
-
-/// Has a field, if it is of a number, 0 in a record.
-#[tactic(auto, using(crate::proofs::RecordLemmas::zero_given, crate::proofs::RecordLemmas::text_stays))]
-fn zero(field: &Field, bytes: &mut [u8])
-    requires { LiesIn (length bytes.old) field.now }
-    ensures { bytes.new ≡ with_zero bytes.old field.now }
-{
-    if is_number(field.kind) {
-        // a number of any form takes a 0
-        let _ = field.take(b"0", bytes);
+        field.make_zero(bytes);
     }
 }

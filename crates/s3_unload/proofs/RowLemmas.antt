@@ -15,7 +15,7 @@ use Rattle.std.specs.declared.alloc.Global.{Global}
 use Rattle.s3_cells.specs.Inner.Fields.{LiesIn, cell_of, is_shown}
 use Rattle.s3_cells.specs.declared.field.Field.{Field}
 use Rattle.s3_cells.specs.declared.fault.ShowFault.{ShowFault}
-use Rattle.s3_cells.specs.declared.fault.ShowFault.TheVariants.{NoCharacter, NoNumber, NoMemory}
+use Rattle.s3_cells.specs.declared.fault.ShowFault.TheVariants.{NoCharacter, NoNumber, NoDate, NoMemory}
 use Rattle.s3_unload.specs.Inner.Tables.{AddsText, IsBetweenRows, IsHiddenIn, IsHiddenValue, are_shown, heading, name_text, row_of, rows_text, setup, table_text, text_in}
 use Rattle.s3_unload.specs.declared.fault.UnloadFault.{UnloadFault}
 
@@ -33,6 +33,7 @@ not_shown fields bytes i f h is one = list_all_at (λ field. is_shown field byte
 pub one_not_shown : (fields : List Field) (bytes : List ℕ) (i : ℕ) (f : Field) (fault : ShowFault) → i < length fields → f ≡ get_or fields i f → IsHiddenValue f bytes fault → IsHiddenIn fields bytes fault
 one_not_shown fields bytes i f (NoCharacter position) h is one = not_shown fields bytes i f h is one
 one_not_shown fields bytes i f NoNumber h is one = not_shown fields bytes i f h is one
+one_not_shown fields bytes i f (NoDate date) h is one = not_shown fields bytes i f h is one
 one_not_shown fields bytes i f NoMemory h is one = tt
 
 pub one_more_cell : (fields : List Field) (bytes : List ℕ) (i : ℕ) (f : Field) → i < length fields → f ≡ get_or fields i f

@@ -2,7 +2,7 @@
 use Rattle.std.specs.Prelude.{◌≡◌, ◌+◌, ◌≤◌, ℕ, Bool, List, length}
 use Rattle.s3_store.specs.Bytes.{part}
 use Rattle.s3_store.specs.Inner.Bytes.{with_part}
-use Rattle.s3_cells.specs.Inner.Values.{GetsValue, SaysNone, cell_text, is_shown_in, value_in}
+use Rattle.s3_cells.specs.Inner.Values.{GetsValue, SaysNone, cell_text, is_shown_in, value_in, zeroed_bytes}
 use Rattle.s3_cells.specs.declared.field.Field.{Field}
 
 abbrev pub field_bytes : Field → List ℕ → List ℕ
@@ -26,6 +26,10 @@ pub record Takes (field : Field) (cell old new : List ℕ) : Type 0 where
 -- a cell says a value that the field can't hold, or none
 abbrev pub IsNotTaken : Field → List ℕ → Type 0
 IsNotTaken field cell = SaysNone field.kind cell field.width
+
+-- a record in which the field, if it is a number, is 0
+abbrev pub zeroed : List ℕ → Field → List ℕ
+zeroed bytes field = with_part bytes field.start (zeroed_bytes field.kind (field_bytes field bytes))
 
 -- it lies in records of so many bytes
 abbrev pub LiesIn : ℕ → Field → Type 0

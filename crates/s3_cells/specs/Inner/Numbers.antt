@@ -28,10 +28,14 @@ significant (digit ∷ next ∷ digits) = if digit == 0xf0 then significant (nex
 abbrev pub sign_text : Bool → List ℕ
 sign_text negative = if negative then 45 ∷ [] else []
 
--- a point and the decimals behind it, if there are any
+-- a mark and the decimals behind it, if there are any
+abbrev pub decimals_with : (mark : ℕ) → List ℕ → List ℕ
+decimals_with mark [] = []
+decimals_with mark (digit ∷ digits) = mark ∷ map digit_character (digit ∷ digits)
+
+-- with a point
 abbrev pub decimals_text : List ℕ → List ℕ
-decimals_text [] = []
-decimals_text (digit ∷ digits) = 46 ∷ map digit_character (digit ∷ digits)
+decimals_text digits = decimals_with 46 digits
 
 -- the fifteen digits of a magnitude
 unfoldable pub fifteen : ℕ → List ℕ

@@ -4,7 +4,8 @@ use Rattle.std.specs.List.{AllPairs, Contains, filter, list_all, list_any, prefi
 use Rattle.s3_cells.specs.Inner.Texts.{space, trimmed}
 use Rattle.s3_cells.specs.declared.field.Field.{Field}
 use Rattle.s3_cells.specs.declared.kind.FieldKind.{FieldKind}
-use Rattle.s3_cells.specs.declared.kind.FieldKind.TheVariants.{Text as TextKind, Zoned, Packed}
+use Rattle.s3_cells.specs.declared.kind.FieldKind.TheVariants.{Text as TextKind, Zoned, Packed, Date}
+use Rattle.s3_cells.specs.declared.dates.DateField.TheVariants.{Text as TextDate, Number as NumberDate}
 use Rattle.s3_unload.specs.Inner.Tables.{name_text}
 use Rattle.s3_load.specs.declared.columns.Columns.{Columns}
 
@@ -44,10 +45,13 @@ overlap one other = nat_lt one.start (other.start + other.width) && nat_lt other
 abbrev pub LieApart : List Field → Type 0
 LieApart columns = AllPairs (λ one other. overlap one other ≡ false) columns
 
+-- a number, or a date that is one
 abbrev pub is_number : FieldKind → Bool
-is_number TextKind = false
-is_number (Zoned decimals) = true
-is_number (Packed decimals) = true
+is_number (TextKind cells) = false
+is_number (Zoned decimals cells) = true
+is_number (Packed decimals cells) = true
+is_number (Date TextDate) = false
+is_number (Date NumberDate) = true
 
 -- it has no byte in common with any of them, if it is a number, and so can be 0 beside them
 abbrev pub is_clear : List Field → Field → Bool

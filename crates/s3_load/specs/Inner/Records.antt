@@ -1,20 +1,15 @@
 -- Records, as rows of a table give them.
-use Rattle.std.specs.Prelude.{◌≡◌, ℕ, ◌<◌, false, List, [], length, get_or, take, replicate, if◌then◌else◌, pos}
+use Rattle.std.specs.Prelude.{◌≡◌, ℕ, ◌<◌, false, List, [], length, get_or, take, replicate}
 use Rattle.std.specs.List.{fold}
 use Rattle.s3_cards.specs.declared.ebcdic.TheConstants.{BLANK}
-use Rattle.s3_store.specs.Inner.Bytes.{with_part}
-use Rattle.s3_cells.specs.Inner.Fields.{field_bytes}
-use Rattle.s3_cells.specs.Inner.Values.{GetsValue, IsAsWritten, Number, bytes_of}
+use Rattle.s3_cells.specs.Inner.Fields.{field_bytes, zeroed}
+use Rattle.s3_cells.specs.Inner.Values.{GetsValue, IsAsWritten}
 use Rattle.s3_cells.specs.declared.field.Field.{Field}
-use Rattle.s3_load.specs.Inner.Columns.{is_inside, is_number}
-
--- a record in which a field, if it is of a number, has 0
-abbrev pub with_zero : List ℕ → Field → List ℕ
-with_zero bytes field = if is_number field.kind then with_part bytes field.start (bytes_of field.kind field.width (Number (pos 0))) else bytes
+use Rattle.s3_load.specs.Inner.Columns.{is_inside}
 
 -- a record in which each number of these has 0
 abbrev pub with_zeros : List ℕ → List Field → List ℕ
-with_zeros bytes fields = fold with_zero bytes fields
+with_zeros bytes fields = fold zeroed bytes fields
 
 -- a record before its row is read: blank, but for the numbers that are filled
 abbrev pub empty_record : (record_length : ℕ) → (filled : List Field) → List ℕ

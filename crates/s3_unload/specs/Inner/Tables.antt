@@ -10,7 +10,7 @@ use Rattle.s3_cards.specs.Codes.{shown_byte}
 use Rattle.s3_cells.specs.Inner.Fields.{cell_of, is_shown}
 use Rattle.s3_cells.specs.declared.field.Field.{Field}
 use Rattle.s3_cells.specs.declared.fault.ShowFault.{ShowFault}
-use Rattle.s3_cells.specs.declared.fault.ShowFault.TheVariants.{NoCharacter, NoNumber, NoMemory}
+use Rattle.s3_cells.specs.declared.fault.ShowFault.TheVariants.{NoCharacter, NoNumber, NoDate, NoMemory}
 use Rattle.std.specs.Prelude.{Vec}
 use Rattle.std.specs.declared.alloc.Global.{Global}
 
@@ -44,12 +44,14 @@ table_text delimiter fields records = row_text (setup delimiter) (heading fields
 abbrev pub IsHiddenValue : Field → List ℕ → ShowFault → Type 0
 IsHiddenValue field bytes (NoCharacter position) = is_shown field bytes ≡ false
 IsHiddenValue field bytes NoNumber = is_shown field bytes ≡ false
+IsHiddenValue field bytes (NoDate date) = is_shown field bytes ≡ false
 IsHiddenValue field bytes NoMemory = ⊤
 
 -- a field of these, if memory wasn't refused, has a value that can't be shown
 abbrev pub IsHiddenIn : List Field → List ℕ → ShowFault → Type 0
 IsHiddenIn fields bytes (NoCharacter position) = are_shown fields bytes ≡ false
 IsHiddenIn fields bytes NoNumber = are_shown fields bytes ≡ false
+IsHiddenIn fields bytes (NoDate date) = are_shown fields bytes ≡ false
 IsHiddenIn fields bytes NoMemory = ⊤
 
 -- ---- a writer of such a table

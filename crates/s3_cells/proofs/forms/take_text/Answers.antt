@@ -1,10 +1,18 @@
-use Rattle.std.proofs.Common.{◌≡◌, true, length, arith, rules}
-use Rattle.std.specs.List.{list_all}
-use Rattle.s3_cells.specs.Inner.Texts.{has_code}
-use Rattle.s3_cells.proofs.Cells.{got_text}
+use Rattle.std.proofs.Common.{◌≡◌, ◌∙◌, ap, cond, length, map, sym}
+use Rattle.s3_cells.specs.Inner.Marks.{capital, cased, unguarded}
+use Rattle.s3_cells.proofs.Cells.{got_text, on_ok}
 use Rattle.s3_cells.proofs.forms.take_text.Goals as goal
 
-pub returns-clause-ok : goal.returns-clause-ok
-returns-clause-ok c =
-    let all : list_all has_code c.trimmed-text.result.now ≡ true = search rules in
-    got_text (length c.args.bytes.now) c.args.cell.now c.trimmed-text.result.now c.put_text.new.bytes c.trimmed-text.ensures all (omega arith) c.put_text.ensures
+pub returns-in_ok-capitals-clause-ok : goal.returns-in_ok-capitals-clause-ok
+returns-in_ok-capitals-clause-ok c =
+    let text : c.deref.result.now ≡ cased c.args.cells (unguarded c.args.cells c.args.cell.now) =
+    c.deref.ensures.value ∙ c.in_ok-capitals.ensures ∙ ap (map capital) c.unguarded-text.ensures
+    ∙ sym (ap (λ b. cond b (map capital (unguarded c.args.cells c.args.cell.now)) (unguarded c.args.cells c.args.cell.now)) c.if-cells.true) in
+    on_ok c.take_characters.result _ _ c.take_characters.ensures.ok (got_text c.args.cells (length c.args.bytes.now) c.args.cell.now c.deref.result.now c.take_characters.new.bytes text)
+
+pub returns-else-cells-clause-ok : goal.returns-else-cells-clause-ok
+returns-else-cells-clause-ok c =
+    let text : c.unguarded-text.result.now ≡ cased c.args.cells (unguarded c.args.cells c.args.cell.now) =
+    c.unguarded-text.ensures
+    ∙ sym (ap (λ b. cond b (map capital (unguarded c.args.cells c.args.cell.now)) (unguarded c.args.cells c.args.cell.now)) c.if-cells.false) in
+    on_ok c.take_characters-else-cells.result _ _ c.take_characters-else-cells.ensures.ok (got_text c.args.cells (length c.args.bytes.now) c.args.cell.now c.unguarded-text.result.now c.take_characters-else-cells.new.bytes text)
