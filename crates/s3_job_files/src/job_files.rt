@@ -65,13 +65,6 @@ impl JobFiles {
         &self.files[place]
     }
 
-    /// Whether a file with this label is open.
-    pub fn has_label(&self, label: Name) -> bool
-        ensures { result ≡ list_any (λ file. same_name file.label.name label) self.now.files.items }
-    {
-        self.files.iter().any(|file| file.label.name == label)
-    }
-
     /// Puts one more open file behind the others; refused only where memory runs out.
     pub fn push(&mut self, file: OpenFile) -> Result<(), AllocError>
         ensures pushed { OnOk result (self.new.files.items ≡ self.old.files.items ++ file ∷ []) }

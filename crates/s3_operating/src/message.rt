@@ -37,11 +37,6 @@ impl Message {
         self.has_failed = self.text.push_str(words).is_err() || self.has_failed;
     }
 
-    /// Appends a character.
-    pub(crate) fn push_char(&mut self, character: char) {
-        self.has_failed = self.text.push(character).is_err() || self.has_failed;
-    }
-
     /// Appends a number.
     pub(crate) fn push_number(&mut self, number: u64) {
         self.has_failed = push_number(&mut self.text, number).is_err() || self.has_failed;

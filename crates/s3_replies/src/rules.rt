@@ -97,13 +97,6 @@ impl Rules {
             .iter()
             .find(|rule| rule.fits(level, code, program))
     }
-
-    /// The rules, in their order.
-    pub fn rules(&self) -> &[Rule]
-        ensures { result.now ≡ self.now }
-    {
-        &self.rules
-    }
 }
 
 /// Takes a line of the rules: a rule, nothing, or its fault.
