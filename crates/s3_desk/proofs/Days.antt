@@ -1,5 +1,5 @@
 -- A day over a pack: what comes of a bureau that was opened, operated and finished.
-use Rattle.std.proofs.Common.{◌≡◌, ℕ, List, [], ◌∷◌, true, false, inl, Option, Some, None, Result, Ok, refl, sym, subst}
+use Rattle.std.proofs.Common.{◌≡◌, ℕ, List, [], true, false, inl, Option, Some, None, Result, Ok, refl, sym, subst}
 use Rattle.s3_cards.specs.declared.levels.LevelId.{LevelId}
 use Rattle.s3_cards.specs.declared.levels.LevelId.TheVariants.{One, Two}
 use Rattle.s3_operator.specs.Halts.{ShownHalt}

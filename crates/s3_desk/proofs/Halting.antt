@@ -1,5 +1,5 @@
 -- What entries make of a level's halts: a turn may show one more, a reply gives the last one a reply, and nothing else changes them.
-use Rattle.std.proofs.Common.{◌≡◌, ◌⊎◌, inl, inr, ℕ, ◌+◌, ◌-◌, ◌<◌, List, [], ◌∷◌, ◌++◌, length, map, set, get_or, slice_get, refl, sym, ◌∙◌, ap, subst, arith, Bool, true, false, true≢false, if◌then◌else◌, Option, Some, None, is_some, Result, Ok, Err}
+use Rattle.std.proofs.Common.{◌≡◌, ◌⊎◌, inl, inr, ℕ, List, [], ◌∷◌, ◌++◌, refl, sym, ◌∙◌, ap, subst, Bool, true, false, true≢false, if◌then◌else◌, Option, Some, None, Result, Ok, Err}
 use Rattle.std.specs.List.{AllByRecursion as Each}
 use Rattle.s3_lines.specs.declared.sheet.Line.{Line}
 use Rattle.s3_lines.specs.declared.diagnostic.Diagnostic.{Diagnostic}
@@ -20,12 +20,11 @@ use Rattle.s3_job_files.specs.Requests.{Served}
 use Rattle.s3_opening.specs.Opening.{opened}
 use Rattle.s3_solo.specs.declared.action.Action.{Action}
 use Rattle.s3_solo.specs.declared.action.Action.TheVariants as action
-use Rattle.s3_solo.specs.declared.action.Did.{Did}
 use Rattle.s3_solo.specs.declared.action.Did.TheVariants.{Acted}
 use Rattle.s3_solo.specs.Lines.{has_room, is_queued, with_drained}
 use Rattle.s3_solo.specs.World.{World, JobAtWork}
-use Rattle.s3_solo.specs.Serving.{acted, at_work, begun, card_answer, compiled, compiled_data, data_of, diagnostics_of, file_served, idle, in_use, line_put, pending, performed, run, run_card_of, run_over, served, settings, standing_at, started, with_answer, with_card_read, with_jobs, with_settings}
-use Rattle.s3_solo.specs.Solo.{drained, gone_on, refused, replied, reply_given, resumed, solo, step_of, turned}
+use Rattle.s3_solo.specs.Serving.{acted, at_work, begun, card_answer, compiled, compiled_data, data_of, diagnostics_of, file_served, idle, in_use, line_put, pending, performed, run, run_card_of, run_over, served, settings, standing_at, with_answer, with_card_read, with_jobs, with_settings}
+use Rattle.s3_solo.specs.Solo.{drained, gone_on, refused, reply_given, resumed, solo, step_of, turned}
 use Rattle.s3_desk.specs.Inner.Desk.{is_reply}
 use Rattle.s3_desk.proofs.Halts.{Grows, more_waits}
 

@@ -21,7 +21,6 @@ use Rattle.s3_bureau.specs.declared.entry.Entry.{Entry}
 use Rattle.s3_bureau.specs.declared.stop.Stop.{Stop}
 use Rattle.s3_desk.specs.declared.ends.Bounds.{Bounds}
 use Rattle.s3_desk.specs.declared.ends.End.{End}
-use Rattle.s3_desk.specs.declared.ends.End.TheVariants.{Cut as CutOff}
 use Rattle.s3_desk.specs.declared.ends.Ends.{Ends}
 use Rattle.s3_desk.specs.declared.desk.Seat.{Seat}
 use Rattle.s3_desk.specs.declared.desk.Went.{Went}
