@@ -26,7 +26,7 @@ use s3_paper_commands::words::{CommandWords, Takes, Word, value_of};
 use s3_refusals::Shown;
 use s3_unload::{Area, find_file};
 use std::alloc::{AllocError, Global};
-use std::io::Write;
+use std::io::{IsTerminal, Write};
 
 /// How many faults of a table are told.
 const MOST_TOLD: usize = 20;
