@@ -302,7 +302,7 @@ impl<S: PackStore> Bureau<S> {
         ensures own { IfOk result (λ taken. Repeats entry.action taken.times taken.did (HoldsFor entry.level self.old) (HoldsFor entry.level self.new)) }
 
         // They stop where a job ends.
-        ensures stops { IfOk result (λ taken. StopsAtEnd entry.action taken.times (HoldsFor entry.level self.old)) }
+        ensures job_ends { IfOk result (λ taken. StopsAtEnd entry.action taken.times (HoldsFor entry.level self.old)) }
 
         // What else changes, what stays, and how it stops is as `step` says.
         ensures other { OnOk result ((w : World) → HoldsFor (other entry.level) self.old w → HoldsFor (other entry.level) self.new w) }

@@ -1,4 +1,4 @@
-use Rattle.std.proofs.Common.{◌≡◌, ℕ, List, Result, Err, sym, subst, rules}
+use Rattle.std.proofs.Common.{◌≡◌, ℕ, List, Result, Ok, Err, sym, subst, rules}
 use Rattle.s3_bureau.specs.declared.outcome.Outcome.{Outcome}
 use Rattle.s3_bureau.specs.declared.run_fault.RunFault.{RunFault}
 use Rattle.s3_bureau.specs.Runs.{Runs}
@@ -7,7 +7,7 @@ use Rattle.s3_bureau.proofs.runs.run.Goals as goal
 
 pub returns : goal.returns
 returns c =
-    subst (λ (pack : List ℕ). Runs pack c.args.deck1.now c.args.deck2.now c.args.script.now c.result) c.in_ok-bytes.ensures.items
+    subst (λ (pack : List ℕ). Runs pack c.args.deck1.now c.args.deck2.now c.args.script.now (Ok c.in_ok-outcome.outcome)) c.in_ok-bytes.ensures.items
     (runs_written c.in_ok-bytes.bytes.items c.args.deck1.now c.args.deck2.now c.args.script.now c.in_ok-unwritten.unwritten c.in_ok-outcome.outcome c.in_ok-outcome.ensures.texts c.in_ok-outcome.ensures.pack c.in_ok-unwritten.ensures)
 
 pub returns-in_err-unwritten : goal.returns-in_err-unwritten

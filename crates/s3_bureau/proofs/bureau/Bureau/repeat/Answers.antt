@@ -18,8 +18,8 @@ returns-in_err-taken-clause-unchanged g c = foreign_unchanged c.args.entry.level
 pub returns-clause-own : goal.returns-clause-own
 returns-clause-own g c = own_repeats c.args.entry.level c.args.entry.action _ c.in_ok-taken.taken _ _ c.in_ok-taken.ensures
 
-pub returns-clause-stops : goal.returns-clause-stops
-returns-clause-stops g c = own_stops c.args.entry.level c.args.entry.action _ c.in_ok-taken.taken _ _ c.in_ok-taken.ensures
+pub returns-clause-job_ends : goal.returns-clause-job_ends
+returns-clause-job_ends g c = own_stops c.args.entry.level c.args.entry.action _ c.in_ok-taken.taken _ _ c.in_ok-taken.ensures
 
 pub returns-clause-said : goal.returns-clause-said
 returns-clause-said g c = λ level said. c.in_ok-taken.ensures.says level said
