@@ -3,7 +3,6 @@ ghost use Rattle.std.specs.Prelude.{◌≤◌};
 
 mod begun;
 mod day;
-mod empty_decks;
 mod fault;
 mod inherited_words;
 mod inputs;
@@ -23,7 +22,6 @@ use crate::words::command;
 use begun::test_same;
 use clap::ArgMatches;
 use day::{Prepared, operate_prepared};
-use empty_decks::report_empty_decks;
 use fault::DayFault;
 use inherited_words::words_again;
 use inputs::{DayPack, Decks, read_log, read_rules};
@@ -162,7 +160,6 @@ fn operate_with<'a>(
         return Err(DayFault::Usage(reason));
     }
     let decks = Decks::read(rt, &order, words, wants_checksums(&order, again))?;
-    report_empty_decks(rt, &order);
     if lists_jobs {
         list_jobs(rt, &decks.one, &decks.two)?;
         return Ok(DONE);
