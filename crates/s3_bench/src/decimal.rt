@@ -125,7 +125,7 @@ const CODES: [u8; 15] = [
     0xf1, 0xf2, 0xf3, 0xf4, 0xc1, 0xc2, 0xc3, 0xc4, 0xd1, 0xd2, 0xd3, 0xd4, 0xe7, 0xe8, 0xe9,
 ];
 
-/// The table in memory. What stands at a place is turned by a number that no compiler knows.
+/// The operands of a benchmark, in memory. Each look-up begins at a number that no compiler knows.
 #[derive(Drop)]
 pub struct Table {
     numbers: [Dec; 12],
@@ -136,6 +136,7 @@ pub struct Table {
 }
 
 impl Table {
+    /// The constants of this module as a table.
     pub fn new() -> Table {
         Table {
             numbers: NUMBERS,
