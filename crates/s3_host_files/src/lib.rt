@@ -2,15 +2,15 @@
 //! and standard output.
 //!
 //! What is proved: how a new file gets the name of an old one, by what is found there (`choose_naming`), which files a pack may replace
-//! (`can_begin_pack`), by what a change is noticed (`Contents::of`), and the names of the standard streams (`StandardStream::name`).
+//! (`can_begin_pack`), and the names of the standard streams (`StandardStream::name`).
 //! Each call is safe and returns. What files give and take isn't claimed: they are used as the toolchain offers them, and
 //! `tools/kill-saves` and `tools/test-saves` test the saves.
 
 #![tactic(auto)]
 
-mod contents;
 mod fault;
 mod folders;
+mod last_change;
 mod leftovers;
 mod limits;
 mod locking;
@@ -135,8 +135,7 @@ pub fn prepare_save(
 
 /// A locked pack that could be replaced now.
 fn prepared(rt: &HostRuntime, locked: LockedPack) -> Result<LockedPack, FileFault> {
-    let mut locked = locked;
-    test_replacing(rt, &mut locked)?;
+    test_replacing(rt, &locked)?;
     Ok(locked)
 }
 

@@ -1,25 +1,25 @@
 //! The lock that keeps the file of a pack for one command.
 
 use super::PACK_LIMIT;
-use super::contents::Contents;
 use super::fault::FileFault;
+use super::last_change::LastChange;
 use super::naming::{AtName, Hindrance, Naming, can_begin_pack, choose_naming};
 use super::places::{are_same, existing, followed, lead_to_one_file, leads_to};
 use super::reading::read_up_to;
 use std::fs::{File, Metadata, OpenOptions, TryLockError};
 use std::io;
-use std::io::{ErrorKind, Seek, SeekFrom};
+use std::io::ErrorKind;
 use std::path::{Path, PathBuf};
 
 /// How often a file is opened anew if another one got its name before it was locked.
 pub const TURNS: u32 = 10;
 
-/// The file of a pack, locked for this command until a new one has its name, and what it had when it was locked.
+/// The file of a pack, locked for this command until a new one has its name, and its last change before it was read.
 #[derive(Drop)]
 pub struct LockedPack {
     place: PathBuf,
     file: File,
-    contents: Contents,
+    last_change: LastChange,
 }
 
 impl LockedPack {
@@ -74,12 +74,12 @@ impl LockedPack {
     /// Reads a locked file.
     fn read(rt: &HostRuntime, place: PathBuf, file: File) -> io::Result<(Vec<u8>, LockedPack)> {
         let mut file = file;
+        let last_change = LastChange::of(&file.metadata()?);
         let bytes = read_up_to(rt, &mut file, PACK_LIMIT)?;
-        let contents = Contents::of(file.metadata()?.len(), &bytes);
         let locked = LockedPack {
             place,
             file,
-            contents,
+            last_change,
         };
         Ok((bytes, locked))
     }
@@ -95,10 +95,10 @@ impl LockedPack {
     }
 
     /// How a new file gets the name of this one now.
-    pub fn naming_now(&mut self, rt: &HostRuntime) -> Result<Naming, FileFault> {
+    pub fn naming_now(&self, rt: &HostRuntime) -> Result<Naming, FileFault> {
         let at_name = self.at_name(rt)?;
         let may_write = self.may_write(rt, at_name)?;
-        let is_as_locked = self.has_contents_of_lock(rt)?;
+        let is_as_locked = self.is_unchanged()?;
         Ok(choose_naming(at_name, may_write, is_as_locked)?)
     }
 
@@ -128,11 +128,9 @@ impl LockedPack {
         }
     }
 
-    /// Whether the file has the contents that it had when it was locked.
-    fn has_contents_of_lock(&mut self, rt: &HostRuntime) -> io::Result<bool> {
-        self.file.seek(SeekFrom::Start(0))?;
-        let bytes = read_up_to(rt, &mut self.file, PACK_LIMIT)?;
-        Ok(Contents::of(self.file.metadata()?.len(), &bytes) == self.contents)
+    /// Whether the file wasn't changed since it was read.
+    fn is_unchanged(&self) -> io::Result<bool> {
+        Ok(LastChange::of(&self.file.metadata()?) == self.last_change)
     }
 }
 

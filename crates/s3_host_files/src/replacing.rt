@@ -29,7 +29,6 @@ struct NewFile {
 /// Replaces the file of a pack. Right before the new file gets the name, the old one is compared with what it was when it was locked:
 /// `Hindered` if it may not be replaced. If the old file has lost its name, the new one is the first of that name.
 pub fn replace(rt: &HostRuntime, locked: LockedPack, bytes: &[u8]) -> Result<(), FileFault> {
-    let mut locked = locked;
     let old = locked.metadata()?;
     let folder = open_folder(rt, locked.place())?;
     remove_leftovers(rt, locked.place(), Some(&old));
@@ -45,7 +44,7 @@ pub fn replace(rt: &HostRuntime, locked: LockedPack, bytes: &[u8]) -> Result<(),
 }
 
 /// Tries whether the file of a pack could be replaced now. Nothing is changed.
-pub fn test_replacing(rt: &HostRuntime, locked: &mut LockedPack) -> Result<(), FileFault> {
+pub fn test_replacing(rt: &HostRuntime, locked: &LockedPack) -> Result<(), FileFault> {
     let _naming = locked.naming_now(rt)?;
     Ok(test_place(rt, locked.place())?)
 }
