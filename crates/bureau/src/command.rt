@@ -240,11 +240,11 @@ fn init(rt: &HostRuntime, matches: &ArgMatches<'_>) -> u8
     if is_new && is_occupied(rt, matches) {
         return refuse_occupied(rt, matches);
     }
-    let Made {
+    let NewPack {
         pack,
         locked,
         limit,
-    } = match made(rt, matches) {
+    } = match make_pack(rt, matches) {
         Ok(made) => made,
         Err(refused) => return tell_refused(rt, &refused),
     };
@@ -280,7 +280,7 @@ fn refuse_occupied(rt: &HostRuntime, matches: &ArgMatches<'_>) -> u8
 
 /// The pack that `bureau init` makes.
 #[derive(Drop)]
-struct Made {
+struct NewPack {
     /// Its bytes.
     pack: Vec<u8>,
     /// The lock on the file that it was made from, if it is saved there.
@@ -290,7 +290,7 @@ struct Made {
 }
 
 /// The pack that `bureau init` makes, of an old one or of none.
-fn made<'a>(rt: &HostRuntime, matches: &ArgMatches<'a>) -> Result<Made, Refused<'a>> {
+fn make_pack<'a>(rt: &HostRuntime, matches: &ArgMatches<'a>) -> Result<NewPack, Refused<'a>> {
     let from = matches.get_str("from");
     let limit = limit_of(rt, from)?;
     let (old, locked) = match from {
@@ -310,7 +310,7 @@ fn made<'a>(rt: &HostRuntime, matches: &ArgMatches<'a>) -> Result<Made, Refused<
         quota(matches, "quota2"),
     )
     .map_err(|fault| of_pack(CliFault::Image(fault), from))?;
-    Ok(Made {
+    Ok(NewPack {
         pack,
         locked,
         limit,
