@@ -1,2 +1,0 @@
-pub mod FirstTurn
-pub mod SmallFile
