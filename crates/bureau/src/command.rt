@@ -1,16 +1,12 @@
 //! The command line, and what its options ask for.
 ghost use Rattle.std.specs.Prelude.{◌≤◌, ◌≡◌};
 
-use crate::new_pack::new_pack;
-use crate::operate::operate;
-use crate::refusal::{
-    OUT_OF_MEMORY, fault_of, of_options, of_pack, reading, saving, session_refused,
-};
+use crate::refusal::{fault_of, of_options, of_pack, reading, saving, session_refused};
 use crate::version::write_version;
-use crate::words::{command, option_without_name};
 use clap::error::ErrorKind;
 use clap::{ArgMatches, Error};
 use s3_cli::{CliFault, Watched, image_with, list, migrate, session_on, write_table};
+use s3_command_line::{OUT_OF_MEMORY, command, new_pack, option_without_name};
 use s3_data_commands::check_pack::check;
 use s3_data_commands::copy::copy;
 use s3_data_commands::delete::delete;
@@ -21,6 +17,7 @@ use s3_host_files::{
     FileFault, Limit, LockedPack, StandardOutput, keep_apart, read_pack, read_to_save,
     save_new_pack, save_pack,
 };
+use s3_operate::operate;
 use s3_paper_commands::status::{DONE, REFUSED, WRONG_WORDS};
 use s3_paper_commands::words::value_of;
 use s3_paper_commands::{compile_files, punch_files};
@@ -273,7 +270,7 @@ fn refuse_occupied(rt: &HostRuntime, matches: &ArgMatches<'_>) -> u8
     let path = Shown(value_of(matches, "save"));
     let _ = writeln!(
         rt.stderr(),
-        "bureau: {path} is there already; give another name, or leave --new out to write over it"
+        "bureau: {path} is there already; give another name, or remove that file first"
     );
     REFUSED
 }
@@ -360,8 +357,9 @@ fn read<'a>(rt: &HostRuntime, path: &'a str) -> Result<Vec<u8>, Refused<'a>> {
 fn read_locked<'a>(
     rt: &HostRuntime,
     path: &'a str,
-    save: &str,
+    save: &'a str,
 ) -> Result<(Vec<u8>, Option<LockedPack>), Refused<'a>> {
+    keep_apart(rt, save).map_err(|fault| saving(rt, save, &fault))?;
     read_to_save(rt, path, save).map_err(|fault| reading(rt, path, &fault))
 }
 

@@ -11,11 +11,8 @@
 
 mod command;
 mod descriptors;
-mod new_pack;
-mod operate;
 mod refusal;
 mod version;
-mod words;
 
 use std::process::ExitCode;
 

@@ -1,15 +1,10 @@
 //! Refusals of files and of memory, as `bureau run` reports them.
 
-use s3_cli::{CliFault, RunFault, SessionFault};
+use s3_cli::{CliFault, SessionFault};
+use s3_command_line::{FILE, OUT_OF_MEMORY};
 use s3_host_files::FileFault;
 use s3_refusals::{FileWork, Refused, Work, holder_of};
 use std::io;
-
-/// No memory is left.
-pub const OUT_OF_MEMORY: CliFault = CliFault::Session(SessionFault::Run(RunFault::NoMemory));
-
-/// A file, standard input or standard output failed.
-pub const FILE: CliFault = CliFault::Session(SessionFault::File);
 
 /// What a failed call on a file is to a command.
 pub fn fault_of(error: &io::Error) -> CliFault {
@@ -67,7 +62,7 @@ pub fn reading<'a>(rt: &HostRuntime, path: &'a str, fault: &FileFault) -> Refuse
 pub fn saving<'a>(rt: &HostRuntime, path: &'a str, fault: &FileFault) -> Refused<'a> {
     match fault {
         FileFault::InUse => of_file(path, FileWork::InUse(holder_of(rt, path))),
-        FileFault::Exists => of_file(path, FileWork::Exists),
+        FileFault::Exists | FileFault::IsPack => of_file(path, FileWork::Exists),
         FileFault::NoPack => of_file(path, FileWork::NoPack),
         FileFault::Hindered(hindrance) => of_file(path, FileWork::Hindered(*hindrance)),
         FileFault::Stream(stream) => of_file(path, FileWork::Stream(*stream)),

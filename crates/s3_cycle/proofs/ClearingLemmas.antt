@@ -1,4 +1,4 @@
--- Step 2: record identifying indicators go off, by their numbers.
+-- Step 2: record identifying indicators go off, by their places.
 use Rattle.std.proofs.Common.{◌≡◌, ℕ, ◌+◌, ◌<◌, ◌||◌, ◌&&◌, not, zero, suc, length, get_or, map, take, List, [], ◌∷◌, Bool, true, false, refl, sym, ◌∙◌, ap, subst, arith}
 use Rattle.std.specs.Prelude.{◌==◌, if◌then◌else◌}
 use Rattle.std.specs.List.{list_any, list_all}
@@ -8,7 +8,7 @@ use Rattle.std.proofs.lemmas.List.Elements.{All-get_or}
 use Rattle.std.proofs.lemmas.List.Folds.{list_any-append}
 use Rattle.s3_cards.specs.declared.name.Name.{Name}
 use Rattle.s3_cards.specs.Names.{no_name}
-use Rattle.s3_lines.specs.Indicators.{indicator_number}
+use Rattle.s3_operations.specs.Inner.Places.{indicator_place}
 use Rattle.s3_lines.specs.declared.indicator.Indicator.{Indicator}
 use Rattle.s3_lines.specs.declared.sheet.InputLine.{InputLine}
 use Rattle.s3_lines.specs.declared.sheet.InputLine.TheVariants.{Record, And as AndCodes, Or as OrCodes, Field as InputField}
@@ -23,14 +23,13 @@ use Rattle.s3_program.specs.Inner.Stands.{source_named}
 use Rattle.s3_program.specs.Tables.{Tables}
 use Rattle.s3_program.specs.Inner.Valid.{named, named_input}
 use Rattle.s3_match.specs.Inner.Types.{tables_in, is_type_start, kind_at}
-use Rattle.s3_match.specs.Inner.Reading.{AreNumbersOf, indicators_on}
+use Rattle.s3_match.specs.Inner.Reading.{ArePlacesOf, indicators_on}
 use Rattle.s3_operations.specs.declared.indicators.Indicators.{Indicators}
 use Rattle.s3_operations.specs.declared.values.Values.{Values}
 use Rattle.s3_operations.specs.Inner.Held.{IsSound, Changes}
 use Rattle.s3_operations.specs.Inner.Indicating.{type_indicator}
 use Rattle.s3_operations.specs.Inner.Indicators.{on_in, is_settable, is_settable_entry}
-use Rattle.s3_operations.specs.Inner.Mirrored.{is_turned}
-use Rattle.s3_operations.proofs.IndicatorLemmas.{settable_number, turned_to}
+use Rattle.s3_operations.proofs.PlaceLemmas.{turned_to}
 use Rattle.s3_operations.proofs.IndicatingLemmas.{turned_by, turn_once, off_where, types_settable}
 use Rattle.s3_cycle.specs.Inner.Clearing.{turned_off}
 use Rattle.s3_cycle.proofs.IdentifyLemmas.{kind_settable}
@@ -58,44 +57,37 @@ one_off types k d other v w within before =
     rw (before, take_more types k d within, list_any-append (same_indicator other) (take k types) (get_or types k d ∷ []))
     (turn_once (list_any (same_indicator other) (take k types)) (same_indicator other (get_or types k d)) false v)
 
--- a number that goes on and off
-number_turned : (indicator : Indicator) (number : ℕ) → number ≡ indicator_number indicator → is_settable indicator ≡ true → number < 2048 → is_turned number ≡ true
-number_turned indicator number is settable few = ap is_turned is ∙ settable_number indicator settable (subst (λ (n : ℕ). n < 2048) is few)
+-- the one at this place goes off
+abbrev pub IsSetOff : (old new : Indicators) → (place : ℕ) → Indicator → Type 0
+IsSetOff old new place other = on_in new other ≡ (if indicator_place other == place then false else on_in old other)
 
--- the one with this number goes off
-abbrev pub IsSetOff : (old new : Indicators) → (number : ℕ) → Indicator → Type 0
-IsSetOff old new number other = on_in new other ≡ (if indicator_number other == number then false else on_in old other)
+place_there : (p : Program) (places : List ℕ) (k place : ℕ) (d : Indicator) → ArePlacesOf p.inputs.items places → k < length places → place ≡ get_or places k 0
+    → place ≡ indicator_place (get_or (indicators_on p.inputs.items) k d)
+place_there p places k place d are within is =
+    is ∙ ap (λ (xs : List ℕ). get_or xs k 0) are.placed ∙ get_or-map indicator_place (indicators_on p.inputs.items) k d 0 (omega (arith, within, ap length are.placed, length-map (indicators_on p.inputs.items) indicator_place))
 
-number_there : (p : Program) (numbers : List ℕ) (k number : ℕ) (d : Indicator) → AreNumbersOf p.inputs.items numbers → k < length numbers → number ≡ get_or numbers k 0
-    → number ≡ indicator_number (get_or (indicators_on p.inputs.items) k d)
-number_there p numbers k number d are within is =
-    is ∙ ap (λ (xs : List ℕ). get_or xs k 0) are.numbered ∙ get_or-map indicator_number (indicators_on p.inputs.items) k d 0 (omega (arith, within, ap length are.numbered, length-map (indicators_on p.inputs.items) indicator_number))
+settable_there : (p : Program) (places : List ℕ) (k : ℕ) (d : Indicator) → ArePlacesOf p.inputs.items places → k < length places → is_settable (get_or (indicators_on p.inputs.items) k d) ≡ true
+settable_there p places k d are within =
+    holds_at is_settable (indicators_on p.inputs.items) k d (settable_kept p.inputs.items (types_settable p)) (omega (arith, within, ap length are.placed, length-map (indicators_on p.inputs.items) indicator_place))
 
-settable_there : (p : Program) (numbers : List ℕ) (k : ℕ) (d : Indicator) → AreNumbersOf p.inputs.items numbers → k < length numbers → is_settable (get_or (indicators_on p.inputs.items) k d) ≡ true
-settable_there p numbers k d are within =
-    holds_at is_settable (indicators_on p.inputs.items) k d (settable_kept p.inputs.items (types_settable p)) (omega (arith, within, ap length are.numbered, length-map (indicators_on p.inputs.items) indicator_number))
+-- its place is one of the words
+pub type_place_within : (places : List ℕ) (p : Program) (k place : ℕ) → ArePlacesOf p.inputs.items places → k < length places → place ≡ get_or places k 0 → place < 1600
+type_place_within places p k place are within is = subst (λ (n : ℕ). n < 1600) (sym is) (All-get_or (λ (n : ℕ). n < 1600) places k 0 within are.within)
 
--- its number is one that goes on and off
-pub type_number_turned : (p : Program) (numbers : List ℕ) (k number : ℕ) (d : Indicator) → AreNumbersOf p.inputs.items numbers → k < length numbers → number ≡ get_or numbers k 0 → is_turned number ≡ true
-type_number_turned p numbers k number d are within is =
-    let there = number_there p numbers k number d are within is in
-    number_turned (get_or (indicators_on p.inputs.items) k d) number there (settable_there p numbers k d are within)
-    (subst (λ (n : ℕ). n < 2048) (sym is) (All-get_or (λ (n : ℕ). n < 2048) numbers k 0 within are.within))
-
-pub one_more_off : (p : Program) (old new : Indicators) (numbers : List ℕ) (k number : ℕ) (d other : Indicator) (v : Bool) → AreNumbersOf p.inputs.items numbers → k < length numbers → number ≡ get_or numbers k 0
-    → IsSetOff old new number other → on_in old other ≡ turned_off (take k (indicators_on p.inputs.items)) other v → on_in new other ≡ turned_off (take (k + 1) (indicators_on p.inputs.items)) other v
-one_more_off p old new numbers k number d other v are within is set before =
+pub one_more_off : (p : Program) (old new : Indicators) (places : List ℕ) (k place : ℕ) (d other : Indicator) (v : Bool) → ArePlacesOf p.inputs.items places → k < length places → place ≡ get_or places k 0
+    → IsSetOff old new place other → on_in old other ≡ turned_off (take k (indicators_on p.inputs.items)) other v → on_in new other ≡ turned_off (take (k + 1) (indicators_on p.inputs.items)) other v
+one_more_off p old new places k place d other v are within is set before =
     let types : List Indicator = indicators_on p.inputs.items in
-    turned_to old new (get_or types k d) other false number (number_there p numbers k number d are within is) set
-    ∙ one_off types k d other v (on_in old other) (omega (arith, within, ap length are.numbered, length-map types indicator_number)) before
+    turned_to old new (get_or types k d) other false place (place_there p places k place d are within is) (settable_there p places k d are within) set
+    ∙ one_off types k d other v (on_in old other) (omega (arith, within, ap length are.placed, length-map types indicator_place)) before
 
 -- a single one
-pub only_off : (p : Program) (old new : Indicators) (numbers : List ℕ) (number : ℕ) (d other : Indicator) → AreNumbersOf p.inputs.items numbers → length numbers ≡ 1 → number ≡ get_or numbers 0 0
-    → IsSetOff old new number other → on_in new other ≡ turned_off (indicators_on p.inputs.items) other (on_in old other)
-only_off p old new numbers number d other are one is set =
+pub only_off : (p : Program) (old new : Indicators) (places : List ℕ) (place : ℕ) (d other : Indicator) → ArePlacesOf p.inputs.items places → length places ≡ 1 → place ≡ get_or places 0 0
+    → IsSetOff old new place other → on_in new other ≡ turned_off (indicators_on p.inputs.items) other (on_in old other)
+only_off p old new places place d other are one is set =
     let types : List Indicator = indicators_on p.inputs.items in
-    let all : take 1 types ≡ types = take_all 1 types (omega (arith, one, ap length are.numbered, length-map types indicator_number)) in
-    one_more_off p old new numbers 0 number d other (on_in old other) are (omega (arith, one)) is set refl
+    let all : take 1 types ≡ types = take_all 1 types (omega (arith, one, ap length are.placed, length-map types indicator_place)) in
+    one_more_off p old new places 0 place d other (on_in old other) are (omega (arith, one)) is set refl
     ∙ ap (λ (shown : List Indicator). turned_off shown other (on_in old other)) all
 
 -- ---- all of them are the types of the source
@@ -121,14 +113,10 @@ types_cleared p old new sound numbers forms texts division turned =
     record { sound = change.sound; held = change.held }
 
 -- ---- the indicator of one type goes on
-pub type_turned : (p : Program) (old new : Values) (start : TypeStart) (number : ℕ) → IsSound p old → is_type_start p start ≡ true → number ≡ indicator_number (kind_at p start).indicator
+pub type_turned : (p : Program) (old new : Values) (start : TypeStart) (place : ℕ) → IsSound p old → is_type_start p start ≡ true → place ≡ indicator_place (kind_at p start).indicator
     → new.numbers.items ≡ old.numbers.items → new.forms.items ≡ old.forms.items → new.texts ≡ old.texts → new.division ≡ old.division
-    → ((other : Indicator) → on_in new.indicators other ≡ (if indicator_number other == number then true else on_in old.indicators other)) → Changes p old new (λ source. turn (kind_at p start).indicator true)
-type_turned p old new start number sound starts is numbers forms texts division set =
+    → ((other : Indicator) → on_in new.indicators other ≡ (if indicator_place other == place then true else on_in old.indicators other)) → Changes p old new (λ source. turn (kind_at p start).indicator true)
+type_turned p old new start place sound starts is numbers forms texts division set =
     let shown : Indicator = (kind_at p start).indicator in
     turned_by (λ on other. if same_indicator other shown then true else on other) p old new sound numbers forms texts division
-    (λ other. turned_to old.indicators new.indicators shown other true number is (set other))
-
--- the number of a type is one that goes on and off
-pub start_number_turned : (p : Program) (start : TypeStart) (number : ℕ) → is_type_start p start ≡ true → number ≡ indicator_number (kind_at p start).indicator → number < 2048 → is_turned number ≡ true
-start_number_turned p start number starts is few = number_turned (kind_at p start).indicator number is (kind_settable p start starts) few
+    (λ other. turned_to old.indicators new.indicators shown other true place is (kind_settable p start starts) (set other))

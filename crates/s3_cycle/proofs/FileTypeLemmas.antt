@@ -6,7 +6,7 @@ use Rattle.std.proofs.lemmas.Bool.{and_parts, true≢false}
 use Rattle.std.proofs.lemmas.List.{get_or-map, length-map}
 use Rattle.s3_cards.specs.declared.name.Name.{Name}
 use Rattle.s3_cards.specs.Names.{same_name}
-use Rattle.s3_lines.specs.Indicators.{indicator_number}
+use Rattle.s3_operations.specs.Inner.Places.{indicator_place}
 use Rattle.s3_lines.specs.declared.indicator.Indicator.{Indicator}
 use Rattle.s3_lines.specs.declared.sheet.InputLine.{InputLine}
 use Rattle.s3_lines.specs.declared.sheet.InputLine.TheVariants.{Record, And as AndCodes, Or as OrCodes, Field as InputField}
@@ -30,21 +30,22 @@ use Rattle.s3_operations.specs.declared.indicators.Indicators.{Indicators}
 use Rattle.s3_operations.specs.declared.values.Values.{Values}
 use Rattle.s3_operations.specs.Inner.Held.{IsSound, Changes}
 use Rattle.s3_operations.specs.Inner.Indicators.{on_in}
-use Rattle.s3_operations.proofs.IndicatorLemmas.{turned_to}
+use Rattle.s3_operations.proofs.PlaceLemmas.{turned_to}
 use Rattle.s3_operations.proofs.IndicatingLemmas.{turned_by, off_where}
 use Rattle.s3_cycle.specs.Inner.Clearing.{shown_by, turned_off, without_types_of}
 use Rattle.s3_cycle.proofs.ClearingLemmas.{IsSetOff, one_off}
+use Rattle.s3_cycle.proofs.IdentifyLemmas.{kind_settable}
 
 -- ---- one after the other
 abbrev shown : Program → TypeStart → Indicator
 shown p start = (kind_at p start).indicator
 
-pub one_type_off : (p : Program) (old new : Indicators) (starts : List TypeStart) (k number : ℕ) (d : TypeStart) (other : Indicator) (v : Bool) → k < length starts
-    → number ≡ indicator_number (shown p (get_or starts k d)) → IsSetOff old new number other
+pub one_type_off : (p : Program) (old new : Indicators) (starts : List TypeStart) (k place : ℕ) (d : TypeStart) (other : Indicator) (v : Bool) → k < length starts → is_type_start p (get_or starts k d) ≡ true
+    → place ≡ indicator_place (shown p (get_or starts k d)) → IsSetOff old new place other
     → on_in old other ≡ turned_off (take k (shown_by p starts)) other v → on_in new other ≡ turned_off (take (k + 1) (shown_by p starts)) other v
-one_type_off p old new starts k number d other v within is set before =
+one_type_off p old new starts k place d other v within starts_there is set before =
     let here : get_or (shown_by p starts) k (shown p d) ≡ shown p (get_or starts k d) = get_or-map (shown p) starts k d (shown p d) within in
-    turned_to old new (shown p (get_or starts k d)) other false number is set
+    turned_to old new (shown p (get_or starts k d)) other false place is (kind_settable p (get_or starts k d) starts_there) set
     ∙ ap (λ (i : Indicator). if same_indicator other i then false else on_in old other) (sym here)
     ∙ one_off (shown_by p starts) k (shown p d) other v (on_in old other) (omega (arith, within, length-map starts (shown p))) before
 

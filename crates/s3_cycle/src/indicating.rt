@@ -3,7 +3,7 @@ ghost use Rattle.std.specs.Prelude.{◌≡◌, ◌<◌, length, true, IsTrue};
 ghost use Rattle.std.specs.List.{list_all};
 ghost use Rattle.s3_meaning.specs.Environment.{turn, with_last_record};
 ghost use Rattle.s3_lines.specs.declared.indicator.Indicator.{Indicator as MeantIndicator};
-ghost use Rattle.s3_match.specs.Inner.Reading.{AreNumbersOf, IsReading, indicators_on};
+ghost use Rattle.s3_match.specs.Inner.Reading.{ArePlacesOf, IsReading, indicators_on};
 ghost use Rattle.s3_match.specs.Inner.Types.{is_type_start, kind_at, name_of_file};
 ghost use Rattle.s3_operations.specs.Inner.Held.{IsSound as AreValues, Changes as ValuesChange};
 ghost use Rattle.s3_operations.specs.Inner.Indicating.{cleared_of};
@@ -20,21 +20,21 @@ use s3_operations::values::Values;
 use s3_program::program::Program;
 use s3_program::starts::TypeStart;
 
-/// Record identifying indicators go off, by their numbers, of which there is mostly one.
-fn turn_off(indicators: &mut Indicators, program: &Program, numbers: &[usize])
-    requires { AreNumbersOf program.now.inputs.items numbers.now }
+/// Record identifying indicators go off, by their places, of which there is mostly one.
+fn turn_off(indicators: &mut Indicators, program: &Program, places: &[usize])
+    requires { ArePlacesOf program.now.inputs.items places.now }
     ensures { (other : MeantIndicator) → on_in indicators.new other ≡ turned_off (indicators_on program.now.inputs.items) other (on_in indicators.old other) }
 {
-    if numbers.len() == 1 {
-        indicators.set(numbers[0], false);
+    if places.len() == 1 {
+        indicators.set(places[0], false);
         return;
     }
-    for number in numbers {
-        indicators.set(*number, false);
+    for place in places {
+        indicators.set(*place, false);
     }
 }
 
-/// The record identifying indicators of types go off, by their numbers.
+/// The record identifying indicators of types go off, by their places.
 fn turn_types_off(
     indicators: &mut Indicators,
     program: &Program,
@@ -46,19 +46,19 @@ fn turn_types_off(
     ensures { (other : MeantIndicator) → on_in indicators.new other ≡ turned_off (shown_by program.now starts.now) other (on_in indicators.old other) }
 {
     for start in starts {
-        indicators.set(reading.number_of(program, *start), false);
+        indicators.set(reading.place_of(program, *start), false);
     }
 }
 
-/// A cycle clears what the one before it has set: record identifying indicators, by their numbers, and L1 to L9 unless LR is
+/// A cycle clears what the one before it has set: record identifying indicators, by their places, and L1 to L9 unless LR is
 /// on, which sets them.
-pub fn clear(values: &mut Values, program: &Program, numbers: &[usize])
+pub fn clear(values: &mut Values, program: &Program, places: &[usize])
     requires sound { AreValues program.now values.old }
-    requires numbers { AreNumbersOf program.now.inputs.items numbers.now }
+    requires places { ArePlacesOf program.now.inputs.items places.now }
     ensures { ValuesChange program.now values.old values.new cleared_of }
 {
     let is_last = values.is_on(program, Indicator::LastRecord);
-    turn_off(&mut values.indicators, program, numbers);
+    turn_off(&mut values.indicators, program, places);
     values.turn_levels(program, is_last);
 }
 
@@ -77,15 +77,15 @@ pub fn clear_types_of(values: &mut Values, program: &Program, reading: &Reading,
     );
 }
 
-/// The record identifying indicator of a type goes on, by its number.
+/// The record identifying indicator of a type goes on, by its place.
 fn show_type(values: &mut Values, program: &Program, reading: &Reading, start: TypeStart)
     requires sound { AreValues program.now values.old }
     requires reading { IsReading program.now reading.now }
     requires starts { IsTrue (is_type_start program.now start) }
     ensures { ValuesChange program.now values.old values.new (λ source. turn (kind_at program.now start).indicator true) }
 {
-    let number = reading.number_of(program, start);
-    values.indicators.set(number, true);
+    let place = reading.place_of(program, start);
+    values.indicators.set(place, true);
 }
 
 impl Stepper {

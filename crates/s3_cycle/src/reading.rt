@@ -42,7 +42,7 @@ impl Stepper {
         requires reading { IsReading self.old.program self.old.progress.reading }
         ensures { Changes self.old self.new cleared_of }
     {
-        let numbers = &self.progress.reading.type_numbers;
+        let numbers = &self.progress.reading.type_places;
         clear(&mut self.state.values, &self.program, numbers);
     }
 

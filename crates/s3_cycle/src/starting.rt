@@ -99,12 +99,13 @@ impl Instructions {
     }
 }
 
-/// What a run begins with, beside its program.
+/// What a run begins with, in addition to its program.
 #[derive(Drop)]
 pub struct Beginning {
     pub(crate) state: State,
     pub(crate) progress: Progress,
     pub(crate) instructions: Instructions,
+    pub(crate) composition: Composition,
 }
 
 impl Beginning {
@@ -122,10 +123,12 @@ impl Beginning {
         let state = State::first(alloc, program, switches, date)?;
         let progress = Progress::first(alloc, program, switches)?;
         let instructions = Instructions::of(alloc, program, &state.values.texts)?;
+        let composition = Composition::new(alloc)?;
         Ok(Beginning {
             state,
             progress,
             instructions,
+            composition,
         })
     }
 }
@@ -139,6 +142,7 @@ impl Stepper {
             state,
             progress,
             instructions,
+            composition,
         } = beginning;
         let Instructions {
             calculations,
@@ -158,7 +162,7 @@ impl Stepper {
             point: Point::End { at_once: false },
             state,
             progress,
-            composition: Composition::new(),
+            composition,
         }
     }
 

@@ -34,7 +34,11 @@ pub fn with_cells(
         safe: matches.get_flag("safe-cells"),
         capitals: reading.capitals,
     };
-    let SourceLayout { layout, key } = layout;
+    let SourceLayout {
+        layout,
+        key,
+        records,
+    } = layout;
     let layout = layout.with_cells(
         rt.alloc(),
         &CellStyle {
@@ -43,7 +47,11 @@ pub fn with_cells(
             dates: &dates,
         },
     )?;
-    Ok(SourceLayout { layout, key })
+    Ok(SourceLayout {
+        layout,
+        key,
+        records,
+    })
 }
 
 /// How the cells of numbers are written.

@@ -11,6 +11,7 @@ use s3_host_files::StandardOutput;
 use s3_pack_check::{CheckFault, Wrong, check_pack, push_cause};
 use s3_paper_commands::status::DONE;
 use s3_paper_commands::words::{CommandWords, value_of};
+use s3_refusals::Shown;
 use std::alloc::{AllocError, Global};
 use std::io::Write;
 
@@ -76,6 +77,7 @@ fn waiting_sentence(alloc: Global, path: &str, count: usize) -> Result<String, A
         1 => ("slot", "needs"),
         _ => ("slots", "need"),
     };
+    let path = Shown(path);
     format!(in alloc;
         "{count} {slots} of {path} {need} a person: put back the bytes of a label that are known, or free its slot by `bureau delete --slot`, and load a file again whose index is wrong"
     )

@@ -13,6 +13,7 @@ use s3_labels::LabelFault;
 use s3_pack_care::CareFault;
 use s3_paper_commands::status::DONE;
 use s3_paper_commands::words::{CommandWords, Takes, Word, value_of};
+use s3_refusals::Shown;
 use std::alloc::{AllocError, Global};
 
 /// `bureau copy` and its words.
@@ -116,8 +117,8 @@ fn copy_file(rt: &HostRuntime, matches: &ArgMatches<'_>) -> Result<(), Fault> {
         keep_input(rt, order.save, order.path)?;
     }
     let pack = with_copy(rt, order, into)?;
-    saved(rt, matches, order.save, locked, &pack)?;
-    tell_done(rt, copied_sentence(rt.alloc(), order))
+    let saved = saved(rt, matches, order.save, locked, &pack)?;
+    tell_done(rt, copied_sentence(rt.alloc(), order), saved)
 }
 
 /// The pack that gets the copy, with it.
@@ -172,6 +173,7 @@ fn copied_sentence(alloc: Global, order: Order<'_>) -> Result<String, AllocError
         save,
         ..
     } = order;
+    let save = Shown(save);
     format!(in alloc;
         "{label} of area {area} is copied into area {to_area} of {save} as {new_label}"
     )

@@ -2,14 +2,17 @@
 ghost use Rattle.std.specs.Prelude.{◌≤◌, ◌<◌};
 
 use crate::fault::Fault;
+use crate::filled::push_name;
 use crate::pack_words::{
     area_number, care_sentence, label_of, pack_to_change, refused, saved, tell_done, wrong_words,
 };
 use crate::words::{AREA, LABEL, OVERWRITE, PACK, SAVE};
 use clap::ArgMatches;
+use s3_listing::{SlotFile, file_in_slot};
 use s3_pack_care::{CareFault, Chosen};
 use s3_paper_commands::status::DONE;
 use s3_paper_commands::words::{CommandWords, Takes, Word, value_of};
+use s3_refusals::Shown;
 use std::alloc::{AllocError, Global};
 
 /// `bureau delete` and its words.
@@ -54,9 +57,25 @@ fn delete_file(rt: &HostRuntime, matches: &ArgMatches<'_>) -> Result<(), Fault> 
     let chosen = chosen_file(rt, matches)?;
     let save = value_of(matches, "save");
     let (pack, locked) = pack_to_change(rt, matches, value_of(matches, "pack"), save)?;
+    let freed = freed_file(rt.alloc(), area, chosen, &pack);
     let pack = without(rt.alloc(), matches, area, chosen, pack)?;
-    saved(rt, matches, save, locked, &pack)?;
-    tell_done(rt, deleted_sentence(rt.alloc(), matches, area, save))
+    let saved = saved(rt, matches, save, locked, &pack)?;
+    tell_done(
+        rt,
+        deleted_sentence(rt.alloc(), matches, area, save, freed),
+        saved,
+    )
+}
+
+/// The file of the slot that is to be freed, if its label is valid.
+fn freed_file(alloc: Global, area: u16, chosen: Chosen, pack: &[u8]) -> Option<SlotFile> {
+    let Chosen::Slot(slot) = chosen else {
+        return None;
+    };
+    match file_in_slot(alloc, pack, area, slot) {
+        Ok(found) => found,
+        Err(_) => None,
+    }
 }
 
 /// A pack without the file that is meant.
@@ -118,10 +137,26 @@ fn deleted_sentence(
     matches: &ArgMatches<'_>,
     area: u16,
     save: &str,
+    freed: Option<SlotFile>,
 ) -> Result<String, AllocError> {
+    let save = Shown(save);
     if let Some(label) = matches.get_str("label") {
         return format!(in alloc; "{label} is deleted from area {area} of {save}");
     }
     let slot = matches.get_one::<u16>("slot").unwrap_or(0);
-    format!(in alloc; "slot {slot} in area {area} of {save} is freed")
+    let mut text = format!(in alloc; "slot {slot} in area {area} of {save} is freed")?;
+    if let Some(file) = freed {
+        push_freed(&mut text, file)?;
+    }
+    Ok(text)
+}
+
+/// Appends which file a freed slot had.
+fn push_freed(text: &mut String, file: SlotFile) -> Result<(), AllocError> {
+    text.push_str(", and its file ")?;
+    push_name(text, Some(file.name))?;
+    match file.records {
+        1 => text.push_str(" with 1 record is deleted"),
+        records => write!(text, " with {records} records is deleted"),
+    }
 }

@@ -20,6 +20,8 @@ pub enum Fault {
     File(String),
     /// It is done up to what a person has to look at.
     Waits(String),
+    /// Standard error is a file of the command, so nothing is done, and nothing is written: it would get into that file.
+    StandardError,
     /// Memory was refused.
     NoMemory,
 }
@@ -38,7 +40,7 @@ impl<T: Drop> From<AllocFailed<T>> for Fault {
 
 impl Fault {
     /// Writes the sentence of a refusal, and gives its exit status: 2 for words, 3 for files, 4 where it is done up to what a
-    /// person has to look at, else 1.
+    /// person has to look at, else 1. Nothing is written if standard error is a file of the command.
     pub fn tell<W: Write>(&self, writer: &mut W) -> u8
         ensures { result ≤ 4 }
     {
@@ -48,6 +50,7 @@ impl Fault {
             Fault::File(sentence) => ("bureau", sentence.as_str(), FILE_FAILED),
             Fault::Waits(sentence) => ("bureau", sentence.as_str(), PERSON_NEEDED),
             Fault::NoMemory => ("bureau", "memory", REFUSED),
+            Fault::StandardError => return FILE_FAILED,
         };
         let _ = writeln!(writer, "{start}: {sentence}");
         status
@@ -131,10 +134,14 @@ pub fn of_pack(rt: &HostRuntime, used: Use, fault: &FileFault, path: &str) -> Fa
         FileFault::Exists => refused_or_memory(format!(in rt.alloc();
             "{shown} is there already; give another name, or say --overwrite to write over it"
         )),
+        FileFault::IsPack => refused_or_memory(format!(in rt.alloc();
+            "{shown} is a pack; name another file"
+        )),
         FileFault::NoPack => refused_or_memory(format!(in rt.alloc();
             "{shown} is there and is no pack, so no pack is saved over it; give another name, or remove that file"
         )),
         FileFault::Hindered(hindrance) => file_or_memory(hindered(rt.alloc(), *hindrance, path)),
+        FileFault::Stream(StandardStream::Error) => Fault::StandardError,
         FileFault::Stream(stream) => refused_or_memory(is_stream(rt.alloc(), *stream, path)),
         FileFault::Unsynced(error) => file_or_memory(format!(in rt.alloc();
             "the pack is saved in {shown}, but may not survive a power cut, because its folder can't be brought to the disk: {error}"

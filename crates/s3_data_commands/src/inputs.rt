@@ -1,7 +1,7 @@
 //! What the words of `unload` and `load` give: layouts and delimiters.
 ghost use Rattle.std.specs.Prelude.{◌≤◌, length, IfOk, IfSome};
 
-use crate::fault::{Fault, Use, of_call};
+use crate::fault::{Fault, Use, of_call, of_pack};
 use crate::filled::Words;
 use crate::pack_words::{label_of, refused, wrong_words};
 use crate::sentences::layout_sentence;
@@ -9,12 +9,13 @@ use clap::ArgMatches;
 use s3_blame::diagnostic_words;
 use s3_cards::ebcdic::{AMPERSAND, ASTERISK, SLASH};
 use s3_cards::{Card, CardFault, Deck, DeckFault, Name};
-use s3_decks::{CardRange, DeckText, Statements, jobs_of};
-use s3_host_files::read_within;
+use s3_decks::{CardRange, DeckText, Statements, encoding_of, jobs_of};
+use s3_host_files::{keep_apart, read_within};
 use s3_layout::{Choice, LayoutFault, SourceLayout, read_layout};
 use s3_lines::indicator::Indicator;
 use s3_paper_commands::{is_plain_text, tell_punched};
 use s3_punch::{Begun, Part, Punched, punch};
+use s3_refusals::Shown;
 use s3_sheets::{SheetFault, read_sheets};
 use std::alloc::AllocError;
 use std::io::Write;
@@ -118,6 +119,9 @@ fn source_file_of(rt: &HostRuntime, text: &str) -> Result<Name, Fault> {
 
 /// The cards of the file at a path, each with its line there. A file of plain text is punched; what is wrong with it is told.
 fn text_at<'a>(rt: &HostRuntime, path: &'a str) -> Result<DeckText<'a>, Fault> {
+    if let Err(fault) = keep_apart(rt, path) {
+        return Err(of_pack(rt, Use::Reads, &fault, path));
+    }
     let bytes = match read_within(rt, path, DECK_LIMIT) {
         Ok(bytes) => bytes,
         Err(error) => return Err(of_call(rt, Use::Reads, &error, path)),
@@ -127,6 +131,10 @@ fn text_at<'a>(rt: &HostRuntime, path: &'a str) -> Result<DeckText<'a>, Fault> {
             rt.alloc(),
             "{path} is a pack; --layout takes a deck with the RPG source of a program that uses the file",
         )));
+    }
+    if let Some(encoding) = encoding_of(&bytes) {
+        let (path, words) = (Shown(path), encoding.words());
+        return Err(refused(format!(in rt.alloc(); "{path} {words}")));
     }
     let mut text = DeckText::new(rt.alloc());
     if is_plain_text(path) {

@@ -162,8 +162,12 @@ fn load_table(rt: &HostRuntime, matches: &ArgMatches<'_>) -> Result<(), Fault> {
     keep_input(rt, words.save, words.source)?;
     let replaced = replaced_file(rt.alloc(), &words, &pack);
     let loaded = loaded(rt, &words, &layout, &pack)?;
-    saved(rt, matches, words.save, locked, &loaded)?;
-    tell_done(rt, done_sentence(rt.alloc(), &words, replaced, &loaded))
+    let saved = saved(rt, matches, words.save, locked, &loaded)?;
+    tell_done(
+        rt,
+        done_sentence(rt.alloc(), &words, replaced, &loaded),
+        saved,
+    )
 }
 
 /// A pack with the table of standard input in the file that the words name.
@@ -177,6 +181,7 @@ fn loaded(
         level: words.level,
         name: words.name,
         layout: &layout.layout,
+        chosen: &layout.records,
         key: layout.key,
         room: words.room,
         retention: words.retention,
@@ -357,6 +362,7 @@ fn date_of(rt: &HostRuntime, matches: &ArgMatches<'_>) -> Result<[u8; 6], Fault>
 
 /// That a text is no date.
 fn no_date(alloc: Global, text: &str) -> Fault {
+    let text = Shown(text);
     match format!(in alloc;
         "{text} is no date; one has six digits: the month 01 to 12, the day 01 to 31 and the year"
     ) {

@@ -3,9 +3,13 @@
 use crate::filled::{Words, push_name};
 use crate::pack_words::{DAMAGED, NO_LABEL, label_words, mount_words};
 use s3_cards::{Name, host_byte};
-use s3_cells::CellFault;
+use s3_cells::{CellFault, place_without_character};
 use s3_labels::LabelFault;
+use s3_lines::indicator::Indicator;
+use s3_lines::sheet::{CodePart, RecordCode};
 use s3_load::{HeadingFault, LoadFault, Reason, ValueFault};
+use s3_record_types::TypeFault;
+use s3_refusals::Shown;
 use std::alloc::{AllocError, Global};
 
 /// The characters that other programs put between the cells of a table, each with what to say where it stands there.
@@ -93,7 +97,7 @@ fn load_words(fault: &LoadFault) -> &'static str {
         LoadFault::NoRoom =>
             "a file has room for 1 to 999999 records or takes 1 to 999 tracks; ask for such room, or load the table in parts",
         LoadFault::OtherKind =>
-            "the file {label} that is there has records of another length, another key or another organization; load without --append, or give its own layout",
+            "the file {label} that is there has records of another length, another key or another organization; give the layout of that file: a load without --append would replace the whole file",
         LoadFault::BadIndex =>
             "the index of {label} in area {area} of {path} isn't that of its records; take an older copy of the pack, or delete the file and load all of its records",
     }
@@ -218,6 +222,66 @@ fn push_reason(text: &mut String, reason: &Reason, has_comma: bool) -> Result<()
             push_key(text, key)?;
             text.push_str(" already; leave the row out")
         }
+        Reason::OtherType(fault) => push_other_type(text, *fault),
+    }
+}
+
+/// Appends why a record isn't of the chosen type, and what mends it.
+fn push_other_type(text: &mut String, fault: TypeFault) -> Result<(), AllocError> {
+    match fault {
+        TypeFault::Code(code, byte) => push_lacking(text, code, byte),
+        TypeFault::Earlier(indicator) => {
+            text.push_str("the record has all codes of type ")?;
+            push_type(text, indicator)?;
+            text.push_str(
+                " too, which is before the type of --type in the source; change the cells that have these codes",
+            )
+        }
+        TypeFault::NoType => text.push_str("the source has no type of the indicator of --type"),
+    }
+}
+
+/// Appends that a record lacks a code: what it has at the position, and what a record of the type has there.
+fn push_lacking(text: &mut String, code: RecordCode, byte: u8) -> Result<(), AllocError> {
+    let position = code.position;
+    write!(text, "position {position} has ")?;
+    push_code(text, byte)?;
+    text.push_str(if code.negated {
+        ", and a record of the type hasn't "
+    } else {
+        ", and a record of the type has "
+    })?;
+    text.push_str(match code.part {
+        CodePart::Character => "",
+        CodePart::Zone => "the zone of ",
+        CodePart::Digit => "the digit of ",
+    })?;
+    push_code(text, code.character)?;
+    text.push_str(" there; ")?;
+    text.push_str(if code.negated {
+        "give the position a field, and its column another value"
+    } else {
+        "change the cell, or load the row by the type that it is of"
+    })
+}
+
+/// Appends a character in quotes, by its code; one that no card has in hexadecimal digits.
+fn push_code(text: &mut String, code: u8) -> Result<(), AllocError> {
+    if place_without_character(&[code]).is_some() {
+        return write!(text, "the byte {code:02x}");
+    }
+    text.push('"')?;
+    text.push(char::from(host_byte(code)))?;
+    text.push('"')
+}
+
+/// Appends the indicator of a type of records.
+fn push_type(text: &mut String, indicator: Indicator) -> Result<(), AllocError> {
+    match indicator {
+        Indicator::General(number) => write!(text, "{number:02}"),
+        Indicator::Halt(number) => write!(text, "H{number}"),
+        Indicator::Level(number) => write!(text, "L{number}"),
+        _ => text.push_str("LR"),
     }
 }
 
@@ -266,8 +330,8 @@ fn push_quoted(text: &mut String, cell: &[u8]) -> Result<(), AllocError> {
     text.push('"')
 }
 
-/// Appends the text of a cell, up to its 40th character, with a question mark for each character that isn't printable; of a cell that
-/// is no text of UTF-8, with one for each byte that isn't ASCII.
+/// Appends the text of a cell, up to its 40th character, as a terminal shows it: a control character as `\x` and its code. Of a cell
+/// that is no text of UTF-8, each byte that isn't ASCII is shown so.
 fn push_shown(text: &mut String, cell: &[u8]) -> Result<(), AllocError> {
     match str::from_utf8(cell) {
         Ok(shown) => push_start(text, shown),
@@ -281,7 +345,7 @@ fn push_start(text: &mut String, shown: &str) -> Result<(), AllocError> {
         if count >= MOST_SHOWN {
             return text.push_str("...");
         }
-        text.push(printable(character))?;
+        push_character(text, character)?;
         count = count.saturating_add(1);
     }
     Ok(())
@@ -292,24 +356,22 @@ fn push_bytes(text: &mut String, cell: &[u8]) -> Result<(), AllocError> {
         if place >= MOST_SHOWN {
             return text.push_str("...");
         }
-        text.push(printable_byte(*byte))?;
+        push_byte(text, *byte)?;
     }
     Ok(())
 }
 
-fn printable_byte(byte: u8) -> char {
+fn push_byte(text: &mut String, byte: u8) -> Result<(), AllocError> {
     if byte.is_ascii() {
-        printable(char::from(byte))
+        push_character(text, char::from(byte))
     } else {
-        '?'
+        write!(text, "\\x{byte:02x}")
     }
 }
 
-/// A character, or a question mark in place of one that moves the cursor or shows nothing.
-fn printable(character: char) -> char {
-    if character < ' ' || ('\u{7f}' <= character && character <= '\u{9f}') {
-        '?'
-    } else {
-        character
-    }
+/// Appends a character as a terminal shows it.
+fn push_character(text: &mut String, character: char) -> Result<(), AllocError> {
+    let mut bytes = [0u8; 4];
+    let shown = Shown(character.encode_utf8(&mut bytes));
+    write!(text, "{shown}")
 }

@@ -5,14 +5,18 @@ use crate::fault::{Fault, Use, of_call, of_pack};
 use crate::filled::Words;
 use clap::ArgMatches;
 use s3_cards::{LevelId, Name, is_name, to_ebcdic};
-use s3_host_files::{Limit, LockedPack, Target, read_pack, read_to_save, save_new_pack, save_pack};
+use s3_host_files::{
+    Limit, LockedPack, Target, is_pack_at, keep_apart, read_pack, read_to_save, save_new_pack,
+    save_pack,
+};
 use s3_labels::{LabelFault, MountFault};
 use s3_listing::{FreeRoom, file_size, free_room};
 use s3_pack_care::CareFault;
-use s3_refusals::Shown;
+use s3_refusals::{Shown, begins_as_pack};
 use std::alloc::{AllocError, Global};
 use std::fs;
 use std::io::Write;
+use std::path::Path;
 
 /// Why a text is no label.
 pub const NO_LABEL: &str =
@@ -113,10 +117,12 @@ fn test_begin(alloc: Global, path: &str, pack: &[u8]) -> Result<(), Fault> {
     if pack.starts_with(b"S3PACK01") || pack.starts_with(b"S3PACK02") {
         return Ok(());
     }
-    Err(refused(Words::of_path(path).fill(
-        alloc,
-        "{path} is no pack: it doesn't begin with S3PACK; give the file of a pack, as `bureau init` makes it",
-    )))
+    let words = if begins_as_pack(pack) {
+        "{path} is no pack of the two formats that there are: it begins neither with S3PACK01 nor with S3PACK02; use the program that made it, or take a copy that is whole"
+    } else {
+        "{path} is no pack: it doesn't begin with S3PACK; give the file of a pack, as `bureau init` makes it"
+    };
+    Err(refused(Words::of_path(path).fill(alloc, words)))
 }
 
 /// The bytes of the pack at a path, for a command that saves to another or the same, with the lock in the second case.
@@ -125,6 +131,9 @@ fn pack_to_save(
     path: &str,
     save: &str,
 ) -> Result<(Vec<u8>, Option<LockedPack>), Fault> {
+    if let Err(fault) = keep_apart(rt, save) {
+        return Err(of_pack(rt, Use::Saves, &fault, save));
+    }
     match read_to_save(rt, path, save) {
         Ok((pack, locked)) => {
             test_begin(rt.alloc(), path, &pack)?;
@@ -153,11 +162,17 @@ pub fn pack_to_change(
 fn refuse_file_there(rt: &HostRuntime, save: &str) -> Result<(), Fault> {
     match fs::exists(rt, save) {
         Ok(false) => Ok(()),
-        Ok(true) => Err(refused(Words::of_path(save).fill(
-            rt.alloc(),
-            "{path} is there already; give another name, or say --overwrite to write over it",
-        ))),
+        Ok(true) => Err(refused(Words::of_path(save).fill(rt.alloc(), there_words(rt, save)))),
         Err(error) => Err(of_call(rt, Use::Saves, &error, save)),
+    }
+}
+
+/// Why a pack isn't saved where a file is, and what helps: `--overwrite` writes over packs only.
+fn there_words(rt: &HostRuntime, save: &str) -> &'static str {
+    if is_pack_at(rt, Path::new(save)) {
+        "{path} is there already; give another name, or say --overwrite to write over it"
+    } else {
+        "{path} is there already and is no pack; give another name, or remove that file"
     }
 }
 
@@ -189,11 +204,39 @@ fn is_at(rt: &HostRuntime, target: &Target, path: &str) -> bool {
     }
 }
 
+/// Where a pack was saved.
+#[derive(Clone, Copy)]
+pub struct SavedPack<'a> {
+    /// The file.
+    path: &'a str,
+    /// Whether another pack that it had was replaced.
+    is_other_replaced: bool,
+}
+
 /// Reports on standard error what was done, if there is memory for the sentence. It doesn't matter whether that can be written.
-pub fn tell_done(rt: &HostRuntime, sentence: Result<String, AllocError>) -> Result<(), Fault> {
+pub fn tell(rt: &HostRuntime, sentence: Result<String, AllocError>) -> Result<(), Fault> {
     let sentence = sentence?;
     let sentence = sentence.as_str();
     let _ = writeln!(rt.stderr(), "bureau: {sentence}");
+    Ok(())
+}
+
+/// Reports what was done to a pack that is saved, as `tell` does, and whether another pack was replaced.
+pub fn tell_done(
+    rt: &HostRuntime,
+    sentence: Result<String, AllocError>,
+    saved: SavedPack<'_>,
+) -> Result<(), Fault> {
+    if !saved.is_other_replaced {
+        return tell(rt, sentence);
+    }
+    let sentence = sentence?;
+    let sentence = sentence.as_str();
+    let path = Shown(saved.path);
+    let _ = writeln!(
+        rt.stderr(),
+        "bureau: {sentence}; the pack that {path} had is replaced"
+    );
     Ok(())
 }
 
@@ -245,21 +288,25 @@ pub fn refused(sentence: Result<String, AllocError>) -> Fault {
 
 /// Saves a pack, whole or not at all. Without `--overwrite` a file that has appeared by now isn't overwritten. A new file lets nobody
 /// do more than the pack that was read.
-pub fn saved(
+pub fn saved<'a>(
     rt: &HostRuntime,
     matches: &ArgMatches<'_>,
-    save: &str,
+    save: &'a str,
     locked: Option<LockedPack>,
     pack: &[u8],
-) -> Result<(), Fault> {
+) -> Result<SavedPack<'a>, Fault> {
     let limit = limit_of(rt, matches)?;
+    let saved = SavedPack {
+        path: save,
+        is_other_replaced: locked.is_none() && is_pack_at(rt, Path::new(save)),
+    };
     let done = if locked.is_none() && !matches.get_flag("overwrite") {
         save_new_pack(rt, save, limit, pack)
     } else {
         save_pack(rt, save, locked, limit, pack)
     };
     match done {
-        Ok(()) => Ok(()),
+        Ok(()) => Ok(saved),
         Err(fault) => Err(of_pack(rt, Use::Saves, &fault, save)),
     }
 }

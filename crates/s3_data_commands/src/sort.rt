@@ -14,6 +14,7 @@ use s3_labels::LabelFault;
 use s3_pack_care::{CareFault, Form, SortFault, SortField};
 use s3_paper_commands::status::DONE;
 use s3_paper_commands::words::{CommandWords, Takes, Word, value_of};
+use s3_refusals::Shown;
 use std::alloc::{AllocError, Global};
 use std::io::Write;
 
@@ -105,8 +106,8 @@ fn sort_file(rt: &HostRuntime, matches: &ArgMatches<'_>) -> Result<(), Fault> {
         pack
     };
     let pack = sorted(rt.alloc(), &order, pack)?;
-    saved(rt, matches, order.save, locked, &pack)?;
-    tell_done(rt, sorted_sentence(rt.alloc(), &order))
+    let saved = saved(rt, matches, order.save, locked, &pack)?;
+    tell_done(rt, sorted_sentence(rt.alloc(), &order), saved)
 }
 
 /// A pack with a copy of a file of a level beside it.
@@ -156,6 +157,7 @@ fn sorted_sentence(alloc: Global, order: &Order<'_>) -> Result<String, AllocErro
         new_label,
         ..
     } = *order;
+    let save = Shown(save);
     format!(in alloc; "{new_label} of level {level} of {save} is sorted by {by}")
 }
 
@@ -173,6 +175,7 @@ fn fields_of(alloc: Global, text: &str) -> Result<Vec<SortField>, Fault> {
         return Ok(fields);
     }
     let wrong = wrong.as_str();
+    let text = Shown(text);
     Err(Fault::Usage(format!(in alloc;
         "--by {text} names no fields: {wrong}; a field is FROM-TO, with Z or P, and D, behind it, as 1-6,20-24PD"
     )?))
@@ -183,6 +186,7 @@ fn push_wrong(wrong: &mut String, part: &str, reason: &'static str) -> Result<()
     if !wrong.is_empty() {
         wrong.push_str(", ")?;
     }
+    let part = Shown(part);
     write!(wrong, "`{part}` {reason}")
 }
 
@@ -237,13 +241,14 @@ fn form_of(text: &str) -> (&str, Form) {
     }
 }
 
-/// The place in a record that a text of digits gives.
+/// The place in a record that a text of digits gives; 65,535 for each that is larger, which is beyond every record.
 fn place_of(text: &str) -> Option<u16> {
     let is_signed = text.starts_with("+");
     if is_signed {
         None
     } else {
-        text.parse::<u16>().ok()
+        let place = text.parse::<u64>().ok()?;
+        Some(u16::try_from(place).unwrap_or(u16::MAX))
     }
 }
 

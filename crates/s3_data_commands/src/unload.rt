@@ -4,8 +4,8 @@ ghost use Rattle.std.specs.Prelude.{◌≤◌};
 use crate::cells::{Reading, with_cells};
 use crate::fault::Fault;
 use crate::inputs::{delimiter_of, layout_of};
-use crate::pack_words::{area_number, label_of, pack_of, wrong_words};
-use crate::sentences::unload_sentence;
+use crate::pack_words::{area_number, label_of, pack_of, tell, wrong_words};
+use crate::sentences::{others_sentence, unload_sentence};
 use crate::words::{
     AREA, DATE_FIELDS, DECIMAL, DELIMITER, LABEL, LAYOUT, LAYOUT_FILE, LAYOUT_TYPE, PACK,
     SAFE_CELLS,
@@ -71,31 +71,35 @@ fn unload_file(rt: &HostRuntime, matches: &ArgMatches<'_>) -> Result<(), Fault> 
         }
     };
     match done {
-        Ok(()) => Ok(()),
+        Ok(0) => Ok(()),
+        Ok(others) => tell(rt, others_sentence(rt.alloc(), path, number, label, others)),
         Err(fault) => Err(fault_of(rt.alloc(), path, number, label, &fault)),
     }
 }
 
-/// Writes the records of a file as lines.
+/// Writes the records of a file as lines. Returns how many records have no line: 0.
 fn unload_lines(
     rt: &HostRuntime,
     path: &str,
     area: Area,
     name: Name,
     form: LineForm,
-) -> Result<Result<(), UnloadFault>, Fault> {
+) -> Result<Result<u32, UnloadFault>, Fault> {
     let pack = pack_of(rt, path)?;
-    Ok(s3_unload::unload_lines(
+    match s3_unload::unload_lines(
         rt.alloc(),
         &pack,
         area,
         name,
         form,
         &mut StandardOutput::new(rt),
-    ))
+    ) {
+        Ok(()) => Ok(Ok(0)),
+        Err(fault) => Ok(Err(fault)),
+    }
 }
 
-/// Writes the table of a file.
+/// Writes the table of a file. Returns how many records are of other types than the one that is asked for, and have no row.
 fn unload_table(
     rt: &HostRuntime,
     matches: &ArgMatches<'_>,
@@ -103,7 +107,7 @@ fn unload_table(
     area: Area,
     name: Name,
     layout: &str,
-) -> Result<Result<(), UnloadFault>, Fault> {
+) -> Result<Result<u32, UnloadFault>, Fault> {
     let delimiter = delimiter_of(rt, matches)?;
     let reading = Reading {
         capitals: false,
@@ -123,6 +127,7 @@ fn unload_table(
         area,
         name,
         &layout.layout,
+        &layout.records,
         delimiter,
         &mut StandardOutput::new(rt),
     ))
@@ -171,6 +176,12 @@ fn test_words(
         return Err(wrong_words(
             rt.alloc(),
             "--safe-cells, --decimal and --date-fields are about the cells of a table, and text and hex have none; leave them out, or give a layout and --as csv",
+        ));
+    }
+    if form.is_some() && matches.get_str("type").is_some() {
+        return Err(wrong_words(
+            rt.alloc(),
+            "--type chooses the rows of a table, and text and hex have all records; leave it out, or give a layout and --as csv",
         ));
     }
     if form.is_some() && matches.get_str("delimiter").is_some() {

@@ -62,7 +62,7 @@ pub const LAYOUT_FILE: Word = Word {
 pub const LAYOUT_TYPE: Word = Word {
     name: "type",
     takes: Takes::Value("INDICATOR"),
-    help: "The type of records, where the file has several",
+    help: "The record type: unload writes its records alone, load puts its codes in",
 };
 
 /// What stands between the cells of a table.

@@ -13,6 +13,8 @@ pub enum FileFault {
     Exists,
     /// The file isn't a pack, so no pack replaces it.
     NoPack,
+    /// The file is a pack, so no other output overwrites it.
+    IsPack,
     /// The old file can't be replaced by a new one.
     Hindered(Hindrance),
     /// The file is this standard stream as well.

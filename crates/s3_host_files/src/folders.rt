@@ -4,6 +4,7 @@ use super::fault::FileFault;
 use super::leftovers::remove_leftovers;
 use super::limits::Limit;
 use super::outputs::{keep_others_out, made_file};
+use super::reading::is_pack_at;
 use super::replacing::test_place;
 use super::streams::{StandardStream, WRITTEN, stream_at};
 use std::fs::File;
@@ -62,14 +63,14 @@ fn tried(rt: &HostRuntime, path: &str) -> io::Result<PathBuf> {
 }
 
 /// A file that is made anew at a path, within a limit, to be written. If something has that name and may be overwritten, it is removed
-/// first; of a link, only the link is removed.
+/// first, unless it is a pack; of a link, only the link is removed.
 pub fn create_anew(
     rt: &HostRuntime,
     path: &str,
     overwrites: bool,
     limit: Option<Limit>,
 ) -> io::Result<File> {
-    if overwrites {
+    if overwrites && !is_pack_at(rt, Path::new(path)) {
         remove_old(rt, path)?;
     }
     match made_file(rt, Path::new(path), limit)? {

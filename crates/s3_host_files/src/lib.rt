@@ -31,6 +31,7 @@ pub use naming::Hindrance;
 pub use outputs::{Kept, Output};
 pub use places::Target;
 use places::{existing, followed};
+pub use reading::is_pack_at;
 use reading::read_up_to;
 use replacing::{replace, save_first, test_place, test_replacing};
 pub use standard_output::StandardOutput;

@@ -4,6 +4,7 @@ use super::fault::FileFault;
 use super::limits::Limit;
 use super::locking::{TURNS, lock};
 use super::places::{existing, followed, leads_to};
+use super::reading::is_pack_at;
 use super::streams::keep_apart;
 use super::syncing::{open_folder, sync_if_kept};
 use std::fs::{File, OpenOptions};
@@ -32,7 +33,7 @@ pub struct Kept {
 
 impl Output {
     /// Makes a file at a path, or opens the file that is there, if it may be overwritten. Anything else, as a device or a pipe, is opened
-    /// as it is. `Exists` if the file may not be overwritten, `InUse` if another command writes it, and `Stream` if it is also standard
+    /// as it is. `Exists` if the file may not be overwritten, `IsPack` if it is a pack, `InUse` if another command writes it, and `Stream` if it is also standard
     /// output or standard error.
     pub fn open(
         rt: &HostRuntime,
@@ -190,6 +191,9 @@ fn opened(
     keep_others_out(&file)?;
     if !leads_to(rt, place, &file)? {
         return Ok(None);
+    }
+    if is_pack_at(rt, place) {
+        return Err(FileFault::IsPack);
     }
     Ok(Some(Output {
         file,

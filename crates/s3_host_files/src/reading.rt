@@ -2,10 +2,12 @@
 ghost use Rattle.std.specs.Io.{ReadsAtMost};
 
 use super::naming::can_begin_pack;
+use super::places::existing;
 use std::alloc::AllocError;
 use std::fs::File;
 use std::io;
 use std::io::{ErrorKind, Read};
+use std::path::Path;
 
 /// The most bytes that are asked of a file at once.
 const CHUNK: usize = 4_096;
@@ -54,6 +56,24 @@ fn read_some(file: &mut File, bytes: &mut [u8]) -> io::Result<usize>
         }
     }
     Err(io::Error::from(ErrorKind::Interrupted))
+}
+
+/// Whether the regular file at a path begins as a pack of any format does. A file that can't be read doesn't.
+pub fn is_pack_at(rt: &HostRuntime, place: Path<'_>) -> bool {
+    match existing(rt, place) {
+        Ok(Some(found)) if found.is_file() => begins_as_pack(rt, place),
+        _ => false,
+    }
+}
+
+fn begins_as_pack(rt: &HostRuntime, place: Path<'_>) -> bool {
+    let Ok(mut file) = File::open(rt, place) else {
+        return false;
+    };
+    match read_up_to(rt, &mut file, 6) {
+        Ok(beginning) => beginning.starts_with(b"S3PACK"),
+        Err(_) => false,
+    }
 }
 
 /// Whether an open file is empty or begins as a pack does, as far as it goes.

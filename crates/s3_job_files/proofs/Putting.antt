@@ -216,6 +216,10 @@ pub record IsPut (old new : OpenFile) : Type 0 where
 pub of_put : (old new : OpenFile) → new ≡ record old { records = new.records } → IsPut old new
 of_put old new alone = record { like = record { label = ap (λ (f : OpenFile). f.label) alone; master = ap (λ (f : OpenFile). f.is_master) alone }; job_file = ap job_file_of alone }
 
+-- an update is counted, and that is all that is new of it
+pub of_update : (old new : OpenFile) → new ≡ record old { updates = new.updates } → IsPut old new
+of_update old new alone = record { like = record { label = ap (λ (f : OpenFile). f.label) alone; master = ap (λ (f : OpenFile). f.is_master) alone }; job_file = ap job_file_of alone }
+
 put_held : (level : LevelId) (items : List OpenFile) (areas : Areas) (old new : List (List ℕ)) (p : ℕ) (file changed : OpenFile) (in_use : FilesInUse) (later : Files) → IsReady level items (seen areas old)
     → slice_get items p ≡ Some file → file.is_master ≡ false → IsPut file changed → SameBut file.label old new
     → IsPutUnder file.label.name (records_of changed.records new) in_use.files later
@@ -264,25 +268,6 @@ pub put_ready_if : (level : LevelId) (items : List OpenFile) (areas : Areas) (s 
 put_ready_if level items areas s t p file changed (Ok put) ready there own is within of_label =
     put_ready level items areas s.contents t.contents p file changed ready there own is.like (λ n high out. within.contents n out) within.count of_label
 put_ready_if level items areas s t p file changed (Err fault) ready there own is within of_label = tt
-
--- ---- a record of it is changed
-put_itself : (file : OpenFile) → IsPut file file
-put_itself file = record { like = record { label = refl; master = refl }; job_file = refl }
-
-pub update_serves : (level : LevelId) (items : List OpenFile) (areas : Areas) (s t : PoolState) (p : ℕ) (file : OpenFile) (meant : FileAtWork → Result (List (List ℕ)) HaltCode) (result : Result Put SectorFault)
-    → IsReady level items (seen areas s.contents) → slice_get items p ≡ Some file → file.is_master ≡ false → ChangesWithin (Contains (sectors_of file.label)) s t
-    → IfOk result (λ put. Puts (meant (standing_file p file s.contents)) put (records_of file.records s.contents) (records_of file.records t.contents))
-    → IfOk result (λ put. Serves (λ at. record_put (meant at) at) p (put_answer put) (Holds level items (seen areas s.contents)) (Holds level items (seen areas t.contents)))
-update_serves level items areas s t p file meant result ready there own within puts =
-    subst (λ (l : List OpenFile). IfOk result (λ put. Serves (λ at. record_put (meant at) at) p (put_answer put) (Holds level items (seen areas s.contents)) (Holds level l (seen areas t.contents))))
-    (slice_set_known items p file there) (put_serves level items areas s t p file file meant result ready there own (put_itself file) within puts)
-
-pub update_ready_if : (level : LevelId) (items : List OpenFile) (areas : Areas) (s t : PoolState) (p : ℕ) (file : OpenFile) (result : Result Put SectorFault)
-    → IsReady level items (seen areas s.contents) → slice_get items p ≡ Some file → file.is_master ≡ false → ChangesWithin (Contains (sectors_of file.label)) s t
-    → OnOk result (AreOf file.label t.contents file.records) → OnOk result (IsReady level items (seen areas t.contents))
-update_ready_if level items areas s t p file result ready there own within of_label =
-    subst (λ (l : List OpenFile). OnOk result (IsReady level l (seen areas t.contents)))
-    (slice_set_known items p file there) (put_ready_if level items areas s t p file file result ready there own (put_itself file) within of_label)
 
 -- ---- what it spares
 pub file_spares : (level : LevelId) (areas : Areas) (s t : PoolState) (file : FileLabel) → IsPackReady areas s.contents → standing file.name (slots_at level areas) ≡ Present file

@@ -10,6 +10,7 @@ ghost use Rattle.s3_store.specs.Inner.Calls.{Reads};
 ghost use Rattle.s3_job_files.specs.Inner.Records.{changes_of};
 ghost use Rattle.s3_job_files.specs.Records.{overlaid};
 ghost use Rattle.s3_job_files.specs.Inner.Holds.{AreOf, HoldsRecords, count_of, records_of};
+ghost use Rattle.s3_job_files.specs.Inner.Calls.{updates_after};
 
 use crate::records::{OpenRecords, Put};
 use crate::{by_key, in_order};
@@ -43,6 +44,8 @@ pub struct OpenFile {
     pub records: OpenRecords,
     /// How many of its records the job has read.
     pub read: u32,
+    /// How many times the job has changed a record in place; at most `u32::MAX`.
+    pub updates: u32,
     /// The place of the record that was chained last, from 0; none where none was, or where the last CHAIN found nothing.
     pub chained: Option<u32>,
 }
@@ -67,7 +70,7 @@ impl OpenFile {
     ) -> Result<Option<Self>, SectorFault>
         requires { IsOfPack (length (P.state pool.old).contents) label }
         ensures good { IfOk result (λ opened. (kept_on label (P.state pool.old).contents).has_good_index ≡ is_some opened) }
-        ensures opened { IfOk result (λ opened. IfSome opened (λ file. file ≡ record file { name = name; label = label; is_master = is_master; is_made = is_made; read = 0; chained = None })) }
+        ensures opened { IfOk result (λ opened. IfSome opened (λ file. file ≡ record file { name = name; label = label; is_master = is_master; is_made = is_made; read = 0; updates = 0; chained = None })) }
         ensures of_label { IfOk result (λ opened. IfSome opened (λ file. AreOf label (P.state pool.old).contents file.records)) }
         ensures kept { IfOk result (λ opened. IfSome opened (λ file. HoldsRecords (P.state pool.old).contents file (kept_on label (P.state pool.old).contents))) }
         ensures count { IfOk result (λ opened. IfSome opened (λ file. count_of file.records ≡ label.count)) }
@@ -84,6 +87,7 @@ impl OpenFile {
             is_made,
             records,
             read: 0,
+            updates: 0,
             chained: None,
         }))
     }
@@ -408,9 +412,8 @@ impl OpenFile {
         }
     }
 
-    /// Changes the current record, as the file now holds it, at the positions that are put. It is refused where no such record is
-    /// there, and where the key of an indexed file would change.
-    pub fn update<P: Sectors>(
+    /// Changes the current record at the positions that are put, without counting it.
+    fn update_current<P: Sectors>(
         &self,
         pool: &mut P,
         current: Option<Current>,
@@ -426,6 +429,27 @@ impl OpenFile {
             None => Ok(Put::Refused(HaltCode::NothingToUpdate)),
             Some(place) => self.update_at(pool, place, codes, marks),
         }
+    }
+
+    /// Changes the current record, as the file now holds it, at the positions that are put, and counts the change. It is refused
+    /// if there is no such record, or if the key of an indexed file would change.
+    pub fn update<P: Sectors>(
+        &mut self,
+        pool: &mut P,
+        current: Option<Current>,
+        codes: &[u8],
+        marks: &[bool],
+    ) -> Result<Put, SectorFault>
+        requires usable { IsUsable (P.state pool.old).contents self.old.label self.old.records }
+        ensures puts { IfOk result (λ put. Puts (updated self.old.label (changes_of codes.now marks.now) (place_current_spec self.old.label (records_of self.old.records (P.state pool.old).contents) self.old.chained current) (records_of self.old.records (P.state pool.old).contents)) put (records_of self.old.records (P.state pool.old).contents) (records_of self.new.records (P.state pool.new).contents)) }
+        ensures of_label { OnOk result (AreOf self.old.label (P.state pool.new).contents self.new.records) }
+        ensures counts { IfOk result (λ put. self.new.updates ≡ updates_after put self.old.updates) }
+        ensures alone { self.new ≡ record self.old { updates = self.new.updates } }
+        ensures changes { Changes (sectors_of self.old.label) result (P.state pool.old) (P.state pool.new) }
+    {
+        let put = self.update_current(pool, current, codes, marks)?;
+        self.updates = count_of_updates(put, self.updates);
+        Ok(put)
     }
 
     /// Whether the file is dropped at the end of the job: it is a scratch file that the job made.
@@ -445,6 +469,16 @@ impl OpenFile {
             OpenRecords::InOrder(_) => Ok(()),
             OpenRecords::ByKey(file) => by_key::close(file, pool),
         }
+    }
+}
+
+/// How many updates a file has had after one more was tried.
+fn count_of_updates(put: Put, before: u32) -> u32
+    ensures { result ≡ updates_after put before }
+{
+    match put {
+        Put::Done => before.saturating_add(1),
+        Put::Refused(_) => before,
     }
 }
 

@@ -211,24 +211,26 @@ impl JobFiles {
     ///
     /// After a fault of the sectors no request is to be made.
     pub fn update<P: Sectors>(
-        &self,
+        &mut self,
         pack: &mut Pack<P>,
         place: usize,
         current: Option<Current>,
         codes: &[u8],
         marks: &[bool],
     ) -> Result<Put, SectorFault>
-        requires ready { IsReady self.now.level self.now.files.items (seen pack.old.areas (P.state pack.old.pool).contents) }
-        requires there { place < length self.now.files.items }
-        requires own { AllAt self.now.files.items place (λ file. file.is_master ≡ false) }
-        ensures serves { IfOk result (λ put. Serves (record_updated current (changes_of codes.now marks.now)) place (put_answer put) (Holds self.now.level self.now.files.items (seen pack.old.areas (P.state pack.old.pool).contents)) (Holds self.now.level self.now.files.items (seen pack.new.areas (P.state pack.new.pool).contents))) }
+        requires ready { IsReady self.old.level self.old.files.items (seen pack.old.areas (P.state pack.old.pool).contents) }
+        requires there { place < length self.old.files.items }
+        requires own { AllAt self.old.files.items place (λ file. file.is_master ≡ false) }
+        ensures serves { IfOk result (λ put. Serves (record_updated current (changes_of codes.now marks.now)) place (put_answer put) (Holds self.old.level self.old.files.items (seen pack.old.areas (P.state pack.old.pool).contents)) (Holds self.new.level self.new.files.items (seen pack.new.areas (P.state pack.new.pool).contents))) }
         ensures fits { IfOk result (λ put. fits_done refuses_update (put_answer put) ≡ true) }
-        ensures ready { OnOk result (IsReady self.now.level self.now.files.items (seen pack.new.areas (P.state pack.new.pool).contents)) }
+        ensures ready { OnOk result (IsReady self.new.level self.new.files.items (seen pack.new.areas (P.state pack.new.pool).contents)) }
         ensures pack { IsPackReady pack.new.areas (P.state pack.new.pool).contents }
-        ensures spares { KeepsInStep (IsOutOfReach self.now.level pack.old.areas.header) (P.state pack.old.pool) (P.state pack.new.pool) }
-        ensures says { KeepsSaid self.now.level pack.old.areas (P.state pack.old.pool).contents pack.new.areas (P.state pack.new.pool).contents }
+        ensures spares { KeepsInStep (IsOutOfReach self.old.level pack.old.areas.header) (P.state pack.old.pool) (P.state pack.new.pool) }
+        ensures says { KeepsSaid self.old.level pack.old.areas (P.state pack.old.pool).contents pack.new.areas (P.state pack.new.pool).contents }
         ensures areas { pack.new.areas ≡ pack.old.areas }
         ensures failures { (P.state pack.new.pool).failures ≡ (P.state pack.old.pool).failures + failed_transfers result }
+        ensures level { self.new.level ≡ self.old.level }
+        ensures opened { map opened_as self.new.files.items ≡ map opened_as self.old.files.items }
     {
         self.files[place].update(&mut pack.pool, current, codes, marks)
     }

@@ -1,1 +1,2 @@
+pub mod KindLemmas
 mod WalkLemmas

@@ -5,6 +5,8 @@ ghost use Rattle.s3_cells.specs.Inner.Fields.{LiesIn};
 ghost use Rattle.s3_layout.specs.Inner.Columns.{AreFieldsOf, column_of, entry_column, kind_of as kind_of_spec};
 
 use crate::fault::LayoutFault;
+use indexmap::IndexSet;
+use s3_cards::Name;
 use s3_cells::{Field, FieldKind, NumberCells, TextCells};
 use s3_lines::sheet::{FieldForm, FieldLine};
 use std::alloc::Global;
@@ -18,15 +20,17 @@ pub fn fields_of(
     ensures { IfOk result (λ fields. AreFieldsOf record_length entries.now fields.items) }
 {
     let mut fields = Vec::new(alloc);
+    let mut names = IndexSet::new(alloc);
     for entry in entries {
-        add_field(&mut fields, entry, record_length)?;
+        add_field(&mut fields, &mut names, entry, record_length)?;
     }
     Ok(fields)
 }
 
-/// Adds the field of a line, unless one of its name is there.
+/// Adds the field of a line and its name, unless the name is there.
 fn add_field(
     fields: &mut Vec<Field>,
+    names: &mut IndexSet<Name>,
     entry: &FieldLine,
     record_length: u16,
 ) -> Result<(), LayoutFault>
@@ -35,7 +39,7 @@ fn add_field(
     ensures columns { OnOk result (map column_of fields.new.items ≡ map column_of fields.old.items ++ entry_column entry.now ∷ []) }
 {
     let field = field_of(entry, record_length)?;
-    if fields.iter().any(|other| other.name == field.name) {
+    if !names.insert(field.name)? {
         return Err(LayoutFault::Twice(field.name));
     }
     fields.push(field)?;

@@ -7,19 +7,23 @@ use crate::choosing::{Choice, chosen_file};
 use crate::columns::fields_of;
 use crate::entries::{chosen_type, entries_meant};
 use crate::fault::LayoutFault;
+use crate::kinds::chosen_records;
 use s3_cards::Deck;
 use s3_cells::Layout;
 use s3_lines::sheet::KeyField;
+use s3_record_types::ChosenRecords;
 use s3_sheets::{SheetFault, read_sheets};
 use std::alloc::Global;
 
-/// How the records of a file are laid out, and where their key lies.
+/// How the records of a file are laid out, where their key lies, and which of them are meant.
 #[derive(Drop)]
 pub struct SourceLayout {
     /// The records: their length by the F sheet, and the fields of the I sheet in the order of their cards, at least one.
     pub layout: Layout,
     /// Where the key lies, of a file that is addressed by keys and has an index.
     pub key: Option<KeyField>,
+    /// The records of the type that is named; all records of the file where none is.
+    pub records: ChosenRecords,
 }
 
 /// The layout of records that the source on these cards of a deck describes, from place `from` up to but without `to`. It has the
@@ -46,12 +50,14 @@ pub fn read_layout(
     if fields.is_empty() {
         return Err(LayoutFault::NoFields);
     }
+    let records = chosen_records(alloc, &lines, file.name, choice.record_type)?;
     Ok(SourceLayout {
         layout: Layout {
             record_length: file.record_length,
             fields,
         },
         key: file.key,
+        records,
     })
 }
 

@@ -121,19 +121,20 @@ fn chain<P: Sectors>(
 
 /// Changes the current record of the file at a place.
 fn change<P: Sectors>(
-    job_files: &JobFiles,
+    job_files: &mut JobFiles,
     pack: &mut Pack<P>,
     place: usize,
     current: Option<Current>,
     changes: &Composition,
 ) -> Result<Put, SectorFault>
-    requires ready { AreFilesReady job_files.now.level job_files.now.files.items (seen pack.old.areas (P.state pack.old.pool).contents) }
-    requires there { place < length job_files.now.files.items }
-    requires own { AllAt job_files.now.files.items place (λ file. file.is_master ≡ false) }
-    ensures serves { IfOk result (λ put. Serves (record_updated current changes.now) place (put_answer put) (HoldsInUse job_files.now.level job_files.now.files.items (seen pack.old.areas (P.state pack.old.pool).contents)) (HoldsInUse job_files.now.level job_files.now.files.items (seen pack.new.areas (P.state pack.new.pool).contents))) }
+    requires ready { AreFilesReady job_files.old.level job_files.old.files.items (seen pack.old.areas (P.state pack.old.pool).contents) }
+    requires there { place < length job_files.old.files.items }
+    requires own { AllAt job_files.old.files.items place (λ file. file.is_master ≡ false) }
+    ensures serves { IfOk result (λ put. Serves (record_updated current changes.now) place (put_answer put) (HoldsInUse job_files.old.level job_files.old.files.items (seen pack.old.areas (P.state pack.old.pool).contents)) (HoldsInUse job_files.new.level job_files.new.files.items (seen pack.new.areas (P.state pack.new.pool).contents))) }
     ensures fits { IfOk result (λ put. fits_done refuses_update (put_answer put) ≡ true) }
-    ensures ready { OnOk result (AreFilesReady job_files.now.level job_files.now.files.items (seen pack.new.areas (P.state pack.new.pool).contents)) }
-    ensures pack { LeavesPack job_files.now.level result pack.old.areas pack.new.areas (P.state pack.old.pool) (P.state pack.new.pool) }
+    ensures ready { OnOk result (AreFilesReady job_files.new.level job_files.new.files.items (seen pack.new.areas (P.state pack.new.pool).contents)) }
+    ensures opened { KeepsOpened job_files.old job_files.new }
+    ensures pack { LeavesPack job_files.old.level result pack.old.areas pack.new.areas (P.state pack.old.pool) (P.state pack.new.pool) }
 {
     job_files.update(pack, place, current, changes.codes(), changes.marks())
 }
@@ -228,7 +229,7 @@ impl OpenJob {
                 self.cycle.resume(answer_of_put(put));
             }
             FileCall::Update { current } => {
-                let put = change(&self.files, pack, place, *current, self.cycle.changes())?;
+                let put = change(&mut self.files, pack, place, *current, self.cycle.changes())?;
                 self.cycle.resume(answer_of_put(put));
             }
         }

@@ -21,6 +21,6 @@ mod written;
 
 pub use fault::ListFault;
 pub use laws::slots_are_shown;
-pub use room::{FileSize, FreeRoom, file_size, free_room};
+pub use room::{FileSize, FreeRoom, SlotFile, file_in_slot, file_size, free_room};
 pub use table::write_table;
 pub use written::{list, mount_slots};

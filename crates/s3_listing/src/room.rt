@@ -61,6 +61,32 @@ pub fn file_size(
     Ok(None)
 }
 
+/// The file of a slot with a valid label.
+#[derive(Clone, Copy)]
+pub struct SlotFile {
+    /// Its label.
+    pub name: Name,
+    /// The records that it has.
+    pub records: u32,
+}
+
+/// The file of a slot of an area of a pack, if the label of the slot is valid. Refused with `Mount` or `NoMemory`.
+pub fn file_in_slot(
+    alloc: Global,
+    pack: &[u8],
+    area: u16,
+    slot: u16,
+) -> Result<Option<SlotFile>, ListFault> {
+    let areas = mount_slots(alloc, pack)?;
+    match slots_of(&areas, area).get(usize::from(slot)) {
+        Some(Slot::Sound(label)) => Ok(Some(SlotFile {
+            name: label.name,
+            records: label.count,
+        })),
+        _ => Ok(None),
+    }
+}
+
 /// The slots of an area.
 fn slots_of(areas: &AreaSlots, area: u16) -> &[Slot] {
     match area {

@@ -1,8 +1,8 @@
 -- The records of rows are bytes.
-use Rattle.std.proofs.Common.{◌≡◌, ℕ, zero, suc, ◌+◌, ◌-◌, ◌*◌, ◌^◌, ◌<◌, ◌≤◌, refl, arith, sym, ◌∙◌, ap, subst, inl, inr, Bool, true, false, ◌==◌, ◌&&◌, cond, List, [], ◌∷◌, ◌++◌, length, take, drop, replicate, get_or, nat_le, nat_lt, pos}
+use Rattle.std.proofs.Common.{◌≡◌, ℕ, zero, suc, ◌+◌, ◌-◌, ◌*◌, ◌/◌, ◌%◌, ◌^◌, ◌<◌, ◌≤◌, refl, arith, sym, ◌∙◌, ap, subst, inl, inr, Bool, true, false, not, ◌==◌, ◌&&◌, cond, lit<, slice_set, slice_index, List, [], ◌∷◌, ◌++◌, length, take, drop, replicate, get_or, nat_le, nat_lt, pos}
 use Rattle.std.specs.Prelude.{Some, find, unwrap_or}
 use native.Mathlib.Numerals.{unary_clauses}
-use Rattle.std.proofs.Math.Nat.{mul-le-mul_left}
+use Rattle.std.proofs.Math.Nat.{mod-lt, mul-le-mul_left}
 use Rattle.std.specs.List.{list_all}
 use Rattle.std.specs.Option.{option_map}
 use Rattle.std.proofs.lemmas.Bool.{and_parts, cases_Bool, leb-true, ltb-true}
@@ -22,6 +22,13 @@ use Rattle.s3_cells.specs.declared.kind.FieldKind.TheVariants.{Text as TextKind,
 use Rattle.s3_cells.specs.Inner.Dates.{date_bytes, none_of}
 use Rattle.s3_cells.specs.declared.dates.DateField.{DateField}
 use Rattle.s3_cells.specs.declared.dates.DateField.TheVariants.{Text as TextDate, Number as NumberDate}
+use Rattle.s3_lines.specs.declared.sheet.CodePart.{CodePart}
+use Rattle.s3_lines.specs.declared.sheet.CodePart.TheVariants.{Character, Zone, Digit}
+use Rattle.s3_lines.specs.declared.sheet.RecordCode.{RecordCode}
+use Rattle.s3_meaning.specs.Selection.{zone_of}
+use Rattle.s3_record_types.specs.Inner.Chosen.{codes_of}
+use Rattle.s3_record_types.specs.Inner.Codes.{merged, byte_with, with_code, with_codes}
+use Rattle.s3_record_types.specs.declared.chosen.ChosenRecords.{ChosenRecords}
 use Rattle.s3_load.specs.Inner.Columns.{has_byte, is_inside, is_number}
 use Rattle.s3_load.specs.Inner.Records.{IsRecordOf, empty_record, with_zeros}
 
@@ -148,6 +155,41 @@ zeros_bytes : (bytes : List ℕ) (fields : List Field) → AreBytes bytes → Ar
 zeros_bytes bytes [] h = h
 zeros_bytes bytes (x ∷ xs) h = zeros_bytes (zeroed bytes x) xs (zero_bytes bytes x h)
 
+-- a byte that gets a code stays a byte
+merged_below : (part : CodePart) (character byte : ℕ) → byte < 256 → merged part character byte < 256
+merged_below Character character byte h = mod-lt character (lit< tt)
+merged_below Zone character byte h =
+    let zone : zone_of character % 16 < 16 = mod-lt (zone_of character) (lit< tt) in
+    let digit : byte % 16 < 16 = mod-lt byte (lit< tt) in
+    omega arith
+merged_below Digit character byte h =
+    let zone : byte / 16 < 16 = omega arith in
+    let digit : character % 16 < 16 = mod-lt character (lit< tt) in
+    omega arith
+
+coded_below : (part : CodePart) (character byte : ℕ) → byte < 256 → byte_with part character byte < 256
+coded_below part character byte h =
+    elim (byte == BLANK) as (λ b. cond b (character % 256) (merged part character byte) < 256) [ true ↦ mod-lt character (lit< tt) | false ↦ merged_below part character byte h ]
+
+set_bytes : (bytes : List ℕ) (i byte : ℕ) → AreBytes bytes → byte < 256 → AreBytes (slice_set bytes i byte)
+unfolding AreBytes
+set_bytes [] i byte h low = tt
+set_bytes (x ∷ xs) zero byte h low = (low, h.1)
+set_bytes (x ∷ xs) (suc i) byte h low = (h.0, set_bytes xs i byte h.1 low)
+
+code_bytes : (bytes : List ℕ) (code : RecordCode) → AreBytes bytes → AreBytes (with_code bytes code)
+code_bytes bytes code h =
+    let at = code.position - 1 in
+    let byte = slice_index bytes at in
+    elim (not code.negated && nat_lt at (length bytes)) as (λ b. AreBytes (cond b (slice_set bytes at (byte_with code.part code.character byte)) bytes)) [
+      | true ↦ set_bytes bytes at (byte_with code.part code.character byte) h (coded_below code.part code.character byte (byte_at bytes at h))
+      | false ↦ h
+    ]
+
+codes_bytes : (bytes : List ℕ) (codes : List RecordCode) → AreBytes bytes → AreBytes (with_codes bytes codes)
+codes_bytes bytes [] h = h
+codes_bytes bytes (x ∷ xs) h = codes_bytes (with_code bytes x) xs (code_bytes bytes x h)
+
 byte_in : (bytes : List ℕ) (start width place : ℕ) → start ≤ place → place < start + width → get_or (part bytes start width) (place - start) 0 ≡ get_or bytes place 0
 byte_in bytes start width place low high =
     let at : start + (place - start) ≡ place = omega arith in
@@ -158,8 +200,8 @@ within_field field bytes place has h =
     let both = and_parts (nat_le field.start place) (nat_lt place (field.start + field.width)) has in
     subst (λ b. b < 256) (byte_in bytes field.start field.width place (leb-true field.start place both.0) (ltb-true place (field.start + field.width) both.1)) (byte_at (field_bytes field bytes) (place - field.start) h)
 
-pub record_bytes : (record_length : ℕ) (columns filled : List Field) (cells : List (List ℕ)) (bytes : List ℕ) → IsRecordOf record_length columns filled cells bytes → AreBytes bytes
-record_bytes n columns filled cells bytes is = from_places bytes each
+pub record_bytes : (record_length : ℕ) (columns filled : List Field) (chosen : ChosenRecords) (cells : List (List ℕ)) (bytes : List ℕ) → IsRecordOf record_length columns filled chosen cells bytes → AreBytes bytes
+record_bytes n columns filled chosen cells bytes is = from_places bytes each
   where
     each : (place : ℕ) → get_or bytes place 0 < 256
     each place = elim (cases_Bool (is_inside columns place)) [
@@ -170,5 +212,5 @@ record_bytes n columns filled cells bytes is = from_places bytes each
           let g : Field = get_or columns there.0 f in
           let has : has_byte place g ≡ true = subst (λ (x : Field). has_byte place x ≡ true) (sym there.3) there.4 in
           within_field g bytes place has (subst AreBytes (sym got.written) (value_bytes g.kind g.width got.value))
-      | inr outside ↦ subst (λ b. b < 256) (sym (is.rest place outside)) (byte_at (empty_record n filled) place (zeros_bytes (replicate n BLANK) filled (repeated n BLANK (omega arith))))
+      | inr outside ↦ subst (λ b. b < 256) (sym (is.rest place outside)) (byte_at (empty_record n filled chosen) place (codes_bytes (with_zeros (replicate n BLANK) filled) (codes_of chosen) (zeros_bytes (replicate n BLANK) filled (repeated n BLANK (omega arith)))))
     ]

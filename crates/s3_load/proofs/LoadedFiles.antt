@@ -20,6 +20,7 @@ use Rattle.s3_cells.specs.declared.field.Field.{Field}
 use Rattle.s3_keyed.specs.Index.{layout_of}
 use Rattle.s3_unload.specs.Inner.Ordered.{by_key, in_order, ordered}
 use Rattle.s3_unload.proofs.Opening.{ordered_keyed, ordered_plain}
+use Rattle.s3_record_types.specs.declared.chosen.ChosenRecords.{ChosenRecords}
 use Rattle.s3_load.specs.declared.order.Order.{Order}
 use Rattle.s3_load.specs.declared.rows.Row.{Row}
 use Rattle.s3_load.specs.Inner.Filling.{records_of}
@@ -37,8 +38,8 @@ use Rattle.s3_load.specs.Inner.RoundTrip.{AreByKey, AreUnloaded, HasFileAsked, S
 pub some_row : (rows : List Row) (k : ℕ) → k < length rows → (row : Row) × (get_or rows k row ≡ row)
 some_row rows k low = elim (slice_get_cases rows k).1 [ inl there ↦ (there.0, there.3) | inr past ↦ absurd (omega (arith, low, past.0)) ]
 
-pub records_show : (n : ℕ) (columns filled : List Field) (cells : List (List (List ℕ))) (rows : List Row) → All (LiesIn n) columns → AreRecordsOf n columns filled cells rows → ShowRows columns cells (records_of rows)
-records_show n columns filled cells rows lie made = record {
+pub records_show : (n : ℕ) (columns filled : List Field) (chosen : ChosenRecords) (cells : List (List (List ℕ))) (rows : List Row) → All (LiesIn n) columns → AreRecordsOf n columns filled chosen cells rows → ShowRows columns cells (records_of rows)
+records_show n columns filled chosen cells rows lie made = record {
   counted = length-map rows (λ (row : Row). row.bytes.items) ∙ made.counted;
   each = λ k low. shows k low;
 }
@@ -52,8 +53,8 @@ records_show n columns filled cells rows lie made = record {
         subst (ShowsRow columns (get_or cells k [])) (sym at)
         (record {
           counted = is.counted;
-          shown = loaded_shown n columns filled (get_or cells k []) (get_or rows k row).bytes.items lie is;
-          values = loaded_values n columns filled (get_or cells k []) (get_or rows k row).bytes.items lie is;
+          shown = loaded_shown n columns filled chosen (get_or cells k []) (get_or rows k row).bytes.items lie is;
+          values = loaded_values n columns filled chosen (get_or cells k []) (get_or rows k row).bytes.items lie is;
         })
 
 -- ---- a new file
@@ -100,8 +101,8 @@ record AreWhole (n : ℕ) (records : List (List ℕ)) : Type 0 where
   long : All (λ bytes. length bytes ≡ n) records
   bytes : All AreBytes records
 
-whole_records : (n : ℕ) (columns filled : List Field) (cells : List (List (List ℕ))) (rows : List Row) → AreRecordsOf n columns filled cells rows → AreWhole n (records_of rows)
-whole_records n columns filled cells rows made = record { long = λ k d low. (whole k d low).0; bytes = λ k d low. (whole k d low).1 }
+whole_records : (n : ℕ) (columns filled : List Field) (chosen : ChosenRecords) (cells : List (List (List ℕ))) (rows : List Row) → AreRecordsOf n columns filled chosen cells rows → AreWhole n (records_of rows)
+whole_records n columns filled chosen cells rows made = record { long = λ k d low. (whole k d low).0; bytes = λ k d low. (whole k d low).1 }
   where
     whole : (k : ℕ) (d : List ℕ) → k < length (records_of rows) → (length (get_or (records_of rows) k d) ≡ n) × AreBytes (get_or (records_of rows) k d)
     whole k d low =
@@ -110,7 +111,7 @@ whole_records n columns filled cells rows made = record { long = λ k d low. (wh
         let row = (some_row rows k low_row).0 in
         let is = made.each k row (omega (arith, low_row, counted)) in
         let at = get_or-map (λ (row : Row). row.bytes.items) rows k row d low_row in
-        (ap length at ∙ is.long, subst AreBytes (sym at) (record_bytes n columns filled (get_or cells k []) (get_or rows k row).bytes.items is))
+        (ap length at ∙ is.long, subst AreBytes (sym at) (record_bytes n columns filled chosen (get_or cells k []) (get_or rows k row).bytes.items is))
 
 ordered_as_loaded : (key : Option KeyField) (label : FileLabel) (contents : List (List ℕ)) (n : ℕ) (rows : List Row) → has_key_by key label.organization label.key_length label.key_start ≡ true → in_order label contents ≡ records_of rows
     → AreWhole n (records_of rows) → AreInKeyOrder key rows → ordered label contents ≡ records_of rows
@@ -132,7 +133,7 @@ loaded_as order text old new anew is =
     let label = file.label in
     let n = order.layout.now.record_length in
     let moved : IsPermutation (records_of table.made) (records_of is.rows) = IsPermutation-map (λ (row : Row). row.bytes.items) table.made is.rows table.same in
-    let begun = whole_records n table.columns.fields.items table.columns.filled.items table.are_rows.cells table.made table.are_rows.made in
+    let begun = whole_records n table.columns.fields.items table.columns.filled.items order.chosen.now table.are_rows.cells table.made table.are_rows.made in
     let whole : AreWhole n (records_of is.rows) =
     record { long = All-permutation (λ bytes. length bytes ≡ n) (records_of table.made) (records_of is.rows) moved begun.long; bytes = All-permutation AreBytes (records_of table.made) (records_of is.rows) moved begun.bytes } in
     let all : ordered label new ≡ records_of is.rows = ordered_as_loaded order.key label new n is.rows file.asked.keyed (new_records order (records_of is.rows) is.header old new file anew) whole table.keyed in
@@ -154,6 +155,6 @@ loaded_unloaded order text old new anew is =
       label = is.filled.label;
       file = loaded_file order (records_of is.rows) is.header old new is.filled;
       records = records_of table.made;
-      shows = records_show n columns table.columns.filled.items table.are_rows.cells table.made lie table.are_rows.made;
+      shows = records_show n columns table.columns.filled.items order.chosen.now table.are_rows.cells table.made lie table.are_rows.made;
       unloaded = loaded_as order text old new anew is;
     }

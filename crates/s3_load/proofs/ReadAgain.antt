@@ -12,6 +12,7 @@ use Rattle.s3_cells.specs.Inner.Fields.{LiesIn}
 use Rattle.s3_cells.specs.declared.field.Field.{Field}
 use Rattle.s3_unload.specs.Inner.Tables.{comma, heading, name_text, row_of, table_text}
 use Rattle.s3_unload.proofs.TableLaws.{table_reads}
+use Rattle.s3_record_types.specs.declared.chosen.ChosenRecords.{ChosenRecords}
 use Rattle.s3_load.specs.declared.order.Order.{Order}
 use Rattle.s3_load.specs.declared.rows.Row.{Row}
 use Rattle.s3_load.specs.Inner.Columns.{AreNamed}
@@ -61,8 +62,8 @@ all_columns (f ∷ fields) columns apart named =
     ext_get_or f columns (f ∷ fields) long (λ k low. apart k f (get_or columns k f) (omega (arith, low, long)) (named.each k f (omega (arith, low, counted))))
 
 -- ---- the records of rows that show records
-records_again : (n : ℕ) (fields filled : List Field) (records : List (List ℕ)) (rows : List Row) → All (LiesIn n) fields → SayAll n fields records → AreRecordsOf n fields filled (map (row_of fields) records) rows → records_of rows ≡ records
-records_again n fields filled records rows lie all made =
+records_again : (n : ℕ) (fields filled : List Field) (chosen : ChosenRecords) (records : List (List ℕ)) (rows : List Row) → All (LiesIn n) fields → SayAll n fields records → AreRecordsOf n fields filled chosen (map (row_of fields) records) rows → records_of rows ≡ records
+records_again n fields filled chosen records rows lie all made =
     let counted = made.counted in
     let cells = length-map records (row_of fields) in
     let long = length-map rows (λ (row : Row). row.bytes.items) in
@@ -70,9 +71,9 @@ records_again n fields filled records rows lie all made =
     let low_row : k < length rows = omega (arith, low, long) in
     let low_record : k < length records = omega (arith, low_row, counted, cells) in
     let row = (some_row rows k low_row).0 in
-    let is = subst (λ texts. IsRecordOf n fields filled texts (get_or rows k row).bytes.items) (get_or-map (row_of fields) records k [] [] low_record) (made.each k row (omega (arith, low_row, counted))) in
+    let is = subst (λ texts. IsRecordOf n fields filled chosen texts (get_or rows k row).bytes.items) (get_or-map (row_of fields) records k [] [] low_record) (made.each k row (omega (arith, low_row, counted))) in
     get_or-map (λ (row : Row). row.bytes.items) rows k row [] low_row
-    ∙ unloaded_loaded n fields filled (get_or records k []) (get_or rows k row).bytes.items lie (all.long k [] low_record) all.covered (all.shown k [] low_record) (all.written k [] low_record) is)
+    ∙ unloaded_loaded n fields filled chosen (get_or records k []) (get_or rows k row).bytes.items lie (all.long k [] low_record) all.covered (all.shown k [] low_record) (all.written k [] low_record) is)
 
 head_is : (a b : List (List ℕ)) (more rest : List (List (List ℕ))) → a ∷ more ≡ b ∷ rest → (a ≡ b) × (more ≡ rest)
 head_is a b more rest h = (cc, cc)
@@ -85,13 +86,14 @@ unloaded_again order records text old new anew apart all reads is =
     let table = is.table text refl in
     let columns = table.columns.fields.items in
     let filled = table.columns.filled.items in
+    let chosen = order.chosen.now in
     let both = head_is table.heading (heading fields) table.are_rows.cells (map (row_of fields) records)
     (one_table (table_config order.delimiter) st.StartRecord (strip_bom text) (table.heading ∷ table.are_rows.cells) (heading fields ∷ map (row_of fields) records) table.are_rows.are_records reads) in
     let named : AreNamed fields (heading fields) (length (heading fields)) columns = subst (λ cells. AreNamed fields cells (length cells) columns) both.0 table.named.named in
     let whole : columns ≡ fields = all_columns fields columns apart named in
-    let made : AreRecordsOf n fields filled (map (row_of fields) records) table.made =
-    subst (λ cells. AreRecordsOf n fields filled cells table.made) both.1 (subst (λ cs. AreRecordsOf n cs filled table.are_rows.cells table.made) whole table.are_rows.made) in
-    let back : records_of table.made ≡ records = records_again n fields filled records table.made order.layout.now.within all made in
+    let made : AreRecordsOf n fields filled chosen (map (row_of fields) records) table.made =
+    subst (λ cells. AreRecordsOf n fields filled chosen cells table.made) both.1 (subst (λ cs. AreRecordsOf n cs filled chosen table.are_rows.cells table.made) whole table.are_rows.made) in
+    let back : records_of table.made ≡ records = records_again n fields filled chosen records table.made order.layout.now.within all made in
     record {
       label = is.filled.label;
       file = loaded_file order (records_of is.rows) is.header old new is.filled;

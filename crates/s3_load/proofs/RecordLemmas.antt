@@ -22,6 +22,8 @@ use Rattle.s3_cells.specs.declared.fault.CellFault.{CellFault}
 use Rattle.s3_cells.specs.declared.field.Field.{Field}
 use Rattle.s3_cells.specs.declared.kind.FieldKind.{FieldKind}
 use Rattle.s3_cells.specs.declared.kind.FieldKind.TheVariants.{Text as TextKind, Zoned, Packed}
+use Rattle.s3_record_types.specs.Inner.Chosen.{is_chosen}
+use Rattle.s3_record_types.specs.declared.chosen.ChosenRecords.{ChosenRecords}
 use Rattle.s3_load.specs.Inner.Columns.{AreNamed, LieApart, has_byte, is_covered, is_inside, is_number, left_out, overlap}
 use Rattle.s3_load.specs.Inner.Records.{HasTaken, IsRecordOf, empty_record, with_zeros}
 
@@ -136,16 +138,22 @@ pub still_told : (old new : ℕ) → (new ≡ 0 → old ≡ 0) → 0 < old → 0
 still_told old zero before told = let none : old ≡ 0 = before refl in omega arith
 still_told old (suc new) before told = omega arith
 
-pub is_record : (n : ℕ) (columns filled : List Field) (cells : List (List ℕ)) (start bytes : List ℕ) → start ≡ empty_record n filled → length start ≡ n → length cells ≡ length columns
-    → HasTaken columns cells start (length columns) bytes → IsRecordOf n columns filled cells bytes
-is_record n columns filled cells start bytes is long counted taken =
+pub is_record : (n : ℕ) (columns filled : List Field) (chosen : ChosenRecords) (cells : List (List ℕ)) (start bytes : List ℕ) → start ≡ empty_record n filled chosen → length start ≡ n → length cells ≡ length columns
+    → HasTaken columns cells start (length columns) bytes → is_chosen chosen bytes ≡ true → IsRecordOf n columns filled chosen cells bytes
+is_record n columns filled chosen cells start bytes is long counted taken is_meant =
     record {
       long = taken.long ∙ long;
       counted = counted;
       said = taken.said;
       rest = λ place out.
           taken.rest place (ap (λ cs. is_inside cs place) (take_all (length columns) columns (omega arith)) ∙ out) ∙ ap (λ b. get_or b place 0) is;
+      is_meant = is_meant;
     }
+
+-- a row whose key is taken, or of which something is told, and more may be told
+pub key_or_told : (has_key : Bool) (old new : ℕ) → (has_key ≡ true) ⊎ (0 < old) → (new ≡ 0 → old ≡ 0) → (has_key ≡ true) ⊎ (0 < new)
+key_or_told has_key old new (inl it) before = inl it
+key_or_told has_key old new (inr told) before = inr (still_told old new before told)
 
 -- ---- numbers that are filled
 pub one_more_zero : (bytes : List ℕ) (fields : List Field) (i : ℕ) (f : Field) → i < length fields → f ≡ get_or fields i f → zeroed (with_zeros bytes (take i fields)) f ≡ with_zeros bytes (take (i + 1) fields)

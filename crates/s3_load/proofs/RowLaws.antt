@@ -16,6 +16,7 @@ use Rattle.s3_cells.proofs.CellLaws.{cell_back, read_tidy, shown_again, shown_he
 use Rattle.s3_cells.proofs.DateLaws.{date_in_tidy}
 use Rattle.s3_cells.proofs.TextLemmas.{trimmed_twice}
 use Rattle.s3_unload.specs.Inner.Tables.{are_shown, row_of}
+use Rattle.s3_record_types.specs.declared.chosen.ChosenRecords.{ChosenRecords}
 use Rattle.s3_load.specs.Inner.Columns.{has_byte, is_inside}
 use Rattle.s3_load.specs.Inner.Records.{AreAsWritten, IsRecordOf}
 
@@ -31,13 +32,13 @@ all_by_index : (p : Field → Bool) (xs : List Field) → ((k : ℕ) (d : Field)
 all_by_index p [] h = refl
 all_by_index p (x ∷ xs) h = ap₂ (λ a b. a && b) (h 0 x (omega arith)) (all_by_index p xs (λ k d low. h (suc k) d (omega arith)))
 
-pub loaded_shown : (record_length : ℕ) (columns filled : List Field) (cells : List (List ℕ)) (bytes : List ℕ) → All (LiesIn record_length) columns → IsRecordOf record_length columns filled cells bytes → are_shown columns bytes ≡ true
-loaded_shown n columns filled cells bytes lie is =
+pub loaded_shown : (record_length : ℕ) (columns filled : List Field) (chosen : ChosenRecords) (cells : List (List ℕ)) (bytes : List ℕ) → All (LiesIn record_length) columns → IsRecordOf record_length columns filled chosen cells bytes → are_shown columns bytes ≡ true
+loaded_shown n columns filled chosen cells bytes lie is =
     all_by_index (λ field. is_shown field bytes) columns (λ k d low. value_shown (get_or columns k d).kind (get_or columns k d).width (get_or cells k []) (field_bytes (get_or columns k d) bytes) (get_or columns k d).suits (is.said k d low))
 
-pub loaded_values : (record_length : ℕ) (columns filled : List Field) (cells : List (List ℕ)) (bytes : List ℕ) → All (LiesIn record_length) columns → IsRecordOf record_length columns filled cells bytes → (k : ℕ) (d : Field) → k < length columns
+pub loaded_values : (record_length : ℕ) (columns filled : List Field) (chosen : ChosenRecords) (cells : List (List ℕ)) (bytes : List ℕ) → All (LiesIn record_length) columns → IsRecordOf record_length columns filled chosen cells bytes → (k : ℕ) (d : Field) → k < length columns
     → value_read (get_or columns k d).kind (get_or cells k []) ≡ Some (value_in (get_or columns k d).kind (field_bytes (get_or columns k d) bytes))
-loaded_values n columns filled cells bytes lie is k d low =
+loaded_values n columns filled chosen cells bytes lie is k d low =
     value_back (get_or columns k d).kind (get_or columns k d).width (get_or cells k []) (field_bytes (get_or columns k d) bytes) (get_or columns k d).suits (is.said k d low)
 
 -- ---- unloaded, then loaded
@@ -67,9 +68,9 @@ byte_in bytes start width place low high =
     let at : start + (place - start) ≡ place = omega arith in
     get_or-take width (drop start bytes) (place - start) 0 (omega arith) ∙ get_or-drop start bytes (place - start) 0 ∙ ap (λ i. get_or bytes i 0) at
 
-same_field : (record_length : ℕ) (columns filled : List Field) (old new : List ℕ) → All (LiesIn record_length) columns → length old ≡ record_length → are_shown columns old ≡ true → AreAsWritten columns old
-    → IsRecordOf record_length columns filled (row_of columns old) new → (k : ℕ) (d : Field) → k < length columns → field_bytes (get_or columns k d) new ≡ field_bytes (get_or columns k d) old
-same_field n columns filled old new lie long shown written is k d low =
+same_field : (record_length : ℕ) (columns filled : List Field) (chosen : ChosenRecords) (old new : List ℕ) → All (LiesIn record_length) columns → length old ≡ record_length → are_shown columns old ≡ true → AreAsWritten columns old
+    → IsRecordOf record_length columns filled chosen (row_of columns old) new → (k : ℕ) (d : Field) → k < length columns → field_bytes (get_or columns k d) new ≡ field_bytes (get_or columns k d) old
+same_field n columns filled chosen old new lie long shown written is k d low =
     let lies : LiesIn n (get_or columns k d) = lie k d low in
     let cell : get_or (row_of columns old) k [] ≡ cell_of (get_or columns k d) old = get_or-map (λ field. cell_of field old) columns k d [] low in
     let got = subst (λ c. GetsValue (get_or columns k d).kind c (get_or columns k d).width (field_bytes (get_or columns k d) new)) cell (is.said k d low) in
@@ -83,12 +84,12 @@ byte_same f old new place has same =
     let high : place < f.start + f.width = ltb-true place (f.start + f.width) both.1 in
     sym (byte_in new f.start f.width place low high) ∙ ap (λ b. get_or b (place - f.start) 0) same ∙ byte_in old f.start f.width place low high
 
-pub unloaded_loaded : (record_length : ℕ) (columns filled : List Field) (old new : List ℕ) → All (LiesIn record_length) columns → length old ≡ record_length → ((place : ℕ) → place < record_length → is_inside columns place ≡ true)
-    → are_shown columns old ≡ true → AreAsWritten columns old → IsRecordOf record_length columns filled (row_of columns old) new → new ≡ old
-unloaded_loaded n columns filled old new lie long covers shown written is =
+pub unloaded_loaded : (record_length : ℕ) (columns filled : List Field) (chosen : ChosenRecords) (old new : List ℕ) → All (LiesIn record_length) columns → length old ≡ record_length → ((place : ℕ) → place < record_length → is_inside columns place ≡ true)
+    → are_shown columns old ≡ true → AreAsWritten columns old → IsRecordOf record_length columns filled chosen (row_of columns old) new → new ≡ old
+unloaded_loaded n columns filled chosen old new lie long covers shown written is =
     let length_is = is.long in
     ext_get_or 0 new old (omega arith) (λ place low.
     let there = Any-from_list_any (has_byte place) columns (covers place (omega arith)) in
     let f : Field = there.1 in
-    let same : field_bytes (get_or columns there.0 f) new ≡ field_bytes (get_or columns there.0 f) old = same_field n columns filled old new lie long shown written is there.0 f there.2 in
+    let same : field_bytes (get_or columns there.0 f) new ≡ field_bytes (get_or columns there.0 f) old = same_field n columns filled chosen old new lie long shown written is there.0 f there.2 in
     byte_same f old new place there.4 (sym (ap (λ (g : Field). field_bytes g new) there.3) ∙ same ∙ ap (λ (g : Field). field_bytes g old) there.3))

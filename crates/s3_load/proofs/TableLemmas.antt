@@ -10,6 +10,7 @@ use Rattle.csv.specs.declared.reader.Reader.{Reader}
 use Rattle.csv.specs.declared.reader.Trim.TheVariants as trim
 use Rattle.csv.proofs.ReadFacts.{rows-end, rows-more}
 use Rattle.s3_cells.specs.declared.field.Field.{Field}
+use Rattle.s3_record_types.specs.declared.chosen.ChosenRecords.{ChosenRecords}
 use Rattle.s3_load.specs.declared.rows.Row.{Row}
 use Rattle.s3_load.specs.Inner.Records.{IsRecordOf}
 use Rattle.s3_load.specs.Inner.Tables.{AddsRow, AreRecordsOf, AreRowsOf, FindsEnd, HasRead, HasRows, IsReading, table_config}
@@ -48,12 +49,12 @@ reads_all rem text delimiter rows first last cells reading read =
     (reader_state first, rest, reached, rows-end rem first last cells (table_config delimiter) rest reading.config source read)
 
 -- ---- records of rows
-none_made : (record_length : ℕ) (columns filled : List Field) → AreRecordsOf record_length columns filled [] []
-none_made record_length columns filled = record { counted = refl; each = λ k d h. absurd (omega arith) }
+none_made : (record_length : ℕ) (columns filled : List Field) (chosen : ChosenRecords) → AreRecordsOf record_length columns filled chosen [] []
+none_made record_length columns filled chosen = record { counted = refl; each = λ k d h. absurd (omega arith) }
 
-one_more_made : (record_length : ℕ) (columns filled : List Field) (texts : List (List (List ℕ))) (rows : List Row) (cells : List (List ℕ)) (row : Row) → AreRecordsOf record_length columns filled texts rows
-    → IsRecordOf record_length columns filled cells row.bytes.items → AreRecordsOf record_length columns filled (texts ++ cells ∷ []) (rows ++ row ∷ [])
-one_more_made record_length columns filled texts rows cells row before made =
+one_more_made : (record_length : ℕ) (columns filled : List Field) (chosen : ChosenRecords) (texts : List (List (List ℕ))) (rows : List Row) (cells : List (List ℕ)) (row : Row) → AreRecordsOf record_length columns filled chosen texts rows
+    → IsRecordOf record_length columns filled chosen cells row.bytes.items → AreRecordsOf record_length columns filled chosen (texts ++ cells ∷ []) (rows ++ row ∷ [])
+one_more_made record_length columns filled chosen texts rows cells row before made =
     let counted = before.counted in
     let long : length (texts ++ cells ∷ []) ≡ length texts + 1 = length-append texts (cells ∷ []) in
     let wide : length (rows ++ row ∷ []) ≡ length rows + 1 = length-append rows (row ∷ []) in
@@ -63,35 +64,35 @@ one_more_made record_length columns filled texts rows cells row before made =
         | inl here ↦
             let text : get_or (texts ++ cells ∷ []) k [] ≡ cells = get_or_push texts cells [] k (sym here) in
             let last : get_or (rows ++ row ∷ []) k d ≡ row = get_or_push rows row d k (omega arith) in
-            subst (λ cs. IsRecordOf record_length columns filled cs (get_or (rows ++ row ∷ []) k d).bytes.items) (sym text) (subst (λ (r : Row). IsRecordOf record_length columns filled cells r.bytes.items) (sym last) made)
+            subst (λ cs. IsRecordOf record_length columns filled chosen cs (get_or (rows ++ row ∷ []) k d).bytes.items) (sym text) (subst (λ (r : Row). IsRecordOf record_length columns filled chosen cells r.bytes.items) (sym last) made)
         | inr other ↦
             let low : k < length texts = omega arith in
             let text : get_or (texts ++ cells ∷ []) k [] ≡ get_or texts k [] = get_or_append_left texts (cells ∷ []) [] k low in
             let same : get_or (rows ++ row ∷ []) k d ≡ get_or rows k d = get_or_append_left rows (row ∷ []) d k (omega arith) in
-            subst (λ cs. IsRecordOf record_length columns filled cs (get_or (rows ++ row ∷ []) k d).bytes.items) (sym text)
-            (subst (λ (r : Row). IsRecordOf record_length columns filled (get_or texts k []) r.bytes.items) (sym same) (before.each k d low))
+            subst (λ cs. IsRecordOf record_length columns filled chosen cs (get_or (rows ++ row ∷ []) k d).bytes.items) (sym text)
+            (subst (λ (r : Row). IsRecordOf record_length columns filled chosen (get_or texts k []) r.bytes.items) (sym same) (before.each k d low))
       ];
     }
 
 -- ---- rows, one after another
-pub no_rows : {R : Type 0} (rem : R → Option (List ℕ)) (text : Option (List ℕ)) (delimiter : ℕ) (heading : List (List ℕ)) (record_length : ℕ) (columns filled : List Field) (reader : Reader R) → IsReading rem text delimiter (heading ∷ []) reader
-    → HasRows rem text delimiter heading record_length columns filled reader []
-no_rows rem text delimiter heading record_length columns filled reader reading = record { cells = []; reading = reading; made = none_made record_length columns filled }
+pub no_rows : {R : Type 0} (rem : R → Option (List ℕ)) (text : Option (List ℕ)) (delimiter : ℕ) (heading : List (List ℕ)) (record_length : ℕ) (columns filled : List Field) (chosen : ChosenRecords) (reader : Reader R) → IsReading rem text delimiter (heading ∷ []) reader
+    → HasRows rem text delimiter heading record_length columns filled chosen reader []
+no_rows rem text delimiter heading record_length columns filled chosen reader reading = record { cells = []; reading = reading; made = none_made record_length columns filled chosen }
 
-pub one_more_row : {R : Type 0} (rem : R → Option (List ℕ)) (text : Option (List ℕ)) (delimiter : ℕ) (heading : List (List ℕ)) (record_length : ℕ) (columns filled : List Field) (first last : Reader R) (old new : List Row)
-    → HasRows rem text delimiter heading record_length columns filled first old → Ready last → AddsRow rem record_length columns filled first last old new → HasRows rem text delimiter heading record_length columns filled last new
-one_more_row rem text delimiter heading record_length columns filled first last old new before ready adds =
+pub one_more_row : {R : Type 0} (rem : R → Option (List ℕ)) (text : Option (List ℕ)) (delimiter : ℕ) (heading : List (List ℕ)) (record_length : ℕ) (columns filled : List Field) (chosen : ChosenRecords) (first last : Reader R) (old new : List Row)
+    → HasRows rem text delimiter heading record_length columns filled chosen first old → Ready last → AddsRow rem record_length columns filled chosen first last old new → HasRows rem text delimiter heading record_length columns filled chosen last new
+one_more_row rem text delimiter heading record_length columns filled chosen first last old new before ready adds =
     record {
       cells = before.cells ++ adds.cells ∷ [];
       reading = reads_more rem text delimiter (heading ∷ before.cells) first last adds.cells before.reading ready adds.read;
-      made = subst (λ rows. AreRecordsOf record_length columns filled (before.cells ++ adds.cells ∷ []) rows) (sym adds.added) (one_more_made record_length columns filled before.cells old adds.cells adds.row before.made adds.made);
+      made = subst (λ rows. AreRecordsOf record_length columns filled chosen (before.cells ++ adds.cells ∷ []) rows) (sym adds.added) (one_more_made record_length columns filled chosen before.cells old adds.cells adds.row before.made adds.made);
     }
 
-pub all_rows : {R : Type 0} (rem : R → Option (List ℕ)) (text : List ℕ) (delimiter : ℕ) (heading : List (List ℕ)) (record_length : ℕ) (columns filled : List Field) (first last : Reader R) (old new : List Row)
-    → HasRows rem (Some text) delimiter heading record_length columns filled first old → FindsEnd rem first last old new → AreRowsOf text delimiter heading record_length columns filled new
-all_rows rem text delimiter heading record_length columns filled first last old new before end =
+pub all_rows : {R : Type 0} (rem : R → Option (List ℕ)) (text : List ℕ) (delimiter : ℕ) (heading : List (List ℕ)) (record_length : ℕ) (columns filled : List Field) (chosen : ChosenRecords) (first last : Reader R) (old new : List Row)
+    → HasRows rem (Some text) delimiter heading record_length columns filled chosen first old → FindsEnd rem first last old new → AreRowsOf text delimiter heading record_length columns filled chosen new
+all_rows rem text delimiter heading record_length columns filled chosen first last old new before end =
     record {
       cells = before.cells;
       are_records = reads_all rem text delimiter (heading ∷ before.cells) first last end.cells before.reading end.read;
-      made = subst (λ rows. AreRecordsOf record_length columns filled before.cells rows) (sym end.same) before.made;
+      made = subst (λ rows. AreRecordsOf record_length columns filled chosen before.cells rows) (sym end.same) before.made;
     }

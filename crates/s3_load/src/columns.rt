@@ -337,7 +337,7 @@ fn is_inside(fields: &[Field], place: u32) -> bool
 }
 
 /// Whether a byte of a record is one of a field.
-fn has_byte(field: &Field, place: u32) -> bool
+pub fn has_byte(field: &Field, place: u32) -> bool
     ensures { result ≡ has_byte_spec place field.now }
 {
     u32::from(field.start) <= place && place < u32::from(field.start) + u32::from(field.width)

@@ -3,6 +3,7 @@
 use s3_cards::Name;
 use s3_cells::CellFault;
 use s3_labels::{ChangeFault, LabelFault, MountFault};
+use s3_record_types::TypeFault;
 use std::alloc::{AllocError, AllocFailed};
 
 /// What is wrong with the heading of a table.
@@ -33,6 +34,8 @@ pub enum Reason {
     SameKey(u64, Vec<u8>),
     /// A record of the file has the same key, of these codes.
     KeyInFile(Vec<u8>),
+    /// The record isn't of the type that is chosen.
+    OtherType(TypeFault),
 }
 
 /// What is wrong with a row.

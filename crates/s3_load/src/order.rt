@@ -3,6 +3,7 @@
 use s3_cards::{LevelId, Name, Retention};
 use s3_cells::Layout;
 use s3_lines::sheet::KeyField;
+use s3_record_types::ChosenRecords;
 
 /// How much room a new file is to have.
 #[derive(Clone, Copy)]
@@ -24,6 +25,8 @@ pub struct Order<'a> {
     pub name: Name,
     /// The fields of its records.
     pub layout: &'a Layout,
+    /// The type of each record: its codes are put in, and its records are of that type.
+    pub chosen: &'a ChosenRecords,
     /// Where the key lies, if the file has an index.
     pub key: Option<KeyField>,
     /// How much room a new file is to have.

@@ -3,17 +3,20 @@ ghost use Rattle.std.specs.Prelude.{◌≡◌, ◌<◌, ◌⊎◌, true, length,
 ghost use Rattle.std.specs.List.{All};
 ghost use Rattle.csv.specs.Records.{fields_of};
 ghost use Rattle.s3_cells.specs.Inner.Fields.{LiesIn, Takes};
+ghost use Rattle.s3_record_types.specs.Inner.Chosen.{is_chosen};
 ghost use Rattle.s3_load.specs.Inner.Columns.{LieApart};
 ghost use Rattle.s3_load.specs.Inner.Records.{HasTaken, IsRecordOf, with_zeros};
 
-use crate::columns::{Columns, cell_at};
+use crate::columns::{Columns, cell_at, has_byte};
 use crate::fault::{Reason, ValueFault};
 use crate::order::Order;
 use crate::quotes::is_line_end;
 use csv::ByteRecord;
+use s3_cards::Name;
 use s3_cards::ebcdic::BLANK;
 use s3_cells::{CellFault, Field};
 use s3_lines::sheet::KeyField;
+use s3_record_types::{ChosenRecords, TypeFault};
 use std::alloc::{AllocError, Global};
 
 /// How many faults of rows are kept.
@@ -112,7 +115,7 @@ pub fn record_of(
     requires within { All (LiesIn order.now.layout.now.record_length) columns.now.fields.items }
     requires filled { All (LiesIn order.now.layout.now.record_length) columns.now.filled.items }
     requires apart { LieApart columns.now.fields.items }
-    ensures row { IfOk result (λ row. faults.new.count ≡ 0 → IfSome row (λ row. IsRecordOf order.now.layout.now.record_length columns.now.fields.items columns.now.filled.items (fields_of cells.now) row.bytes.items)) }
+    ensures row { IfOk result (λ row. faults.new.count ≡ 0 → IfSome row (λ row. IsRecordOf order.now.layout.now.record_length columns.now.fields.items columns.now.filled.items order.now.chosen.now (fields_of cells.now) row.bytes.items)) }
     ensures none { IfOk result (λ row. IfNone row (0 < faults.new.count)) }
     ensures before { OnOk result (faults.new.count ≡ 0 → faults.old.count ≡ 0) }
 {
@@ -135,7 +138,7 @@ pub fn record_of(
         return Ok(None);
     }
     let mut bytes = vec![in alloc; BLANK; usize::from(order.layout.record_length)]?;
-    if put_cells(alloc, columns, cells, line, order.key, &mut bytes, faults)? {
+    if put_cells(alloc, order, columns, cells, line, &mut bytes, faults)? {
         Ok(Some(Row { line, bytes }))
     } else {
         Ok(None)
@@ -153,15 +156,15 @@ fn cell_over_lines(cells: &ByteRecord) -> Option<&[u8]> {
     None
 }
 
-/// Makes the record of a row of a blank one. What is wrong with a cell is added to the faults. Answers whether each field of the
-/// key has its value.
-#[tactic(auto, using(crate::proofs::RecordLemmas::is_record))]
+/// Makes the record of a row of a blank one. What is wrong with a cell, and that the record isn't of the chosen type, is added to the
+/// faults. Answers whether each field of the key has its value.
+#[tactic(auto, using(crate::proofs::RecordLemmas::is_record, crate::proofs::RecordLemmas::key_or_told))]
 fn put_cells(
     alloc: Global,
+    order: &Order<'_>,
     columns: &Columns,
     cells: &ByteRecord,
     line: u64,
-    key: Option<KeyField>,
     bytes: &mut [u8],
     faults: &mut Faults,
 ) -> Result<bool, AllocError>
@@ -170,12 +173,61 @@ fn put_cells(
     requires filled { All (LiesIn (length bytes.old)) columns.now.filled.items }
     requires apart { LieApart columns.now.fields.items }
     requires counted { length (fields_of cells.now) ≡ length columns.now.fields.items }
-    ensures row { OnOk result (faults.new.count ≡ 0 → IsRecordOf (length bytes.old) columns.now.fields.items columns.now.filled.items (fields_of cells.now) bytes.new) }
+    ensures row { OnOk result (faults.new.count ≡ 0 → IsRecordOf (length bytes.old) columns.now.fields.items columns.now.filled.items order.now.chosen.now (fields_of cells.now) bytes.new) }
     ensures key { IfOk result (λ has_key. has_key ≡ true ⊎ (0 < faults.new.count)) }
     ensures before { OnOk result (faults.new.count ≡ 0 → faults.old.count ≡ 0) }
 {
     fill(&columns.filled, bytes);
-    take_cells(alloc, &columns.fields, cells, line, key, bytes, faults)
+    order.chosen.put_codes(bytes);
+    let has_key = take_cells(
+        alloc,
+        &columns.fields,
+        cells,
+        line,
+        order.key,
+        bytes,
+        faults,
+    )?;
+    tell_other_type(order.chosen, &columns.fields, line, bytes, faults)?;
+    Ok(has_key)
+}
+
+/// Adds to the faults that a record isn't of the chosen type, if it isn't.
+fn tell_other_type(
+    chosen: &ChosenRecords,
+    columns: &[Field],
+    line: u64,
+    bytes: &[u8],
+    faults: &mut Faults,
+) -> Result<(), AllocError>
+    ensures is_meant { OnOk result (faults.new.count ≡ 0 → is_chosen chosen.now bytes.now ≡ true) }
+    ensures before { OnOk result (faults.new.count ≡ 0 → faults.old.count ≡ 0) }
+{
+    match chosen.fault_in(bytes) {
+        None => Ok(()),
+        Some(fault) => {
+            faults.add(ValueFault {
+                line,
+                field: field_of(columns, fault),
+                reason: Reason::OtherType(fault),
+            })?;
+            Ok(())
+        }
+    }
+}
+
+/// The field that has the position of a code that a record lacks, if a column has one.
+fn field_of(columns: &[Field], fault: TypeFault) -> Option<Name> {
+    let TypeFault::Code(code, _) = fault else {
+        return None;
+    };
+    let place = u32::from(code.position.saturating_sub(1));
+    for field in columns {
+        if has_byte(field, place) {
+            return Some(field.name);
+        }
+    }
+    None
 }
 
 /// Puts the values of a row into the fields of a record. What is wrong with a cell is added to the faults. Answers whether each

@@ -33,7 +33,7 @@ pub fn read_table<R: Read + Drop>(
     reader: R,
     text: &[u8],
 ) -> Result<Vec<Row>, LoadFault>
-    ensures { IfOk result (λ rows. (text : List ℕ) → R.remaining reader ≡ Some text → IsTable text order.now.delimiter order.now.layout.now.record_length order.now.layout.now.fields.items order.now.fills order.now.key rows.items) }
+    ensures { IfOk result (λ rows. (text : List ℕ) → R.remaining reader ≡ Some text → IsTable text order.now.delimiter order.now.layout.now.record_length order.now.layout.now.fields.items order.now.fills order.now.chosen.now order.now.key rows.items) }
 {
     let mut table = reader_of(alloc, order.delimiter, reader);
     let mut cells = ByteRecord::new(alloc);
@@ -94,7 +94,7 @@ fn read_rows<R: Read + Drop>(
     requires apart { LieApart columns.now.fields.items }
     requires ready { Ready reader.old }
     requires untrimmed { reader_trim reader.old ≡ trim.None }
-    ensures rows { IfOk result (λ rows. faults.new.count ≡ 0 → (text : List ℕ) (heading : List (List ℕ)) → IsReading R.remaining (Some text) order.now.delimiter (heading ∷ []) reader.old → AreRowsOf text order.now.delimiter heading order.now.layout.now.record_length columns.now.fields.items columns.now.filled.items rows.items) }
+    ensures rows { IfOk result (λ rows. faults.new.count ≡ 0 → (text : List ℕ) (heading : List (List ℕ)) → IsReading R.remaining (Some text) order.now.delimiter (heading ∷ []) reader.old → AreRowsOf text order.now.delimiter heading order.now.layout.now.record_length columns.now.fields.items columns.now.filled.items order.now.chosen.now rows.items) }
     ensures before { OnOk result (faults.new.count ≡ 0 → faults.old.count ≡ 0) }
 {
     let mut rows: Vec<Row> = Vec::new(alloc);
@@ -125,7 +125,7 @@ fn read_row<R: Read + Drop>(
     requires apart { LieApart columns.now.fields.items }
     requires ready { Ready reader.old }
     requires untrimmed { reader_trim reader.old ≡ trim.None }
-    ensures adds { IfOk result (λ found. found ≡ true → faults.new.count ≡ 0 → AddsRow R.remaining order.now.layout.now.record_length columns.now.fields.items columns.now.filled.items reader.old reader.new rows.old.items rows.new.items) }
+    ensures adds { IfOk result (λ found. found ≡ true → faults.new.count ≡ 0 → AddsRow R.remaining order.now.layout.now.record_length columns.now.fields.items columns.now.filled.items order.now.chosen.now reader.old reader.new rows.old.items rows.new.items) }
     ensures end { IfOk result (λ found. found ≡ false → FindsEnd R.remaining reader.old reader.new rows.old.items rows.new.items) }
     ensures ready { OnOk result (Ready reader.new) }
     ensures untrimmed { OnOk result (reader_trim reader.new ≡ trim.None) }

@@ -16,6 +16,7 @@ pub mod TakeLemmas
 pub mod BeginLemmas
 pub mod ToldLemmas
 pub mod UnreadLemmas
+pub mod HeldLemmas
 pub mod HoldLemmas
 pub mod HoldingLemmas
 pub mod AnswerLemmas

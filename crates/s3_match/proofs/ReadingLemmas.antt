@@ -24,7 +24,7 @@ use Rattle.s3_match.specs.Inner.Keys.{key_in}
 use Rattle.s3_match.specs.Inner.Levels.{AreLevels}
 use Rattle.s3_match.specs.Inner.Heads.{no_file, file_at, is_unread, is_unread_standing, has_head, is_head_standing, input_of, IsInput}
 use Rattle.s3_match.specs.Inner.Selecting.{inputs_of, reading_of, selected_of, selected_at}
-use Rattle.s3_match.specs.Inner.Reading.{no_input, input_at, slots_of, bytes_at, is_unread_at, changed_at, head_with, IsReading, AreOnlyTypes, AreNumbersOf, AreLineNumbers, IsUnreadAt}
+use Rattle.s3_match.specs.Inner.Reading.{no_input, input_at, slots_of, bytes_at, is_unread_at, changed_at, head_with, IsReading, AreOnlyTypes, ArePlacesOf, AreLinePlaces, IsUnreadAt}
 use Rattle.s3_match.proofs.SelectLemmas.{with_standing}
 use Rattle.s3_match.proofs.SlotLemmas.{slot_kept}
 
@@ -54,15 +54,15 @@ slots_stay files k x y within there same =
     ∙ set-get_or (slots_of files) k 0
 
 pub still_sound : (program : Program) (old new : Reading) (k : ℕ) (x y : InputFile) → k < length old.files.items → x ≡ get_or old.files.items k x → new.files.items ≡ set old.files.items k y
-    → new.match_levels ≡ old.match_levels → new.control_levels ≡ old.control_levels → new.only_types ≡ old.only_types → new.type_numbers ≡ old.type_numbers → new.line_numbers ≡ old.line_numbers → y.file ≡ x.file → IsInput program y → IsReading program old → IsReading program new
+    → new.match_levels ≡ old.match_levels → new.control_levels ≡ old.control_levels → new.only_types ≡ old.only_types → new.type_places ≡ old.type_places → new.line_places ≡ old.line_places → y.file ≡ x.file → IsInput program y → IsReading program old → IsReading program new
 still_sound program old new k x y within there e matches controls types numbers lines same sound reading = record {
   inputs = subst (All (IsInput program)) (sym e) (All-set (IsInput program) old.files.items k y sound reading.inputs);
   slots = ap slots_of e ∙ slots_stay old.files.items k x y within there same ∙ reading.slots;
   match_levels = subst (AreLevels key.Match program) (sym matches) reading.match_levels;
   control_levels = subst (AreLevels key.Control program) (sym controls) reading.control_levels;
   only_types = subst (λ (xs : List (Option TypeStart)). AreOnlyTypes program xs) (sym (ap (λ v. v.items) types)) reading.only_types;
-  type_numbers = subst (λ (xs : List ℕ). AreNumbersOf program.inputs.items xs) (sym (ap (λ v. v.items) numbers)) reading.type_numbers;
-  line_numbers = subst (λ (xs : List ℕ). AreLineNumbers program.inputs.items xs) (sym (ap (λ v. v.items) lines)) reading.line_numbers;
+  type_places = subst (λ (xs : List ℕ). ArePlacesOf program.inputs.items xs) (sym (ap (λ v. v.items) numbers)) reading.type_places;
+  line_places = subst (λ (xs : List ℕ). AreLinePlaces program.inputs.items xs) (sym (ap (λ v. v.items) lines)) reading.line_places;
 }
 
 pub inputs_change : (program : Program) (files : List InputFile) (k : ℕ) (x y : InputFile) (change : meaning.InputFile → meaning.InputFile) → k < length files → x ≡ get_or files k x

@@ -1,13 +1,13 @@
 //! Control fields, held level by level.
 
-ghost use Rattle.std.specs.Prelude.{◌≡◌, ◌≤◌, ◌==◌, ◌&&◌, ℕ, not, length, IsTrue, Some, if◌then◌else◌};
+ghost use Rattle.std.specs.Prelude.{◌≡◌, ◌≤◌, ◌==◌, ◌&&◌, ℕ, not, IsTrue, Some, if◌then◌else◌};
 ghost use Rattle.s3_meaning.specs.Selection.{same_key};
 ghost use Rattle.s3_match.specs.Inner.Controls.{held_in};
 ghost use Rattle.s3_match.specs.Inner.Keys.{held_key};
 ghost use Rattle.s3_match.specs.Inner.LevelField.{compared_at, is_ranged};
 ghost use Rattle.s3_match.specs.Inner.Holding as spec;
 
-use crate::held::HeldField;
+use crate::held::{HeldField, HeldFields};
 use crate::keys::RecordKey;
 use crate::levels::{LEVELS, LevelField, LevelFields};
 
@@ -27,31 +27,29 @@ fn hold_field(held: &mut HeldField, value: &mut RecordKey, field: &LevelField, b
 
 /// Holds what the field of a level compares, and says whether it was another value that was held.
 fn hold_at(
-    held: &mut [HeldField],
+    held: &mut HeldFields,
     value: &mut RecordKey,
     level: u8,
     field: &LevelField,
     bytes: &[u8],
 ) -> bool
-    requires nine { length held.old ≡ 9 }
     requires from_one { 1 ≤ level }
     requires to_nine { level ≤ 9 }
     requires ranged { IsTrue (is_ranged field.now) }
     ensures breaks { result ≡ not (same_key (Some (compared_at bytes.now field.now)) (held_in held.old level)) }
     ensures held { (other : ℕ) → held_in held.new other ≡ (if other == level then Some (compared_at bytes.now field.now) else held_in held.old other) }
 {
-    hold_field(&mut held[(level - 1) as usize], value, field, bytes)
+    hold_field(&mut held.fields[(level - 1) as usize], value, field, bytes)
 }
 
 /// Holds the field of a level, if there is one, and says whether it was another value that was held.
 fn hold_level(
-    held: &mut [HeldField],
+    held: &mut HeldFields,
     value: &mut RecordKey,
     fields: &LevelFields,
     level: u8,
     bytes: &[u8],
 ) -> bool
-    requires nine { length held.old ≡ 9 }
     requires from_one { 1 ≤ level }
     requires to_nine { level ≤ 9 }
     ensures breaks { result ≡ spec.breaks_by fields.now.fields bytes.now (held_in held.old) level }
@@ -74,12 +72,11 @@ fn greatest(broken: u8, level: u8, breaks: bool) -> u8
 /// held; 0 if there is none.
 #[inline(never)]
 pub fn hold_fields(
-    held: &mut [HeldField],
+    held: &mut HeldFields,
     value: &mut RecordKey,
     fields: &LevelFields,
     bytes: &[u8],
 ) -> u8
-    requires { length held.old ≡ 9 }
     ensures { spec.AreHeld fields.now.fields bytes.now held.old held.new result }
 {
     let mut broken = 0;

@@ -13,7 +13,7 @@ ghost use Rattle.s3_match.specs.Inner.Levels.{AreFieldsOf, AreLevels};
 ghost use Rattle.s3_match.specs.Inner.Controls as spec;
 
 use crate::control_fields::hold_fields;
-use crate::held::HeldField;
+use crate::held::HeldFields;
 use crate::keys::RecordKey;
 use crate::levels::{LevelFields, Levels};
 use s3_program::starts::TypeStart;
@@ -32,8 +32,8 @@ pub fn makes_totals_due(levels: &Levels, start: TypeStart) -> bool
 /// The control fields that are held, with which those of the next record are compared.
 #[derive(Drop)]
 pub struct Controls {
-    /// What the control field of each of L1 to L9 compares, L1 first.
-    pub held: [HeldField; 9],
+    /// What the control field of each of L1 to L9 compares.
+    pub held: HeldFields,
     /// Room for what one control field of a record compares, while it is read.
     pub value: RecordKey,
 }
@@ -44,17 +44,7 @@ impl Controls {
         ensures { IfOk result (λ controls. (level : ℕ) → spec.held_in controls.held level ≡ None) }
     {
         Ok(Controls {
-            held: [
-                HeldField::none(),
-                HeldField::none(),
-                HeldField::none(),
-                HeldField::none(),
-                HeldField::none(),
-                HeldField::none(),
-                HeldField::none(),
-                HeldField::none(),
-                HeldField::none(),
-            ],
+            held: HeldFields::none(alloc)?,
             value: RecordKey::none(alloc)?,
         })
     }

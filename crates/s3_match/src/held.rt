@@ -2,9 +2,11 @@
 
 use crate::compared::{are_zoned_digits, field_bytes};
 use crate::keys::RecordKey;
-use crate::levels::LevelField;
+use crate::levels::{LEVELS, LevelField};
 use arrayvec::ArrayVec;
 use s3_lines::sheet::FieldForm;
+use std::alloc::{AllocError, Global};
+use std::marker::Model;
 
 /// The most bytes that a control field compares.
 pub const FIELD_BYTES: usize = 256;
@@ -72,5 +74,39 @@ impl HeldField {
                 self.is_same(value.bytes.as_slice())
             }
         }
+    }
+}
+
+/// What is held of the control fields of L1 to L9, L1 first. It is on the heap, so that a run that is moved doesn't copy it.
+#[derive(Drop)]
+pub struct HeldFields {
+    pub(crate) fields: Vec<HeldField>,
+}
+
+impl Model for HeldFields {
+    ghost use Rattle.std.specs.Prelude.{◌≡◌, List, length};
+    ghost use Rattle.s3_match.specs.declared.held.HeldField.{HeldField};
+
+    ghost Value = { List HeldField };
+
+    ghost view = { λ held. held.fields.items };
+
+    ghost invariant = { λ held. length held.fields.items ≡ 9 };
+}
+
+impl HeldFields {
+    ghost use Rattle.std.specs.Prelude.{◌≡◌, ℕ, IfOk, None};
+    ghost use Rattle.s3_match.specs.Inner.Controls.{held_in};
+
+    /// No control field is held; refused only if memory runs out.
+    #[tactic(auto, using(crate::proofs::HeldLemmas::none_more))]
+    pub fn none(alloc: Global) -> Result<HeldFields, AllocError>
+        ensures { IfOk result (λ held. (level : ℕ) → held_in held level ≡ None) }
+    {
+        let mut fields = Vec::with_capacity(alloc, LEVELS as usize)?;
+        for _ in 0..LEVELS {
+            fields.push(HeldField::none())?;
+        }
+        Ok(HeldFields { fields })
     }
 }

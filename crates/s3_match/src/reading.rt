@@ -4,7 +4,7 @@ ghost use Rattle.std.specs.Prelude.{List, [], ◌∷◌, ◌++◌, ◌≡◌, �
 ghost use Rattle.std.specs.Option.{option_or};
 ghost use Rattle.std.specs.List.{list_any};
 ghost use Rattle.s3_lines.specs.declared.sheet.Designation.TheVariants.{Primary};
-ghost use Rattle.s3_lines.specs.Indicators.{indicator_number};
+ghost use Rattle.s3_operations.specs.Inner.Places.{indicator_place};
 ghost use Rattle.s3_lines.specs.declared.sheet.InputLine.{InputLine as MeantLine};
 ghost use Rattle.s3_program.specs.declared.program.Reference.{Reference as MeantReference};
 ghost use Rattle.s3_meaning.specs.Cycle.{counted_read, first_reading};
@@ -21,7 +21,7 @@ ghost use Rattle.s3_match.specs.Inner.Heads.{ended, file_at, put as put_head};
 ghost use Rattle.s3_match.specs.Inner.Beginning.{IsFirst, AreFirst};
 ghost use Rattle.s3_match.specs.Inner.Keys.{key_in};
 ghost use Rattle.s3_match.specs.Inner.Reading as spec;
-ghost use Rattle.s3_match.specs.Inner.Reading.{IsReading, AreOnlyTypes, AreNumbersOf, AreLineNumbers, IsUnreadAt, AreRead, IsNextUnread, reading_in, changed_at, input_at, head_with};
+ghost use Rattle.s3_match.specs.Inner.Reading.{IsReading, AreOnlyTypes, ArePlacesOf, AreLinePlaces, IsUnreadAt, AreRead, IsNextUnread, reading_in, changed_at, input_at, head_with};
 ghost use Rattle.s3_match.specs.Inner.Selecting.{inputs_of, selected_at};
 ghost use Rattle.s3_match.specs.Inner.Types.{is_type_start, kind_at, name_of_file};
 
@@ -35,6 +35,7 @@ use s3_decimal::RECORD_BYTES;
 use s3_lines::indicator::Indicator;
 use s3_lines::sheet::{Designation, FileLine, InputLine};
 use s3_meaning::is_switch_on;
+use s3_operations::places::place_of;
 use s3_program::mark::Key;
 use s3_program::program::{Program, Reference};
 use s3_program::starts::TypeStart;
@@ -54,10 +55,10 @@ pub struct Reading {
     pub control_levels: Levels,
     /// For each file of the program, by slot, the type of all its records where its first type has no codes; else none.
     pub only_types: Vec<Option<TypeStart>>,
-    /// The numbers (`Indicator::number`) of all record identifying indicators of the program.
-    pub type_numbers: Vec<usize>,
-    /// For each line of the I sheet, the number of its record identifying indicator, 0 if it has none.
-    pub line_numbers: Vec<usize>,
+    /// The places (`place_of`) of all record identifying indicators of the program.
+    pub type_places: Vec<usize>,
+    /// For each line of the I sheet, the place of its record identifying indicator, 0 if it has none.
+    pub line_places: Vec<usize>,
 }
 
 /// Whether an indicator is on as a job begins: L0, 1P, and the switches as they are set, U1 the highest bit.
@@ -145,55 +146,55 @@ fn only_types(alloc: Global, program: &Program) -> Result<Vec<Option<TypeStart>>
     Ok(types)
 }
 
-/// Puts the number of a line's record identifying indicator behind the others, if it has one.
-fn add_number(numbers: &mut Vec<usize>, line: &InputLine<Reference>) -> Result<(), AllocError>
-    ensures { IfOk result (λ done. (lines : List (MeantLine MeantReference)) → AreNumbersOf lines numbers.old.items → AreNumbersOf (lines ++ line.now ∷ []) numbers.new.items) }
+/// Puts the place of a line's record identifying indicator after the others, if it has one.
+fn add_place(places: &mut Vec<usize>, line: &InputLine<Reference>) -> Result<(), AllocError>
+    ensures { IfOk result (λ done. (lines : List (MeantLine MeantReference)) → ArePlacesOf lines places.old.items → ArePlacesOf (lines ++ line.now ∷ []) places.new.items) }
 {
     if let Some(indicator) = indicator_on(line) {
-        numbers.push(indicator.number())?;
+        places.push(place_of(indicator))?;
     }
     Ok(())
 }
 
-/// The numbers of the record identifying indicators.
-fn type_numbers(alloc: Global, program: &Program) -> Result<Vec<usize>, AllocError>
-    ensures { IfOk result (λ numbers. AreNumbersOf program.now.inputs.items numbers.items) }
+/// The places of the record identifying indicators.
+fn type_places(alloc: Global, program: &Program) -> Result<Vec<usize>, AllocError>
+    ensures { IfOk result (λ places. ArePlacesOf program.now.inputs.items places.items) }
 {
-    let mut numbers = Vec::new(alloc);
+    let mut places = Vec::new(alloc);
     for line in &program.inputs {
-        add_number(&mut numbers, line)?;
+        add_place(&mut places, line)?;
     }
-    Ok(numbers)
+    Ok(places)
 }
 
-/// The number of a line's record identifying indicator, 0 if it has none.
-fn number_on(line: &InputLine<Reference>) -> usize
-    ensures number { result ≡ spec.number_on line.now }
-    ensures within { result < 2048 }
+/// The place of a line's record identifying indicator, 0 if it has none.
+fn place_on(line: &InputLine<Reference>) -> usize
+    ensures place { result ≡ spec.place_on line.now }
+    ensures within { result < 1600 }
 {
     match indicator_on(line) {
-        Some(indicator) => indicator.number(),
+        Some(indicator) => place_of(indicator),
         None => 0,
     }
 }
 
-/// Puts the number of a line's record identifying indicator behind those of the lines before.
-fn add_line_number(numbers: &mut Vec<usize>, line: &InputLine<Reference>) -> Result<(), AllocError>
-    ensures { IfOk result (λ done. (lines : List (MeantLine MeantReference)) → AreLineNumbers lines numbers.old.items → AreLineNumbers (lines ++ line.now ∷ []) numbers.new.items) }
+/// Puts the place of a line's record identifying indicator after those of the lines before.
+fn add_line_place(places: &mut Vec<usize>, line: &InputLine<Reference>) -> Result<(), AllocError>
+    ensures { IfOk result (λ done. (lines : List (MeantLine MeantReference)) → AreLinePlaces lines places.old.items → AreLinePlaces (lines ++ line.now ∷ []) places.new.items) }
 {
-    numbers.push(number_on(line))?;
+    places.push(place_on(line))?;
     Ok(())
 }
 
-/// By lines of the I sheet, the number of each one's record identifying indicator.
-fn line_numbers(alloc: Global, program: &Program) -> Result<Vec<usize>, AllocError>
-    ensures { IfOk result (λ numbers. AreLineNumbers program.now.inputs.items numbers.items) }
+/// By lines of the I sheet, the place of each one's record identifying indicator.
+fn line_places(alloc: Global, program: &Program) -> Result<Vec<usize>, AllocError>
+    ensures { IfOk result (λ places. AreLinePlaces program.now.inputs.items places.items) }
 {
-    let mut numbers = Vec::new(alloc);
+    let mut places = Vec::new(alloc);
     for line in &program.inputs {
-        add_line_number(&mut numbers, line)?;
+        add_line_place(&mut places, line)?;
     }
-    Ok(numbers)
+    Ok(places)
 }
 
 /// Keeps the key of a primary record with match fields.
@@ -222,8 +223,8 @@ impl Reading {
             match_levels: Levels::of(alloc, program, Key::Match)?,
             control_levels: Levels::of(alloc, program, Key::Control)?,
             only_types: only_types(alloc, program)?,
-            type_numbers: type_numbers(alloc, program)?,
-            line_numbers: line_numbers(alloc, program)?,
+            type_places: type_places(alloc, program)?,
+            line_places: line_places(alloc, program)?,
         })
     }
 
@@ -262,14 +263,14 @@ impl Reading {
         type_of(program, file, bytes)
     }
 
-    /// The number (`Indicator::number`) of the record identifying indicator of a type.
-    pub fn number_of(&self, program: &Program, start: TypeStart) -> usize
+    /// The place (`place_of`) of the record identifying indicator of a type.
+    pub fn place_of(&self, program: &Program, start: TypeStart) -> usize
         requires sound { IsReading program.now self.now }
         requires starts { IsTrue (is_type_start program.now start) }
-        ensures number { result ≡ indicator_number (kind_at program.now start).indicator }
-        ensures within { result < 2048 }
+        ensures place { result ≡ indicator_place (kind_at program.now start).indicator }
+        ensures within { result < 1600 }
     {
-        self.line_numbers[start.place]
+        self.line_places[start.place]
     }
 
     /// The type of the record at the head of the file at a place.

@@ -116,11 +116,11 @@ ok_of file = Ok file
 
 pub opened_gives : (line : FileLine) (is_master : Bool) (label : FileLabel) (contents : List (List ℕ)) (opened : Option OpenFile) (file : OpenFile) → opened ≡ Some file → line_refusal line is_master label ≡ None
     → (kept_on label contents).has_good_index ≡ is_some opened
-    → IfSome opened (λ file. file ≡ record file { name = line.name; label = label; is_master = is_master; is_made = false; read = 0; chained = None })
+    → IfSome opened (λ file. file ≡ record file { name = line.name; label = label; is_master = is_master; is_made = false; read = 0; updates = 0; chained = None })
     → tested_standing line is_master label contents ≡ Ok (job_file_of file)
 opened_gives line is_master label contents opened file there allowed good is =
-    let shown : file ≡ record file { name = line.name; label = label; is_master = is_master; is_made = false; read = 0; chained = None } =
-    subst (λ o. IfSome o (λ file. file ≡ record file { name = line.name; label = label; is_master = is_master; is_made = false; read = 0; chained = None })) there is in
+    let shown : file ≡ record file { name = line.name; label = label; is_master = is_master; is_made = false; read = 0; updates = 0; chained = None } =
+    subst (λ o. IfSome o (λ file. file ≡ record file { name = line.name; label = label; is_master = is_master; is_made = false; read = 0; updates = 0; chained = None })) there is in
     none_refused line is_master label contents allowed (ap halt_unless_good (good ∙ ap is_some there)) ∙ ap (λ (f : OpenFile). ok_of (job_file_of f)) (sym shown)
 
 pub bad_gives : (line : FileLine) (is_master : Bool) (label : FileLabel) (contents : List (List ℕ)) (opened : Option OpenFile) → opened ≡ None → line_refusal line is_master label ≡ None

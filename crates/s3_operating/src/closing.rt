@@ -126,11 +126,21 @@ impl<'a> Levels<'a> {
     /// The summary of both levels.
     fn summary(&self, one: Ended, two: Ended) -> Message {
         let mut message = Message::new(self.alloc);
-        push_summary(&mut message, &self.one, one);
+        self.push_closing(&mut message, &self.one, one);
         self.push_turns(&mut message, one);
-        push_summary(&mut message, &self.two, two);
+        self.push_closing(&mut message, &self.two, two);
         self.push_turns(&mut message, two);
         message
+    }
+
+    /// Appends how a level ended, and its jobs.
+    fn push_closing(&self, message: &mut Message, seat: &Seat<'_>, ended: Ended) {
+        let from = if self.settings.saves_unfinished {
+            ": take up at "
+        } else {
+            ": from "
+        };
+        push_summary(message, seat, ended, from);
     }
 
     /// Appends how many turns a level may take, and what to do, if it was stopped by that.
@@ -145,11 +155,11 @@ impl<'a> Levels<'a> {
     }
 }
 
-/// Appends how a level ended, and its jobs.
-fn push_summary(message: &mut Message, seat: &Seat<'_>, ended: Ended) {
+/// Appends how a level ended, and its jobs. The words `from` come before the line at which what is left begins.
+fn push_summary(message: &mut Message, seat: &Seat<'_>, ended: Ended, from: &str) {
     message.push_level(seat.level);
     message.push(": ");
-    push_end(message, seat, ended.end);
+    push_end(message, seat, ended.end, from);
     if ended.is_done() {
         push_counts(message, seat, ended.lines);
     }
@@ -173,19 +183,19 @@ fn push_counts(message: &mut Message, seat: &Seat<'_>, lines: usize) {
     message.push_counted(seat.halts, "halt");
 }
 
-fn push_end(message: &mut Message, seat: &Seat<'_>, end: LevelEnd) {
+fn push_end(message: &mut Message, seat: &Seat<'_>, end: LevelEnd, from: &str) {
     match end {
         LevelEnd::Done => message.push("done"),
         LevelEnd::Unread => message.push("its deck can't be read"),
-        LevelEnd::Halted => push_where(message, seat, "halted"),
-        LevelEnd::Stopped => push_where(message, seat, "stopped"),
-        LevelEnd::CutByTurns => push_where(message, seat, "cut by --turns"),
-        LevelEnd::CutByLines => push_where(message, seat, "cut by --lines"),
+        LevelEnd::Halted => push_where(message, seat, "halted", from),
+        LevelEnd::Stopped => push_where(message, seat, "stopped", from),
+        LevelEnd::CutByTurns => push_where(message, seat, "cut by --turns", from),
+        LevelEnd::CutByLines => push_where(message, seat, "cut by --lines", from),
     }
 }
 
 /// Appends where a level is that isn't done, and what is left of its deck.
-fn push_where(message: &mut Message, seat: &Seat<'_>, how: &str) {
+fn push_where(message: &mut Message, seat: &Seat<'_>, how: &str, from: &str) {
     message.push(how);
     if let Some(code) = seat.waits {
         message.push(" at ");
@@ -194,15 +204,12 @@ fn push_where(message: &mut Message, seat: &Seat<'_>, how: &str) {
     match open_job(&seat.ledger) {
         Some(job) => {
             push_left_with_this(message, &seat.ledger);
-            push_taking_up(message, seat, Some(job.card));
+            push_first_left(message, seat, Some(job.card), from);
         }
         None => {
             push_left(message, seat.ledger.jobs_left() as u64);
-            push_taking_up(
-                message,
-                seat,
-                seat.ledger.first_card(seat.ledger.begun().len()),
-            );
+            let first = seat.ledger.first_card(seat.ledger.begun().len());
+            push_first_left(message, seat, first, from);
         }
     }
 }
@@ -237,13 +244,13 @@ fn push_left(message: &mut Message, left: u64) {
     message.push(if left == 1 { " is left" } else { " are left" });
 }
 
-/// Appends at which line the day may be taken up.
-fn push_taking_up(message: &mut Message, seat: &Seat<'_>, first: Option<usize>) {
+/// Appends at which line the first job begins that is left.
+fn push_first_left(message: &mut Message, seat: &Seat<'_>, first: Option<usize>, from: &str) {
     if let Some(card) = first
         && let Some(deck) = seat.places()
         && let Some(place) = deck.place_of(card).place
     {
-        message.push(": take up at ");
+        message.push(from);
         message.push_file_place(place);
     }
 }

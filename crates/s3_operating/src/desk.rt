@@ -81,6 +81,8 @@ pub struct Settings<'a> {
     pub questioned: Questioned,
     /// The day isn't begun where a deck can't be read.
     pub wants_decks: bool,
+    /// The pack is saved even if a level isn't done, so that the day can be taken up at a line.
+    pub saves_unfinished: bool,
 }
 
 /// The operator of the command, over a reader of replies, a writer of messages, files for script and log, and a clock.

@@ -13,7 +13,7 @@ use Rattle.s3_lines.specs.Ranges.{is_record_indicator}
 use Rattle.s3_lines.specs.Inner.Ranges.{input_in_range}
 use Rattle.s3_meaning.specs.Names.{same_indicator}
 use Rattle.s3_meaning.specs.Selection.{is_level_to}
-use Rattle.s3_meaning.specs.Environment.{Environment, is_level}
+use Rattle.s3_meaning.specs.Environment.{Environment}
 use Rattle.s3_program.specs.declared.program.Program.{Program}
 use Rattle.s3_program.specs.declared.program.Reference.{Reference}
 use Rattle.s3_program.specs.Tables.{Tables}
@@ -82,16 +82,6 @@ level_more k other to v w before =
     next FirstPage = refl
     next (Overflow n) = refl
     next (Switch n) = refl
-
-pub all_levels : (other : Indicator) → is_level_to 9 other ≡ is_level other
-all_levels (General n) = refl
-all_levels (Level n) = grind (arith, nat_tests)
-all_levels LastRecord = refl
-all_levels Matching = refl
-all_levels (Halt n) = refl
-all_levels FirstPage = refl
-all_levels (Overflow n) = refl
-all_levels (Switch n) = refl
 
 pub raised_to : (a v : Bool) → (if a then true else v) ≡ (a || v)
 raised_to true v = refl

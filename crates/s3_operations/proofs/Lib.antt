@@ -7,7 +7,9 @@ pub mod IndicatingLemmas
 pub mod LayingLemmas
 pub mod MarkLemmas
 pub mod OrderLemmas
+pub mod PlaceLemmas
 pub mod SpanLemmas
 pub mod TextLemmas
 pub mod TextPutLemmas
 pub mod ValueLemmas
+pub mod WordLemmas

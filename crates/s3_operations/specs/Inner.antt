@@ -6,8 +6,9 @@ pub mod Groups
 pub mod Held
 pub mod Indicating
 pub mod Indicators
-pub mod Mirrored
+pub mod Places
 pub mod Constants
 pub mod Moves
 pub mod Performing
 pub mod Texts
+pub mod Words

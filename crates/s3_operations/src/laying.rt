@@ -3,7 +3,7 @@ ghost use Rattle.std.specs.Prelude.{◌≡◌, ◌≤◌, ◌+◌, ◌-◌, ◌*
 ghost use Rattle.std.specs.List.{copy_within};
 
 /// So many characters of a text, from a place on.
-fn part<const N: usize>(text: &[u8], at: usize) -> [u8; N]
+pub(crate) fn part<const N: usize>(text: &[u8], at: usize) -> [u8; N]
     requires { at + N ≤ length text.now }
     ensures { result ≡ take N (drop at text.now) }
 {
@@ -47,12 +47,14 @@ fn lay_whole(target: &mut [u8], text: &[u8])
     target.copy_from_slice(text);
 }
 
-/// Lays a text over another one as long: one of 4 to 32 bytes by its two ends, which may lie over each other.
+/// Lays a text over another one as long: one of 1 to 32 bytes by its two ends, which may lie over each other.
 pub fn lay(target: &mut [u8], text: &[u8])
     requires { length target.old ≡ length text.now }
     ensures { target.new ≡ text.now }
 {
     match text.len() {
+        1 => lay_by_ends::<1>(target, text),
+        2..=3 => lay_by_ends::<2>(target, text),
         4..=7 => lay_by_ends::<4>(target, text),
         8..=16 => lay_by_ends::<8>(target, text),
         17..=32 => lay_by_ends::<16>(target, text),
@@ -81,6 +83,8 @@ pub fn lay_within(bytes: &mut [u8], from: usize, end: usize, to: usize)
     ensures { bytes.new ≡ copy_within bytes.old from end to }
 {
     match end - from {
+        1 => lay_within_by_ends::<1>(bytes, from, end, to),
+        2..=3 => lay_within_by_ends::<2>(bytes, from, end, to),
         4..=7 => lay_within_by_ends::<4>(bytes, from, end, to),
         8..=16 => lay_within_by_ends::<8>(bytes, from, end, to),
         17..=32 => lay_within_by_ends::<16>(bytes, from, end, to),

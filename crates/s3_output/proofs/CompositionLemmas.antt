@@ -4,7 +4,7 @@ use Rattle.std.specs.Prelude.{Option, Some, None, is_some, unwrap_or, replicate,
 use Rattle.std.proofs.lemmas.List.{map-append, length-map, length-append, length-drop, length-take-le, take-take, take-map, drop-map, drop-take, length-replicate}
 use Rattle.s3_cards.specs.declared.ebcdic.TheConstants.{BLANK}
 use Rattle.s3_meaning.specs.Output.{filled, laid}
-use Rattle.s3_output.specs.Inner.Compositions.{first_position, position, positions_in, positions_on}
+use Rattle.s3_output.specs.Inner.Compositions.{IsComposed, first_position, position, positions_in, positions_on}
 
 none_on : (puts : List Bool) → positions_on puts [] ≡ []
 none_on [] = refl
@@ -203,7 +203,34 @@ ends_within n end told puts codes now code_size put_size few view ends =
     let inside : end ≤ n = subst (λ k. end ≤ k) (ap length (sym view) ∙ view_length n told puts codes same whole) ends in
     record { same = same; within = inside; whole = whole; inside = omega (arith, inside, whole) }
 
--- ---- one position
+-- a content is laid over the record in its place
+pub record IsLaid (n end : ℕ) (told : Bool) (puts : List Bool) (codes content : List ℕ) (now : List (Option ℕ)) : Type 0 where
+  pub composed : IsComposed n told puts codes
+  pub view : take n (positions_in told puts codes) ≡ laid end content now
+  pub size : length (take n (positions_in told puts codes)) ≡ length now
+
+pub is_laid : (n end count : ℕ) (told : Bool) (puts puts_now puts' : List Bool) (codes codes_now codes' content : List ℕ) (now : List (Option ℕ)) → IsComposed n told puts codes → take n (positions_in told puts codes) ≡ now
+    → count ≡ length content → count ≤ end → end ≤ length now → codes_now ≡ codes → puts_now ≡ puts → codes' ≡ take (end - length content) codes_now ++ content ++ drop end codes_now
+    → (told ≡ true → puts' ≡ take (end - count) puts_now ++ replicate count true ++ drop end puts_now) → length codes' ≡ length codes_now → length puts' ≡ length puts_now → IsLaid n end told puts' codes' content now
+is_laid n end count told puts puts_now puts' codes codes_now codes' content now composed view counts begins ends codes_same puts_same codes_are puts_are codes_long puts_long =
+    let w : EndsWithin n end puts codes = ends_within n end told puts codes now composed.codes_size composed.puts_size composed.short view ends in
+    let codes_is : codes' ≡ take (end - length content) codes ++ content ++ drop end codes =
+    subst (λ (xs : List ℕ). codes' ≡ take (end - length content) xs ++ content ++ drop end xs) codes_same codes_are in
+    let puts_is : told ≡ true → puts' ≡ take (end - count) puts ++ replicate count true ++ drop end puts =
+    subst (λ (xs : List Bool). told ≡ true → puts' ≡ take (end - count) xs ++ replicate count true ++ drop end xs) puts_same puts_are in
+    let is : take n (positions_in told puts' codes') ≡ laid end content now =
+    lay_view n told puts puts' codes codes' content end count counts w.same begins w.within w.whole codes_is puts_is ∙ ap (laid end content) view in
+    record {
+      composed = record {
+        short = composed.short;
+        codes_size = codes_long ∙ (ap length codes_same ∙ composed.codes_size);
+        puts_size = puts_long ∙ (ap length puts_same ∙ composed.puts_size);
+        blanks = lay_filled n told puts puts' codes codes' content end count counts w.same begins w.within w.whole codes_is puts_is composed.blanks;
+      };
+      view = is;
+      size = ap length is ∙ length_laid end content now (subst (λ k. k ≤ end) counts begins) ends;
+    }
+
 -- ---- marks
 is_put : (puts : List Bool) (codes : List ℕ) → length puts ≡ length codes → map is_some (positions_on puts codes) ≡ puts
 is_put [] codes same = refl

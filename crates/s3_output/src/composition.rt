@@ -1,13 +1,14 @@
 //! A record as it is composed.
-ghost use Rattle.std.specs.Prelude.{◌≡◌, ◌+◌, ◌-◌, ◌*◌, ◌≤◌, ◌<◌, ◌++◌, List, ℕ, Option, Some, true, false, is_some, length, map, take, drop, replicate, slice_get};
+ghost use Rattle.std.specs.Prelude.{◌≡◌, ◌+◌, ◌-◌, ◌*◌, ◌≤◌, ◌<◌, ◌++◌, List, ℕ, Option, Some, IfOk, true, false, is_some, length, map, take, drop, replicate, slice_get};
 ghost use Rattle.s3_cards.specs.declared.ebcdic.TheConstants.{BLANK};
 ghost use Rattle.s3_meaning.specs.Output.{filled, laid};
-ghost use Rattle.s3_output.specs.Inner.Compositions.{positions_in, are_filled, first_position};
+ghost use Rattle.s3_output.specs.Inner.Compositions.{IsComposed, positions_in, first_position};
 ghost use Rattle.s3_output.specs.Inner.Numbers.{FitsNumber, number_of};
 
 use crate::numbers::{NumberForm, put_number};
 use s3_cards::ebcdic::BLANK;
 use s3_operations::laying::lay;
+use std::alloc::{AllocError, Global};
 use std::marker::Model;
 
 /// The longest record, in bytes.
@@ -19,13 +20,14 @@ const LONGEST_PRINT_LINE: usize = 132;
 /// Something is put everywhere.
 static ALL_PUT: [bool; LONGEST_RECORD] = [true; LONGEST_RECORD];
 
-/// A record as it is composed, of up to 1,024 positions: what is put at each of them, if anything is.
+/// A record as it is composed, of up to 1,024 positions: what is put at each of them, if anything is. Its positions are on the
+/// heap, so that a run that is moved doesn't copy them.
 #[derive(Drop)]
 pub struct Composition {
     /// A blank where nothing is put.
-    codes: [u8; LONGEST_RECORD],
+    codes: Box<[u8; LONGEST_RECORD]>,
     /// Where something is put, if that is told.
-    put: [bool; LONGEST_RECORD],
+    put: Box<[bool; LONGEST_RECORD]>,
     length: usize,
     /// It is told where something is put; else a blank is put wherever nothing else is.
     is_told: bool,
@@ -34,9 +36,9 @@ pub struct Composition {
 impl Model for Composition {
     ghost Value = { List (Option ℕ) };
 
-    ghost view = { λ c. take c.length (positions_in c.is_told c.put c.codes) };
+    ghost view = { λ c. take c.length (positions_in c.is_told c.put.value c.codes.value) };
 
-    ghost invariant = { λ c. (c.length ≤ 1024) × are_filled c.length c.is_told c.put c.codes };
+    ghost invariant = { λ c. IsComposed c.length c.is_told c.put.value c.codes.value };
 }
 
 /// Lays a content over a text, up to an end position.
@@ -105,7 +107,8 @@ fn mark(put: &mut [bool], is_told: bool, end: usize, count: usize)
 /// Makes the first positions of a text blank; as many as a printed line has are so in few steps.
 fn blank(codes: &mut [u8; LONGEST_RECORD], count: usize)
     requires { count ≤ length codes.old }
-    ensures { take count codes.new ≡ replicate count BLANK }
+    ensures whole { length codes.new ≡ 1024 }
+    ensures blanks { take count codes.new ≡ replicate count BLANK }
 {
     if count <= LONGEST_PRINT_LINE {
         codes[..LONGEST_PRINT_LINE].fill(BLANK);
@@ -125,16 +128,16 @@ fn unmark(put: &mut [bool], is_told: bool, count: usize)
 }
 
 impl Composition {
-    /// No record yet.
-    pub fn new() -> Composition
-        ensures { length result ≡ 0 }
+    /// No record yet; refused only if memory runs out.
+    pub fn new(alloc: Global) -> Result<Composition, AllocError>
+        ensures { IfOk result (λ composition. length composition ≡ 0) }
     {
-        Composition {
-            codes: [BLANK; LONGEST_RECORD],
-            put: [false; LONGEST_RECORD],
+        Ok(Composition {
+            codes: Box::new(alloc, [BLANK; LONGEST_RECORD])?,
+            put: Box::new(alloc, [false; LONGEST_RECORD])?,
             length: 0,
             is_told: false,
-        }
+        })
     }
 
     /// Begins a record of a length: one in which nothing is put yet, or, where that needn't be told, one of blanks.
@@ -142,8 +145,8 @@ impl Composition {
         requires { length ≤ 1024 }
         ensures { self.new ≡ replicate length (first_position is_told) }
     {
-        blank(&mut self.codes, length);
-        unmark(&mut self.put, is_told, length);
+        blank(self.codes.as_mut(), length);
+        unmark(self.put.as_mut(), is_told, length);
         self.length = length;
         self.is_told = is_told;
     }
@@ -156,8 +159,8 @@ impl Composition {
         ensures size { length self.new ≡ length self.old }
         ensures value { self.new ≡ laid end content.now self.old }
     {
-        overlay(&mut self.codes, end, content);
-        mark(&mut self.put, self.is_told, end, content.len());
+        overlay(self.codes.as_mut(), end, content);
+        mark(self.put.as_mut(), self.is_told, end, content.len());
     }
 
     /// Lays a number over the record, up to an end position, as its field is put out.
@@ -168,15 +171,8 @@ impl Composition {
         ensures size { length self.new ≡ length self.old }
         ensures value { self.new ≡ laid end (number_of number form.now) self.old }
     {
-        overlay_number(&mut self.codes, end, number, form);
-        mark(&mut self.put, self.is_told, end, form.width);
-    }
-
-    /// How many positions the record has.
-    pub fn length(&self) -> usize
-        ensures { result ≡ length self.now }
-    {
-        self.length
+        overlay_number(self.codes.as_mut(), end, number, form);
+        mark(self.put.as_mut(), self.is_told, end, form.width);
     }
 
     /// The record as it is put out, blank where nothing is put.

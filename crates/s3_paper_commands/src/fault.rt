@@ -61,9 +61,10 @@ impl<'a> CommandFault<'a> {
         ensures { result ≤ 3 }
     {
         match self {
-            CommandFault::File(_, _) | CommandFault::TooLarge(_) | CommandFault::Output(_) => {
-                FILE_FAILED
-            }
+            CommandFault::File(_, _)
+            | CommandFault::TooLarge(_)
+            | CommandFault::Output(_)
+            | CommandFault::Stream(_, StandardStream::Error) => FILE_FAILED,
             CommandFault::NoMemory | CommandFault::Pack(_) | CommandFault::Stream(_, _) => REFUSED,
         }
     }
@@ -97,6 +98,8 @@ impl<'a> CommandFault<'a> {
                     "bureau: {name} is a pack, not a deck; give a file with the cards of jobs"
                 )
             }
+            // A line would get into the file.
+            CommandFault::Stream(_, StandardStream::Error) => Ok(()),
             CommandFault::Stream(name, stream) => {
                 let (name, stream) = (Shown(*name), stream.name());
                 writeln!(

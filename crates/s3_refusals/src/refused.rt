@@ -58,15 +58,25 @@ pub struct Refused<'a> {
 
 impl<'a> Refused<'a> {
     /// Writes the line of a refusal, and gives its exit status. At a terminal further lines say in words which file failed, why, and
-    /// what to do.
+    /// what to do. Nothing is written if the file in error is also standard error: it would get into that file.
     pub fn tell<W: Write>(&self, writer: &mut W, is_terminal: bool) -> u8
         ensures { result ≡ status_of self.now.fault }
     {
+        if self.is_about_standard_error() {
+            return self.fault.status();
+        }
         let status = tell(writer, &self.fault);
         if is_terminal {
             let _ = self.explain(writer);
         }
         status
+    }
+
+    fn is_about_standard_error(&self) -> bool {
+        matches!(
+            self.work,
+            Work::File(_, FileWork::Stream(StandardStream::Error))
+        )
     }
 
     fn explain<W: Write>(&self, writer: &mut W) -> io::Result<()> {

@@ -1,5 +1,5 @@
 -- What the calls on one open file answer.
-use Rattle.std.specs.Prelude.{◌≡◌, ℕ, Bool, List, Option, Some, None, Result, Ok, Err, if◌then◌else◌}
+use Rattle.std.specs.Prelude.{◌≡◌, ◌+◌, ℕ, min, Bool, List, Option, Some, None, Result, Ok, Err, if◌then◌else◌}
 use Rattle.s3_operator.specs.declared.halt_code.HaltCode.{HaltCode}
 use Rattle.s3_meaning.specs.Requests.{Answer, Done, Refused}
 use Rattle.s3_job_files.specs.declared.records.Put.{Put}
@@ -21,3 +21,8 @@ put_answer (PutRefused code) = Refused code
 abbrev pub Puts : Result (List (List ℕ)) HaltCode → Put → (old new : List (List ℕ)) → Type 0
 Puts meant PutDone old new = meant ≡ Ok new
 Puts meant (PutRefused code) old new = (meant ≡ Err code) × (new ≡ old)
+
+-- how many updates a file has had after one more was tried, as far as 32 bits count
+abbrev pub updates_after : Put → (before : ℕ) → ℕ
+updates_after PutDone before = min (before + 1) 4294967295
+updates_after (PutRefused _) before = before

@@ -1,11 +1,14 @@
 -- What a layout has of a source.
-use Rattle.std.specs.Prelude.{◌≡◌, List, Ok, Option}
+use Rattle.std.specs.Prelude.{◌≡◌, List, Ok, Option, filter_map}
 use Rattle.s3_lines.specs.declared.indicator.Indicator.{Indicator}
 use Rattle.s3_lines.specs.declared.sheet.FileLine.{FileLine}
 use Rattle.s3_lines.specs.declared.sheet.Line.{Line}
+use Rattle.s3_meaning.specs.RecordTypes.{types_of}
+use Rattle.s3_meaning.specs.Source.{input_line}
 use Rattle.s3_layout.specs.Inner.Columns.{AreFieldsOf}
 use Rattle.s3_layout.specs.Inner.Entries.{chosen_type, entries_from, first, types_from}
 use Rattle.s3_layout.specs.Inner.Files.{chosen_file}
+use Rattle.s3_layout.specs.Inner.Kinds.{AreChosen, kinds_in}
 use Rattle.s3_layout.specs.declared.choosing.Choice.{Choice}
 use Rattle.s3_layout.specs.declared.reading.SourceLayout.{SourceLayout}
 
@@ -18,3 +21,4 @@ pub record IsLayoutOf (choice : Choice) (lines : List Line) (found : SourceLayou
   pub record_length : found.layout.record_length ≡ file.record_length
   pub fields : AreFieldsOf file.record_length (entries_from file.name record_type first lines) found.layout.fields.items
   pub key : found.key ≡ file.key
+  pub records : AreChosen choice.record_type (kinds_in file.name (types_of (filter_map input_line lines))) found.records

@@ -181,7 +181,7 @@ pub record HasFile (order : Order) (added : List (List ℕ)) (header : Header) (
 -- The pack has the records of a table in the file that is asked for, if the bytes of the table are known.
 pub record IsLoaded (order : Order) (text : Option (List ℕ)) (old new : List (List ℕ)) : Type 0 where
   pub rows : List Row
-  pub table : (bytes : List ℕ) → text ≡ Some bytes → IsTable bytes order.delimiter order.layout.now.record_length order.layout.now.fields.items order.fills order.key rows
+  pub table : (bytes : List ℕ) → text ≡ Some bytes → IsTable bytes order.delimiter order.layout.now.record_length order.layout.now.fields.items order.fills order.chosen.now order.key rows
   pub header : Header
   pub mounts : mounted old ≡ Ok header
   pub filled : HasFile order (records_of rows) header old new

@@ -1,19 +1,22 @@
 -- Records, as rows of a table give them.
-use Rattle.std.specs.Prelude.{◌≡◌, ℕ, ◌<◌, false, List, [], length, get_or, take, replicate}
+use Rattle.std.specs.Prelude.{◌≡◌, ℕ, ◌<◌, true, false, List, [], length, get_or, take, replicate}
 use Rattle.std.specs.List.{fold}
 use Rattle.s3_cards.specs.declared.ebcdic.TheConstants.{BLANK}
 use Rattle.s3_cells.specs.Inner.Fields.{field_bytes, zeroed}
 use Rattle.s3_cells.specs.Inner.Values.{GetsValue, IsAsWritten}
 use Rattle.s3_cells.specs.declared.field.Field.{Field}
+use Rattle.s3_record_types.specs.Inner.Chosen.{codes_of, is_chosen}
+use Rattle.s3_record_types.specs.Inner.Codes.{with_codes}
+use Rattle.s3_record_types.specs.declared.chosen.ChosenRecords.{ChosenRecords}
 use Rattle.s3_load.specs.Inner.Columns.{is_inside}
 
 -- a record in which each number of these has 0
 abbrev pub with_zeros : List ℕ → List Field → List ℕ
 with_zeros bytes fields = fold zeroed bytes fields
 
--- a record before its row is read: blank, but for the numbers that are filled
-abbrev pub empty_record : (record_length : ℕ) → (filled : List Field) → List ℕ
-empty_record record_length filled = with_zeros (replicate record_length BLANK) filled
+-- a record before its row is read: blank, except for the numbers that are filled and the codes of the type that is chosen
+abbrev pub empty_record : (record_length : ℕ) → (filled : List Field) → ChosenRecords → List ℕ
+empty_record record_length filled chosen = with_codes (with_zeros (replicate record_length BLANK) filled) (codes_of chosen)
 
 -- The first so many cells have put their values into a record: each field has that of its cell, and the bytes that are of none of
 -- them are as they were.
@@ -22,13 +25,14 @@ pub record HasTaken (columns : List Field) (cells : List (List ℕ)) (old : List
   pub said : (k : ℕ) (d : Field) → k < count → GetsValue (get_or columns k d).kind (get_or cells k []) (get_or columns k d).width (field_bytes (get_or columns k d) new)
   pub rest : (place : ℕ) → is_inside (take count columns) place ≡ false → get_or new place 0 ≡ get_or old place 0
 
--- It is the record of a row: the field of each column has the value of its cell, and the other bytes are blank, but for the numbers
--- that are filled, which have 0.
-pub record IsRecordOf (record_length : ℕ) (columns filled : List Field) (cells : List (List ℕ)) (bytes : List ℕ) : Type 0 where
+-- It is the record of a row: the field of each column has the value of its cell, and the other bytes are blank, except for the
+-- numbers that are filled, which have 0, and the codes of the type that is chosen. The record is of that type.
+pub record IsRecordOf (record_length : ℕ) (columns filled : List Field) (chosen : ChosenRecords) (cells : List (List ℕ)) (bytes : List ℕ) : Type 0 where
   pub long : length bytes ≡ record_length
   pub counted : length cells ≡ length columns
   pub said : (k : ℕ) (d : Field) → k < length columns → GetsValue (get_or columns k d).kind (get_or cells k []) (get_or columns k d).width (field_bytes (get_or columns k d) bytes)
-  pub rest : (place : ℕ) → is_inside columns place ≡ false → get_or bytes place 0 ≡ get_or (empty_record record_length filled) place 0
+  pub rest : (place : ℕ) → is_inside columns place ≡ false → get_or bytes place 0 ≡ get_or (empty_record record_length filled chosen) place 0
+  pub is_meant : is_chosen chosen bytes ≡ true
 
 -- each number of these fields stands as it is written
 abbrev pub AreAsWritten : List Field → List ℕ → Type 0

@@ -8,6 +8,7 @@ use Rattle.csv.specs.declared.reader.Reader.{Reader}
 use Rattle.csv.specs.declared.reader.Trim.TheVariants as trim
 use Rattle.s3_cells.specs.declared.field.Field.{Field}
 use Rattle.s3_lines.specs.declared.sheet.KeyField.{KeyField}
+use Rattle.s3_record_types.specs.declared.chosen.ChosenRecords.{ChosenRecords}
 use Rattle.s3_load.specs.declared.columns.Columns.{Columns}
 use Rattle.s3_load.specs.declared.rows.Row.{Row}
 use Rattle.s3_load.specs.Inner.Columns.{IsHeading}
@@ -19,9 +20,9 @@ abbrev pub table_config : ℕ → Config
 table_config delimiter = record default_config { delimiter = delimiter }
 
 -- these are the records of rows, one for each
-pub record AreRecordsOf (record_length : ℕ) (columns filled : List Field) (cells : List (List (List ℕ))) (rows : List Row) : Type 0 where
+pub record AreRecordsOf (record_length : ℕ) (columns filled : List Field) (chosen : ChosenRecords) (cells : List (List (List ℕ))) (rows : List Row) : Type 0 where
   pub counted : length rows ≡ length cells
-  pub each : (k : ℕ) (d : Row) → k < length cells → IsRecordOf record_length columns filled (get_or cells k []) (get_or rows k d).bytes.items
+  pub each : (k : ℕ) (d : Row) → k < length cells → IsRecordOf record_length columns filled chosen (get_or cells k []) (get_or rows k d).bytes.items
 
 -- ---- a reader of a text, if its bytes are known
 abbrev pub HasRead : {R : Type 0} → (R → Option (List ℕ)) → Option (List ℕ) → ℕ → List (List (List ℕ)) → Reader R → Type 0
@@ -36,11 +37,11 @@ pub record IsReading {R : Type 0} (rem : R → Option (List ℕ)) (text : Option
   pub read : HasRead rem text delimiter rows reader
 
 -- it has read a row, whose record is one more; or there was none
-pub record AddsRow {R : Type 0} (rem : R → Option (List ℕ)) (record_length : ℕ) (columns filled : List Field) (first last : Reader R) (old new : List Row) : Type 0 where
+pub record AddsRow {R : Type 0} (rem : R → Option (List ℕ)) (record_length : ℕ) (columns filled : List Field) (chosen : ChosenRecords) (first last : Reader R) (old new : List Row) : Type 0 where
   pub cells : List (List ℕ)
   pub row : Row
   pub read : ReadRecord rem first last true cells
-  pub made : IsRecordOf record_length columns filled cells row.bytes.items
+  pub made : IsRecordOf record_length columns filled chosen cells row.bytes.items
   pub added : new ≡ old ++ row ∷ []
 
 pub record FindsEnd {R : Type 0} (rem : R → Option (List ℕ)) (first last : Reader R) (old new : List Row) : Type 0 where
@@ -49,25 +50,25 @@ pub record FindsEnd {R : Type 0} (rem : R → Option (List ℕ)) (first last : R
   pub same : new ≡ old
 
 -- it has read a heading and rows behind it, and these are their records
-pub record HasRows {R : Type 0} (rem : R → Option (List ℕ)) (text : Option (List ℕ)) (delimiter : ℕ) (heading : List (List ℕ)) (record_length : ℕ) (columns filled : List Field) (reader : Reader R) (rows : List Row) : Type 0 where
+pub record HasRows {R : Type 0} (rem : R → Option (List ℕ)) (text : Option (List ℕ)) (delimiter : ℕ) (heading : List (List ℕ)) (record_length : ℕ) (columns filled : List Field) (chosen : ChosenRecords) (reader : Reader R) (rows : List Row) : Type 0 where
   pub cells : List (List (List ℕ))
   pub reading : IsReading rem text delimiter (heading ∷ cells) reader
-  pub made : AreRecordsOf record_length columns filled cells rows
+  pub made : AreRecordsOf record_length columns filled chosen cells rows
 
 -- ---- a table
 -- the text has this heading, and these are the records of the rows behind it
-pub record AreRowsOf (text : List ℕ) (delimiter : ℕ) (heading : List (List ℕ)) (record_length : ℕ) (columns filled : List Field) (rows : List Row) : Type 0 where
+pub record AreRowsOf (text : List ℕ) (delimiter : ℕ) (heading : List (List ℕ)) (record_length : ℕ) (columns filled : List Field) (chosen : ChosenRecords) (rows : List Row) : Type 0 where
   pub cells : List (List (List ℕ))
   pub are_records : AreRecords (table_config delimiter) st.StartRecord (strip_bom text) (heading ∷ cells)
-  pub made : AreRecordsOf record_length columns filled cells rows
+  pub made : AreRecordsOf record_length columns filled chosen cells rows
 
 -- these are the records of a table, each once: in the order of their keys, or, where the file has none, of the rows
-pub record IsTable (text : List ℕ) (delimiter : ℕ) (record_length : ℕ) (fields : List Field) (fills : Bool) (key : Option KeyField) (rows : List Row) : Type 0 where
+pub record IsTable (text : List ℕ) (delimiter : ℕ) (record_length : ℕ) (fields : List Field) (fills : Bool) (chosen : ChosenRecords) (key : Option KeyField) (rows : List Row) : Type 0 where
   pub heading : List (List ℕ)
   pub columns : Columns
   pub named : IsHeading fields fills heading columns
   pub made : List Row
-  pub are_rows : AreRowsOf text delimiter heading record_length columns.fields.items columns.filled.items made
+  pub are_rows : AreRowsOf text delimiter heading record_length columns.fields.items columns.filled.items chosen made
   pub same : IsPermutation made rows
   pub unkeyed : key ≡ None → rows ≡ made
   pub keyed : AreInKeyOrder key rows

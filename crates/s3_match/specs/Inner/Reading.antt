@@ -1,7 +1,7 @@
 -- What the cycle holds of its reading, and the files that are still to be read.
 use Rattle.std.specs.Prelude.{ℕ, ◌≡◌, ◌+◌, ◌<◌, ◌≤◌, Bool, true, false, List, [], ◌++◌, map, filter, filter_map, take, drop, length, get_or, Option, slice_get, slice_set, slice_index_or, unwrap_or, option_map, None}
 use Rattle.std.specs.List.{All, range_with_len}
-use Rattle.s3_lines.specs.Indicators.{indicator_number}
+use Rattle.s3_operations.specs.Inner.Places.{indicator_place}
 use Rattle.s3_lines.specs.declared.indicator.Indicator.{Indicator}
 use Rattle.s3_lines.specs.declared.sheet.InputLine.{InputLine}
 use Rattle.s3_meaning.specs.Source.{Source, is_input}
@@ -43,18 +43,18 @@ pub record AreOnlyTypes (program : Program) (types : List (Option TypeStart)) : 
 abbrev pub indicators_on : List (InputLine Reference) → List Indicator
 indicators_on lines = filter_map indicator_on lines
 
--- their numbers
-pub record AreNumbersOf (lines : List (InputLine Reference)) (numbers : List ℕ) : Type 0 where
-  pub numbered : numbers ≡ map indicator_number (indicators_on lines)
-  pub within : All (λ number. number < 2048) numbers
+-- their places
+pub record ArePlacesOf (lines : List (InputLine Reference)) (places : List ℕ) : Type 0 where
+  pub placed : places ≡ map indicator_place (indicators_on lines)
+  pub within : All (λ place. place < 1600) places
 
--- the number of a line's record identifying indicator, 0 if it has none
-abbrev pub number_on : InputLine Reference → ℕ
-number_on line = unwrap_or (option_map indicator_number (indicator_on line)) 0
+-- the place of a line's record identifying indicator, 0 if it has none
+abbrev pub place_on : InputLine Reference → ℕ
+place_on line = unwrap_or (option_map indicator_place (indicator_on line)) 0
 
-pub record AreLineNumbers (lines : List (InputLine Reference)) (numbers : List ℕ) : Type 0 where
-  pub numbered : numbers ≡ map number_on lines
-  pub within : All (λ number. number < 2048) numbers
+pub record AreLinePlaces (lines : List (InputLine Reference)) (places : List ℕ) : Type 0 where
+  pub placed : places ≡ map place_on lines
+  pub within : All (λ place. place < 1600) places
 
 -- each primary and secondary file stands there once, in F order, with the key of its head; and what is told once of all records
 pub record IsReading (program : Program) (reading : Reading) : Type 0 where
@@ -63,8 +63,8 @@ pub record IsReading (program : Program) (reading : Reading) : Type 0 where
   pub match_levels : AreLevels key.Match program reading.match_levels
   pub control_levels : AreLevels key.Control program reading.control_levels
   pub only_types : AreOnlyTypes program reading.only_types.items
-  pub type_numbers : AreNumbersOf program.inputs.items reading.type_numbers.items
-  pub line_numbers : AreLineNumbers program.inputs.items reading.line_numbers.items
+  pub type_places : ArePlacesOf program.inputs.items reading.type_places.items
+  pub line_places : AreLinePlaces program.inputs.items reading.line_places.items
 
 -- ---- one of the files
 -- what stands for the file where a place has none

@@ -43,7 +43,7 @@ pub record IsMade (level : LevelId) (new : NewFile) (label : FileLabel) (areas n
 
 -- it is opened behind its make
 pub record IsOpenedNew (name : Name) (label : FileLabel) (contents : List (List ℕ)) (file : OpenFile) : Type 0 where
-  pub is : file ≡ record file { name = name; label = label; is_master = false; is_made = true; read = 0; chained = None }
+  pub is : file ≡ record file { name = name; label = label; is_master = false; is_made = true; read = 0; updates = 0; chained = None }
   pub of_label : AreOf label contents file.records
   pub holds : HoldsRecords contents file (kept_on label contents)
 

@@ -1,5 +1,5 @@
 -- What a record holds while it is composed: at each position a code that was put there, or none.
-use Rattle.std.specs.Prelude.{◌≡◌, ℕ, Bool, List, [], ◌∷◌, map, take, Option, Some, None, if◌then◌else◌}
+use Rattle.std.specs.Prelude.{◌≡◌, ◌≤◌, ℕ, Bool, List, [], ◌∷◌, length, map, take, Option, Some, None, if◌then◌else◌}
 use Rattle.s3_cards.specs.declared.ebcdic.TheConstants.{BLANK}
 use Rattle.s3_meaning.specs.Output.{filled}
 
@@ -19,6 +19,13 @@ positions_in is_told puts codes = if is_told then positions_on puts codes else m
 -- of the first so many positions: where nothing is put the code is a blank
 abbrev pub are_filled : ℕ → (is_told : Bool) → List Bool → List ℕ → Type 0
 are_filled count is_told puts codes = filled (take count (positions_in is_told puts codes)) ≡ take count codes
+
+-- a record of so many of 1,024 positions
+pub record IsComposed (count : ℕ) (is_told : Bool) (puts : List Bool) (codes : List ℕ) : Type 0 where
+  pub short : count ≤ 1024
+  pub codes_size : length codes ≡ 1024
+  pub puts_size : length puts ≡ 1024
+  pub blanks : are_filled count is_told puts codes
 
 -- what stands at each position of a record that begins
 abbrev pub first_position : (is_told : Bool) → Option ℕ

@@ -1,11 +1,13 @@
 -- Files written out as tables, and why they aren't.
-use Rattle.std.specs.Prelude.{◌≡◌, ◌≢◌, ◌+◌, ◌-◌, ℕ, true, false, List, Option, Some, slice_get, ⊤}
+use Rattle.std.specs.Prelude.{◌≡◌, ◌≢◌, ◌+◌, ◌-◌, ℕ, true, false, List, length, Option, Some, slice_get, ⊤}
 use Rattle.std.specs.List.{list_all}
 use Rattle.std.specs.Io.KnownBytes.{Appends}
 use Rattle.s3_cards.specs.declared.name.Name.{Name}
 use Rattle.s3_slots.specs.declared.label.FileLabel.{FileLabel}
 use Rattle.s3_cells.specs.declared.field.Field.{Field}
 use Rattle.s3_cells.specs.declared.layout.Layout.{Layout}
+use Rattle.s3_record_types.specs.Inner.Chosen.{chosen_of, is_chosen}
+use Rattle.s3_record_types.specs.declared.chosen.ChosenRecords.{ChosenRecords}
 use Rattle.s3_unload.specs.Inner.Found.{IsFound}
 use Rattle.s3_unload.specs.Inner.Opened.{IsOpenRefusal}
 use Rattle.s3_unload.specs.Inner.Ordered.{in_order, ordered}
@@ -15,32 +17,35 @@ use Rattle.s3_unload.specs.declared.found.Area.{Area}
 use Rattle.s3_unload.specs.declared.fault.UnloadFault.{UnloadFault}
 use Rattle.s3_unload.specs.declared.fault.UnloadFault.TheVariants.{Mount, NotFound, DamagedLabel, BadIndex, OtherLength, Hidden, NoCharacter, NoMemory, File}
 
--- The file that stands under the label in the area was written behind what the writer had: a heading, and a row for each of its
--- records, in the order of their keys where it has an index. Each value of them can be shown.
-pub record Unloads (area : Area) (name : Name) (layout : Layout) (delimiter : ℕ) (contents : List (List ℕ)) (old new : Option (List ℕ)) : Type 0 where
+-- The file that stands under the label in the area was written after what the writer had: a heading, and a row for each of its
+-- records that are chosen, in the order of their keys where it has an index. Each value of them can be shown. So many records aren't
+-- chosen.
+pub record Unloads (area : Area) (name : Name) (layout : Layout) (chosen : ChosenRecords) (delimiter others : ℕ) (contents : List (List ℕ)) (old new : Option (List ℕ)) : Type 0 where
   pub label : FileLabel
   pub found : IsFound area name contents label
   pub fits : label.record_length ≡ layout.record_length
-  pub shown : list_all (are_shown layout.fields.items) (ordered label contents) ≡ true
-  pub written : Appends old new (table_text delimiter layout.fields.items (ordered label contents))
+  pub shown : list_all (are_shown layout.fields.items) (chosen_of chosen (ordered label contents)) ≡ true
+  pub written : Appends old new (table_text delimiter layout.fields.items (chosen_of chosen (ordered label contents)))
+  pub counted : others + length (chosen_of chosen (ordered label contents)) ≡ length (ordered label contents)
 
--- of records in the order in which they were written, number n, from 1, has a value that can't be shown
-pub record HasHidden (fields : List Field) (records : List (List ℕ)) (number : ℕ) : Type 0 where
+-- of records in the order in which they were written, number n, from 1, is chosen, and has a value that can't be shown
+pub record HasHidden (fields : List Field) (chosen : ChosenRecords) (records : List (List ℕ)) (number : ℕ) : Type 0 where
   pub bytes : List ℕ
   pub there : slice_get records (number - 1) ≡ Some bytes
+  pub is_meant : is_chosen chosen bytes ≡ true
   pub hidden : are_shown fields bytes ≡ false
 
 -- rows aren't all written: a value can't be shown, or memory was refused
-abbrev pub IsRowsRefusal : List Field → List (List ℕ) → UnloadFault → Type 0
-IsRowsRefusal fields records (Hidden number field fault) = HasHidden fields records number
-IsRowsRefusal fields records NoMemory = ⊤
-IsRowsRefusal fields records BadIndex = ⊥
-IsRowsRefusal fields records (Mount fault) = ⊥
-IsRowsRefusal fields records NotFound = ⊥
-IsRowsRefusal fields records DamagedLabel = ⊥
-IsRowsRefusal fields records (OtherLength long) = ⊥
-IsRowsRefusal fields records (NoCharacter number position) = ⊥
-IsRowsRefusal fields records File = ⊥
+abbrev pub IsRowsRefusal : List Field → ChosenRecords → List (List ℕ) → UnloadFault → Type 0
+IsRowsRefusal fields chosen records (Hidden number field fault) = HasHidden fields chosen records number
+IsRowsRefusal fields chosen records NoMemory = ⊤
+IsRowsRefusal fields chosen records BadIndex = ⊥
+IsRowsRefusal fields chosen records (Mount fault) = ⊥
+IsRowsRefusal fields chosen records NotFound = ⊥
+IsRowsRefusal fields chosen records DamagedLabel = ⊥
+IsRowsRefusal fields chosen records (OtherLength long) = ⊥
+IsRowsRefusal fields chosen records (NoCharacter number position) = ⊥
+IsRowsRefusal fields chosen records File = ⊥
 
 -- the row of record n, from 0, isn't written
 abbrev pub IsRowRefusal : ℕ → List Field → List ℕ → UnloadFault → Type 0
@@ -61,13 +66,13 @@ pub record Refuses (area : Area) (name : Name) (contents : List (List ℕ)) (cau
   pub is_so : cause label
 
 -- the file isn't written: by the pack alone, or for want of memory, or since the writer failed
-abbrev pub IsUnloadRefusal : Area → Name → Layout → List (List ℕ) → UnloadFault → Type 0
-IsUnloadRefusal area name layout contents (Mount fault) = IsFindRefusal area name contents (Mount fault)
-IsUnloadRefusal area name layout contents NotFound = IsFindRefusal area name contents NotFound
-IsUnloadRefusal area name layout contents DamagedLabel = IsFindRefusal area name contents DamagedLabel
-IsUnloadRefusal area name layout contents (OtherLength long) = Refuses area name contents (λ label. label.record_length ≢ layout.record_length)
-IsUnloadRefusal area name layout contents BadIndex = Refuses area name contents (λ label. IsOpenRefusal label contents BadIndex)
-IsUnloadRefusal area name layout contents (Hidden number field fault) = Refuses area name contents (λ label. HasHidden layout.fields.items (in_order label contents) number)
-IsUnloadRefusal area name layout contents (NoCharacter number position) = ⊥
-IsUnloadRefusal area name layout contents NoMemory = ⊤
-IsUnloadRefusal area name layout contents File = ⊤
+abbrev pub IsUnloadRefusal : Area → Name → Layout → ChosenRecords → List (List ℕ) → UnloadFault → Type 0
+IsUnloadRefusal area name layout chosen contents (Mount fault) = IsFindRefusal area name contents (Mount fault)
+IsUnloadRefusal area name layout chosen contents NotFound = IsFindRefusal area name contents NotFound
+IsUnloadRefusal area name layout chosen contents DamagedLabel = IsFindRefusal area name contents DamagedLabel
+IsUnloadRefusal area name layout chosen contents (OtherLength long) = Refuses area name contents (λ label. label.record_length ≢ layout.record_length)
+IsUnloadRefusal area name layout chosen contents BadIndex = Refuses area name contents (λ label. IsOpenRefusal label contents BadIndex)
+IsUnloadRefusal area name layout chosen contents (Hidden number field fault) = Refuses area name contents (λ label. HasHidden layout.fields.items chosen (in_order label contents) number)
+IsUnloadRefusal area name layout chosen contents (NoCharacter number position) = ⊥
+IsUnloadRefusal area name layout chosen contents NoMemory = ⊤
+IsUnloadRefusal area name layout chosen contents File = ⊤

@@ -5,5 +5,5 @@ use Rattle.s3_operations.specs.Inner.Indicators.{on_in}
 use Rattle.s3_cycle.specs.Inner.Clearing.{turned_off}
 use Rattle.s3_cycle.proofs.indicating.turn_off.Given as goal
 
-abbrev pub invariant-loop-number : goal.invariant-loop-number
-invariant-loop-number l = (other : Indicator) → on_in l.indicators other ≡ turned_off (take l.number-index (indicators_on l.program.inputs.items)) other (on_in l.fn.indicators other)
+abbrev pub invariant-loop-place : goal.invariant-loop-place
+invariant-loop-place l = (other : Indicator) → on_in l.indicators other ≡ turned_off (take l.place-index (indicators_on l.program.inputs.items)) other (on_in l.fn.indicators other)

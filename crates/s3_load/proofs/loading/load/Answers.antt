@@ -23,7 +23,7 @@ returns-clause-loaded g c =
     record {
       rows = rows;
       table = λ bytes known.
-          subst (λ (t : List ℕ). IsTable t order.delimiter order.layout.now.record_length order.layout.now.fields.items order.fills order.key rows) (c.as_slice.ensures.value ∙ c.in_ok-text.ensures bytes known) (c.in_ok-rows.ensures c.as_slice.result.now refl);
+          subst (λ (t : List ℕ). IsTable t order.delimiter order.layout.now.record_length order.layout.now.fields.items order.fills order.chosen.now order.key rows) (c.as_slice.ensures.value ∙ c.in_ok-text.ensures bytes known) (c.in_ok-rows.ensures c.as_slice.result.now refl);
       header = c.in_ok-mounted.mounted.areas.header;
       mounts = sym (ap mounted c.in_ok-mounted.ensures.same) ∙ c.in_ok-mounted.ensures.mounted.mounts;
       filled = file_on order (records_of rows) c.in_ok-mounted.mounted.areas.header _ _ _ _ c.in_ok-mounted.ensures.same is_saved.seen

@@ -4,7 +4,7 @@ use Rattle.s3_load.proofs.table.read_rows.Goals as goal
 
 pub returns-then-not-branch-clause-rows : goal.returns-then-not-branch-clause-rows
 returns-then-not-branch-clause-rows g c = λ none text heading reading.
-    all_rows g.R.Read.remaining text c.args.order.now.delimiter heading c.args.order.now.layout.now.record_length c.args.columns.now.fields.items c.args.columns.now.filled.items c.loop.reader c.read_row.new.reader c.loop.rows.items
+    all_rows g.R.Read.remaining text c.args.order.now.delimiter heading c.args.order.now.layout.now.record_length c.args.columns.now.fields.items c.args.columns.now.filled.items c.args.order.now.chosen.now c.loop.reader c.read_row.new.reader c.loop.rows.items
     c.read_row.new.rows.items (c.loop.invariant.rows (c.in_ok-read_row.ensures.before none) text heading reading) (c.in_ok-read_row.ensures.end c.if-not-branch.true)
 
 pub loop-preserved : goal.loop-preserved
@@ -13,6 +13,6 @@ loop-preserved g c = record {
   untrimmed = c.in_ok-read_row.ensures.untrimmed;
   before = λ none. c.loop.invariant.before (c.in_ok-read_row.ensures.before none);
   rows = λ none text heading reading.
-      one_more_row g.R.Read.remaining (Some text) c.args.order.now.delimiter heading c.args.order.now.layout.now.record_length c.args.columns.now.fields.items c.args.columns.now.filled.items c.loop.reader c.read_row.new.reader c.loop.rows.items
+      one_more_row g.R.Read.remaining (Some text) c.args.order.now.delimiter heading c.args.order.now.layout.now.record_length c.args.columns.now.fields.items c.args.columns.now.filled.items c.args.order.now.chosen.now c.loop.reader c.read_row.new.reader c.loop.rows.items
       c.read_row.new.rows.items (c.loop.invariant.rows (c.in_ok-read_row.ensures.before none) text heading reading) c.in_ok-read_row.ensures.ready (c.in_ok-read_row.ensures.adds c.if-not-branch.false none);
 }

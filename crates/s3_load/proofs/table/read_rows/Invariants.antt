@@ -11,5 +11,5 @@ invariant-loop g l = record {
   untrimmed : reader_trim l.reader ≡ trim.None;
   before : l.faults.count ≡ 0 → l.initial.faults.count ≡ 0;
   rows : l.faults.count ≡ 0 → (text : List ℕ) (heading : List (List ℕ)) → IsReading g.R.Read.remaining (Some text) l.order.delimiter (heading ∷ []) l.initial.reader
-      → HasRows g.R.Read.remaining (Some text) l.order.delimiter heading l.order.layout.now.record_length l.columns.fields.items l.columns.filled.items l.reader l.rows.items;
+      → HasRows g.R.Read.remaining (Some text) l.order.delimiter heading l.order.layout.now.record_length l.columns.fields.items l.columns.filled.items l.order.chosen.now l.reader l.rows.items;
 }

@@ -137,7 +137,7 @@ change-requires-clause-own g c =
 
 pub returns-in_err-put-in-Update : goal.returns-in_err-put-in-Update
 returns-in_err-put-in-Update g c =
-    file_failed {T = Put} c.from_residual-in_err-put-in-Update.result c.from_residual-in_err-put-in-Update.ensures.1 (called c.requires.can.job c.pending.ensures.request c.pending.ensures.file c.in-File.is c.in-Update.is (c.index.result.now, c.index.ensures, c.in-Some.is)) c.requires.can (record { number = refl; next = refl; end = refl; level = refl })
+    file_failed {T = Put} c.from_residual-in_err-put-in-Update.result c.from_residual-in_err-put-in-Update.ensures.1 (called c.requires.can.job c.pending.ensures.request c.pending.ensures.file c.in-File.is c.in-Update.is (c.index.result.now, c.index.ensures, c.in-Some.is)) c.requires.can (record { number = refl; next = refl; end = refl; level = c.change.ensures.opened.level })
     c.in_err-put-in-Update.ensures.pack
 
 pub resume-requires-in-Update : goal.resume-requires-in-Update
@@ -146,6 +146,6 @@ resume-requires-in-Update g c =
 
 pub returns-in_ok-put-in-Update : goal.returns-in_ok-put-in-Update
 returns-in_ok-put-in-Update g c =
-    file_served (record_updated c.in-Update.current c.changes.result.now) (put_answer c.in_ok-put-in-Update.put) (called c.requires.can.job c.pending.ensures.request c.pending.ensures.file c.in-File.is c.in-Update.is (c.index.result.now, c.index.ensures, c.in-Some.is)) (ap (record_updated c.in-Update.current) c.changes.ensures) c.requires.can c.in_ok-put-in-Update.ensures.serves c.in_ok-put-in-Update.ensures.ready (record { level = refl; opened = refl }) refl
-    (resumes_meant c.args.self.now.cycle c.resume-in-Update.new.self c.answer_of_put-in-Update.result (put_answer c.in_ok-put-in-Update.put) c.answer_of_put-in-Update.ensures c.resume-in-Update.ensures) (record { number = refl; next = refl; end = refl; level = refl })
+    file_served (record_updated c.in-Update.current c.changes.result.now) (put_answer c.in_ok-put-in-Update.put) (called c.requires.can.job c.pending.ensures.request c.pending.ensures.file c.in-File.is c.in-Update.is (c.index.result.now, c.index.ensures, c.in-Some.is)) (ap (record_updated c.in-Update.current) c.changes.ensures) c.requires.can c.in_ok-put-in-Update.ensures.serves c.in_ok-put-in-Update.ensures.ready c.change.ensures.opened refl
+    (resumes_meant c.args.self.now.cycle c.resume-in-Update.new.self c.answer_of_put-in-Update.result (put_answer c.in_ok-put-in-Update.put) c.answer_of_put-in-Update.ensures c.resume-in-Update.ensures) (record { number = refl; next = refl; end = refl; level = c.change.ensures.opened.level })
     c.in_ok-put-in-Update.ensures.pack

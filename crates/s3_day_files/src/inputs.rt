@@ -1,0 +1,223 @@
+//! What a day reads: its pack, its decks, its rules and a log.
+
+use crate::begun::{named_file, words_kept};
+use crate::fault::DayFault;
+use crate::level_deck::LevelDeck;
+use crate::order::Order;
+use crate::strays::are_strays_accepted;
+use crate::taking_up::take_up;
+use s3_cards::LevelId;
+use s3_command_line::new_pack;
+use s3_day_log::{Begun, DayLog, LogFault};
+use s3_decks::encoding_of;
+use s3_host_files::{LockedPack, read_pack, read_to_save, read_within};
+use s3_operating::DayDeck;
+use s3_refusals::Shown;
+use s3_replies::{Rules, RulesFault};
+use std::alloc::AllocError;
+use std::io::{ErrorKind, Write};
+
+/// The most bytes of the rules that are read.
+const RULES_LIMIT: usize = 4_194_304;
+
+/// The most bytes of a log that is read.
+const LOG_LIMIT: usize = 268_435_456;
+
+/// Why a day without a card isn't begun.
+const NO_CARDS: &'static str =
+    "the decks have no card; give --deck1 FILE, --deck2 FILE or both (`bureau operate --help` has all options)";
+
+/// The pack that a day is given, or a new one.
+#[derive(Drop)]
+pub struct DayPack {
+    /// Its bytes.
+    pub bytes: Vec<u8>,
+    /// The lock on its file, if it is saved there.
+    pub locked: Option<LockedPack>,
+}
+
+impl DayPack {
+    /// The pack that the options name, or a new one. If the day is logged, its beginning gets the name and the digest of a pack that
+    /// is read.
+    pub fn read<'a>(
+        rt: &HostRuntime,
+        order: &Order<'a>,
+        begun: &mut Begun,
+        is_logged: bool,
+    ) -> Result<DayPack, DayFault<'a>> {
+        let Some(path) = order.pack else {
+            return DayPack::made(rt);
+        };
+        let pack = DayPack::read_file(rt, path, order.save)?;
+        if is_logged {
+            begun.pack = Some(named_file(rt.alloc(), path, &pack.bytes)?);
+        }
+        Ok(pack)
+    }
+
+    /// A new pack.
+    fn made<'a>(rt: &HostRuntime) -> Result<DayPack, DayFault<'a>> {
+        match new_pack(rt.alloc()) {
+            Ok(bytes) => Ok(DayPack {
+                bytes,
+                locked: None,
+            }),
+            Err(fault) => Err(DayFault::Cli(fault)),
+        }
+    }
+
+    /// The pack of a file, with the lock on the file if it is saved there.
+    fn read_file<'a>(
+        rt: &HostRuntime,
+        path: &'a str,
+        save: Option<&'a str>,
+    ) -> Result<DayPack, DayFault<'a>> {
+        let Some(save) = save else {
+            return DayPack::read_alone(rt, path);
+        };
+        match read_to_save(rt, path, save) {
+            Ok((bytes, locked)) => Ok(DayPack { bytes, locked }),
+            Err(fault) => Err(DayFault::of_pack(&fault, path)),
+        }
+    }
+
+    /// The pack of a file that isn't saved.
+    fn read_alone<'a>(rt: &HostRuntime, path: &'a str) -> Result<DayPack, DayFault<'a>> {
+        match read_pack(rt, path) {
+            Ok(bytes) => Ok(DayPack {
+                bytes,
+                locked: None,
+            }),
+            Err(fault) => Err(DayFault::of_pack(&fault, path)),
+        }
+    }
+}
+
+/// The decks of a day, and with what it is begun.
+#[derive(Drop)]
+pub struct Decks<'a> {
+    /// The deck of level 1.
+    pub one: DayDeck<'a>,
+    /// The deck of level 2.
+    pub two: DayDeck<'a>,
+    /// With what the day is begun, as its log has it, before its pack is read.
+    pub begun: Begun,
+}
+
+impl<'a> Decks<'a> {
+    /// The decks that the options name, with the digests of their files, if they are asked for.
+    pub fn read(
+        rt: &HostRuntime,
+        order: &Order<'a>,
+        words: &[String],
+        is_logged: bool,
+    ) -> Result<Decks<'a>, DayFault<'a>> {
+        let one = LevelDeck::read(rt, LevelId::One, &order.deck1, is_logged)?;
+        let two = LevelDeck::read(rt, LevelId::Two, &order.deck2, is_logged)?;
+        let words = words_kept(rt.alloc(), words)?;
+        Ok(Decks::of(words, one, two))
+    }
+
+    fn of(words: Vec<String>, one: LevelDeck<'a>, two: LevelDeck<'a>) -> Decks<'a> {
+        let LevelDeck {
+            joined: joined1,
+            files: deck1,
+        } = one;
+        let LevelDeck {
+            joined: joined2,
+            files: deck2,
+        } = two;
+        Decks {
+            one: DayDeck::Whole(joined1),
+            two: DayDeck::Whole(joined2),
+            begun: Begun {
+                words,
+                pack: None,
+                deck1,
+                deck2,
+            },
+        }
+    }
+
+    /// Takes each level up at the line that the options name for it, if they name one. A day without a card is refused, unless a log
+    /// has such a day.
+    pub fn take_up(&mut self, rt: &HostRuntime, order: &Order<'a>) -> Result<(), DayFault<'a>> {
+        if order.redo.is_none() && self.one.text().is_empty() && self.two.text().is_empty() {
+            return Err(DayFault::Usage(NO_CARDS));
+        }
+        take_up(rt, order, LevelId::One, &mut self.one)?;
+        take_up(rt, order, LevelId::Two, &mut self.two)
+    }
+
+    /// Reports jobs that go on over statements of the next ones. Whether the day is begun all the same.
+    pub fn are_accepted(&self, rt: &HostRuntime, order: &Order<'a>) -> Result<bool, DayFault<'a>> {
+        are_strays_accepted(rt, order, &self.one, &self.two)
+    }
+}
+
+/// The bytes of a file, up to a limit.
+pub fn read_text<'a>(
+    rt: &HostRuntime,
+    path: &'a str,
+    limit: usize,
+) -> Result<Vec<u8>, DayFault<'a>> {
+    match read_within(rt, path, limit) {
+        Ok(bytes) => Ok(bytes),
+        Err(error) if error.kind() == ErrorKind::FileTooLarge => Err(DayFault::TooLarge(path)),
+        Err(error) => Err(DayFault::of(&error, path)),
+    }
+}
+
+/// The rules of a file, or none if no file is named. Each line that is no rule is reported.
+pub fn read_rules<'a>(rt: &HostRuntime, path: Option<&'a str>) -> Result<Rules, DayFault<'a>> {
+    let Some(path) = path else {
+        return Ok(Rules::none(rt.alloc()));
+    };
+    let text = read_text(rt, path, RULES_LIMIT)?;
+    if let Some(encoding) = encoding_of(&text) {
+        let (path, words) = (Shown(path), encoding.words());
+        let _ = writeln!(rt.stderr(), "{path} {words}");
+        return Err(DayFault::Replies(1));
+    }
+    match Rules::read(rt.alloc(), &text) {
+        Ok(rules) => Ok(rules),
+        Err(fault) => Err(rules_refused(rt, path, &fault)),
+    }
+}
+
+/// Why rules are refused. Each line that is no rule is reported.
+fn rules_refused<'a>(rt: &HostRuntime, path: &str, fault: &RulesFault) -> DayFault<'a> {
+    let RulesFault::IllFormed(lines) = fault else {
+        return DayFault::from(AllocError);
+    };
+    for line in lines {
+        let path = Shown(path);
+        let _ = writeln!(rt.stderr(), "{path}, {line}");
+    }
+    match lines.first() {
+        Some(first) => DayFault::Replies(first.number),
+        None => DayFault::Replies(0),
+    }
+}
+
+/// The log of a day that is done again.
+pub fn read_log<'a>(rt: &HostRuntime, path: &'a str) -> Result<DayLog, DayFault<'a>> {
+    let bytes = read_text(rt, path, LOG_LIMIT)?;
+    let Ok(text) = str::from_utf8(&bytes) else {
+        let path = Shown(path);
+        let _ = writeln!(
+            rt.stderr(),
+            "{path} is no log, for it isn't text in UTF-8; give the file that --log wrote"
+        );
+        return Err(DayFault::Redo);
+    };
+    match DayLog::read(rt.alloc(), text) {
+        Ok(log) => Ok(log),
+        Err(LogFault::NoMemory) => Err(DayFault::from(AllocError)),
+        Err(fault) => {
+            let path = Shown(path);
+            let _ = writeln!(rt.stderr(), "{path}: {fault}");
+            Err(DayFault::Redo)
+        }
+    }
+}

@@ -1,0 +1,142 @@
+//! The deck of a level, of files that are read one after another.
+ghost use Rattle.std.specs.Prelude.{◌≤◌};
+
+use crate::begun::named_file;
+use crate::fault::DayFault;
+use crate::inputs::read_text;
+use s3_cards::LevelId;
+use s3_day_log::NamedFile;
+use s3_decks::{cards_len, encoding_of};
+use s3_operating::JoinedFiles;
+use s3_paper_commands::{is_plain_text, tell_punched};
+use s3_punch::{Begun, Punched, punch};
+use s3_refusals::{Shown, begins_as_pack};
+use std::alloc::{AllocError, Global};
+use std::io::Write;
+
+/// The most bytes of a file of a deck that is read.
+const TEXT_LIMIT: usize = 4_194_304;
+
+/// The deck of a level.
+#[derive(Drop)]
+pub struct LevelDeck<'a> {
+    /// The cards of its files.
+    pub joined: JoinedFiles<'a>,
+    /// The files as a log has them; none if the day isn't logged.
+    pub files: Vec<NamedFile>,
+}
+
+/// The part of a deck that is read.
+#[derive(Drop)]
+struct Reading<'a> {
+    deck: LevelDeck<'a>,
+    /// Where the next file begins; only followed if one of the files is punched.
+    begun: Begun,
+    is_punched: bool,
+    is_logged: bool,
+    is_faulty: bool,
+    ghost few: { begun.cards ≤ 9999 },
+}
+
+impl<'a> LevelDeck<'a> {
+    /// The deck of these files, with their digests if they are asked for. A file of plain text is punched, and what is wrong with it
+    /// is reported.
+    pub fn read(
+        rt: &HostRuntime,
+        level: LevelId,
+        paths: &[&'a str],
+        is_logged: bool,
+    ) -> Result<LevelDeck<'a>, DayFault<'a>> {
+        let mut reading = Reading::new(rt.alloc(), paths, is_logged);
+        for path in paths {
+            let name: &'a str = *path;
+            let bytes = read_deck_file(rt, level, name)?;
+            reading.add(rt, name, bytes)?;
+        }
+        reading.finish(level)
+    }
+}
+
+/// The bytes of a file of a deck. A pack is refused, and text in an encoding in which no deck is. A file without a card is reported.
+fn read_deck_file<'a>(
+    rt: &HostRuntime,
+    level: LevelId,
+    name: &'a str,
+) -> Result<Vec<u8>, DayFault<'a>> {
+    let bytes = read_text(rt, name, TEXT_LIMIT)?;
+    if begins_as_pack(&bytes) {
+        return Err(DayFault::PackAsDeck(name));
+    }
+    if let Some(encoding) = encoding_of(&bytes) {
+        report(rt, name, encoding.words());
+        return Err(DayFault::Deck(level));
+    }
+    if cards_len(&bytes) == 0 {
+        report(rt, name, "has no card");
+    }
+    Ok(bytes)
+}
+
+/// Reports a sentence about a file.
+fn report(rt: &HostRuntime, name: &str, sentence: &str) {
+    let name = Shown(name);
+    let _ = writeln!(rt.stderr(), "{name} {sentence}");
+}
+
+impl<'a> Reading<'a> {
+    fn new(alloc: Global, paths: &[&'a str], is_logged: bool) -> Reading<'a> {
+        Reading {
+            deck: LevelDeck {
+                joined: JoinedFiles::new(alloc),
+                files: Vec::new(alloc),
+            },
+            begun: Begun::new(false),
+            is_punched: paths.iter().any(|path| is_plain_text(*path)),
+            is_logged,
+            is_faulty: false,
+        }
+    }
+
+    /// Puts a file after those that are read.
+    fn add(&mut self, rt: &HostRuntime, name: &'a str, bytes: Vec<u8>) -> Result<(), AllocError> {
+        if self.is_logged {
+            let file = named_file(rt.alloc(), name, &bytes)?;
+            self.deck.files.push(file)?;
+        }
+        if is_plain_text(name) {
+            return self.add_text(rt, name, &bytes);
+        }
+        if self.is_punched {
+            self.begun = self.begun.behind_deck(&bytes);
+        }
+        self.deck.joined.add(name, bytes)
+    }
+
+    /// Puts the cards that are punched of a file after those that are read.
+    fn add_text(
+        &mut self,
+        rt: &HostRuntime,
+        name: &'a str,
+        bytes: &[u8],
+    ) -> Result<(), AllocError> {
+        let punched = punch(rt.alloc(), bytes, &self.begun)?;
+        self.is_faulty |= tell_punched(rt, name, &punched);
+        self.begun = punched.behind(self.begun);
+        let Punched {
+            text,
+            origins,
+            changes: _changes,
+            faults: _faults,
+            part: _part,
+        } = punched;
+        self.deck.joined.add_punched(name, text, origins)
+    }
+
+    /// The deck, unless something is wrong with a file of plain text.
+    fn finish(self, level: LevelId) -> Result<LevelDeck<'a>, DayFault<'a>> {
+        if self.is_faulty {
+            return Err(DayFault::Deck(level));
+        }
+        Ok(self.deck)
+    }
+}

@@ -1,0 +1,27 @@
+//! What `bureau operate` is asked, and the files around its day: what is read before the first turn, and the outputs, each of which is
+//! tried before the first turn and may overwrite nothing that it wasn't asked to.
+//!
+//! What is proved: each call is safe and returns. Which file is refused for what, in which order, and the sentences are tested, by rows
+//! and by failed calls. What files, the terminal and the clock give isn't claimed: they are used as the toolchain offers them.
+
+#![tactic(auto)]
+
+mod begun;
+mod fault;
+mod inputs;
+mod level_deck;
+mod order;
+mod outputs;
+mod paper;
+mod strays;
+mod taking_up;
+mod watch;
+
+pub use begun::{Again, push_word, test_same};
+pub use fault::{DayFault, unwritten};
+pub use inputs::{DayPack, Decks, read_log, read_rules};
+pub use order::{Order, names, replies_of};
+pub use outputs::{KeptOutputs, Output, Outputs, remove_made, test_outputs, write_deck};
+pub use paper::{Form, Paper};
+pub use taking_up::list_jobs;
+pub use watch::Watch;

@@ -1,0 +1,164 @@
+//! What the words of `operate` ask for.
+
+use crate::paper::Paper;
+use clap::ArgMatches;
+use s3_cards::LevelId;
+use s3_decks::Position;
+use s3_desk::Bounds;
+use s3_operating::Questioned;
+use std::alloc::AllocError;
+use std::io::IsTerminal;
+
+/// The most turns of a level, where the words don't say it: some five seconds of a program that only jumps.
+const TURNS: u32 = 1_000_000_000;
+
+/// The most lines of a level, where the words don't say it.
+const LINES: u32 = 1_000_000;
+
+/// What stands for standard input where a file of rules is named.
+const STANDARD_INPUT: &str = "-";
+
+/// Why `--replies` isn't taken.
+const TWICE: &str = "--replies takes one file, and - once";
+
+/// What the options of `operate` ask for.
+#[derive(Drop)]
+pub struct Order<'a> {
+    /// The pack that is read.
+    pub pack: Option<&'a str>,
+    /// Where the pack is saved.
+    pub save: Option<&'a str>,
+    /// The files of level 1's deck.
+    pub deck1: Vec<&'a str>,
+    /// The files of level 2's deck.
+    pub deck2: Vec<&'a str>,
+    /// The rules.
+    pub rules: Option<&'a str>,
+    /// Who is asked where no rule answers.
+    pub questioned: Questioned,
+    /// How far each level goes at most.
+    pub bounds: Bounds,
+    /// Where the script is written.
+    pub script: Option<&'a str>,
+    /// Where the log is written.
+    pub log: Option<&'a str>,
+    /// The log whose day is done again.
+    pub redo: Option<&'a str>,
+    /// Where level 1 is taken up.
+    pub from1: Option<Position<'a>>,
+    /// Where level 2 is taken up.
+    pub from2: Option<Position<'a>>,
+    /// Where level 1's deck is written.
+    pub deck_out1: Option<&'a str>,
+    /// Where level 2's deck is written.
+    pub deck_out2: Option<&'a str>,
+    /// Where each job's pages are written, and how.
+    pub paper: Option<Paper<'a>>,
+    /// The pack is saved also where a level isn't done.
+    pub saves_unfinished: bool,
+    /// What is there is written over.
+    pub overwrites: bool,
+    /// Neither progress is told, nor what rules answer.
+    pub is_quiet: bool,
+}
+
+impl<'a> Order<'a> {
+    /// What the options ask for, with the files of both decks, or why they name no day.
+    pub fn read(
+        rt: &HostRuntime,
+        words: &ArgMatches<'a>,
+        deck1: Vec<&'a str>,
+        deck2: Vec<&'a str>,
+    ) -> Result<Order<'a>, &'static str> {
+        let (rules, has_lines) = replies_of(words)?;
+        let from1 = position(words, "from1")?;
+        let from2 = position(words, "from2")?;
+        let paper = Paper::read(words)?;
+        Ok(Order {
+            pack: words.get_str("pack"),
+            save: words.get_str("save"),
+            deck1,
+            deck2,
+            rules,
+            questioned: questioned(rt, has_lines),
+            bounds: Bounds {
+                turns: words.get_one::<u32>("turns").unwrap_or(TURNS),
+                lines: words.get_one::<u32>("lines").unwrap_or(LINES),
+            },
+            script: words.get_str("script"),
+            log: words.get_str("log"),
+            redo: words.get_str("redo"),
+            from1,
+            from2,
+            deck_out1: words.get_str("deck-out1"),
+            deck_out2: words.get_str("deck-out2"),
+            paper,
+            saves_unfinished: words.get_flag("save-unfinished"),
+            overwrites: words.get_flag("overwrite"),
+            is_quiet: words.get_flag("quiet"),
+        })
+    }
+
+    /// Where a level is taken up, if it is.
+    pub fn from(&self, level: LevelId) -> Option<Position<'a>> {
+        match level {
+            LevelId::One => self.from1,
+            LevelId::Two => self.from2,
+        }
+    }
+}
+
+/// The names that an option was given with, in their order.
+pub fn names<'a>(
+    rt: &HostRuntime,
+    words: &ArgMatches<'a>,
+    word: &str,
+) -> Result<Vec<&'a str>, AllocError> {
+    let mut names = Vec::new(rt.alloc());
+    for name in words.get_strs(word).unwrap_or(&[]) {
+        names.push(*name)?;
+    }
+    Ok(names)
+}
+
+/// The file of rules, and whether standard input is a list of replies.
+pub fn replies_of<'a>(words: &ArgMatches<'a>) -> Result<(Option<&'a str>, bool), &'static str> {
+    let mut rules = None;
+    let mut has_lines = false;
+    for name in words.get_strs("replies").unwrap_or(&[]) {
+        if *name == STANDARD_INPUT {
+            if has_lines {
+                return Err(TWICE);
+            }
+            has_lines = true;
+        } else {
+            if rules.is_some() {
+                return Err(TWICE);
+            }
+            rules = Some(*name);
+        }
+    }
+    Ok((rules, has_lines))
+}
+
+/// Who is asked where no rule answers.
+fn questioned(rt: &HostRuntime, has_lines: bool) -> Questioned {
+    if has_lines {
+        Questioned::Lines
+    } else if rt.stdin().is_terminal() {
+        Questioned::Person
+    } else {
+        Questioned::Nobody
+    }
+}
+
+/// The line of a deck that a word gives.
+fn position<'a>(words: &ArgMatches<'a>, word: &str) -> Result<Option<Position<'a>>, &'static str> {
+    let Some(given) = words.get_str(word) else {
+        return Ok(None);
+    };
+    match Position::read(given) {
+        Some(position) => Ok(Some(position)),
+        None => Err("--from1 and --from2 take [FILE:]LINE, a line from 1"),
+    }
+}

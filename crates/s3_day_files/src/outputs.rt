@@ -1,0 +1,436 @@
+//! The outputs of a day. None of them may overwrite a file that is read, another output or, without `--overwrite`, any file.
+
+use crate::fault::{DayFault, unwritten};
+use crate::order::Order;
+use crate::paper::Paper;
+pub use s3_host_files::Output;
+use s3_host_files::{
+    FileFault, Kept, Limit, LockedFolder, LockedPack, STREAMS, StandardStream, Target, WRITTEN,
+    is_pack_at, prepare_save, stream_at,
+};
+use std::alloc::Global;
+use std::fs::Metadata;
+use std::io::{ErrorKind, Write};
+use std::path::Path;
+use std::{fs, io};
+
+/// The outputs of a day, each of which can be written.
+#[derive(Drop)]
+pub struct Outputs<'a> {
+    /// The script.
+    pub script: Option<Output>,
+    /// The log.
+    pub log: Option<Output>,
+    /// Level 1's deck as it is run.
+    pub deck1: Option<Output>,
+    /// Level 2's deck as it is run.
+    pub deck2: Option<Output>,
+    /// The lock on the file that the pack is saved to.
+    pub locked: Option<LockedPack>,
+    /// The handles that the end of the day needs.
+    pub kept: KeptOutputs,
+    /// The files that were made by trying, and the folder of the pages.
+    pub made: Vec<&'a str>,
+}
+
+/// The handles of the outputs that the end of the day needs, when the desk has script and log.
+#[derive(Drop)]
+pub struct KeptOutputs {
+    /// The script.
+    pub script: Option<Kept>,
+    /// The log.
+    pub log: Option<Kept>,
+    /// The folder of the pages, locked.
+    folder: Option<LockedFolder>,
+    /// The most that new files let anyone do.
+    pub limit: Option<Limit>,
+}
+
+/// Where something is written or read.
+#[derive(Drop)]
+struct Named<'a> {
+    /// The name that was given.
+    name: &'a str,
+    /// Where it leads.
+    target: Target,
+}
+
+/// The files that a day reads, and those that it writes.
+#[derive(Drop)]
+pub struct Files<'a> {
+    /// What is read, except the pack.
+    texts: Vec<Named<'a>>,
+    /// The pack that is read.
+    pack: Option<Named<'a>>,
+    /// What is written.
+    written: Vec<Named<'a>>,
+}
+
+/// Where a path leads. It is refused if the file there is also one of these streams.
+fn found<'a>(
+    rt: &HostRuntime,
+    name: &'a str,
+    streams: &[StandardStream],
+) -> Result<Named<'a>, DayFault<'a>> {
+    if let Some(stream) = stream_at(rt, name, streams) {
+        return Err(DayFault::Stream(name, stream));
+    }
+    match Target::find(rt, name) {
+        Ok(target) => Ok(Named { name, target }),
+        Err(error) => Err(DayFault::of(&error, name)),
+    }
+}
+
+/// Refuses:
+///
+/// - a pack that doesn't exist, so that a misspelt name after `--pack` doesn't save a new pack over an old one;
+/// - an output that is the same file as another output, as a file that is read or as a standard stream;
+/// - a pack that exists as the place of the new pack of a day without `--pack`;
+/// - without `--overwrite`, an output that exists;
+/// - a file that is read and is also standard output or standard error.
+pub fn test_outputs<'a>(rt: &HostRuntime, order: &Order<'a>) -> Result<(), DayFault<'a>> {
+    let mut files = Files::new(rt.alloc());
+    files.test(rt, order)
+}
+
+impl<'a> Files<'a> {
+    fn new(alloc: Global) -> Files<'a> {
+        Files {
+            texts: Vec::new(alloc),
+            pack: None,
+            written: Vec::new(alloc),
+        }
+    }
+
+    /// Adds what the day reads and writes, each file once it is tested, and tests the folder of the pages.
+    fn test(&mut self, rt: &HostRuntime, order: &Order<'a>) -> Result<(), DayFault<'a>> {
+        self.add_texts(rt, order)?;
+        self.add_pack(rt, order.pack)?;
+        self.add_saved(rt, order)?;
+        self.add_written(rt, order)?;
+        match order.paper {
+            Some(paper) => paper.test_free(rt, order.overwrites, self),
+            None => Ok(()),
+        }
+    }
+
+    /// Adds what the day reads, except its pack.
+    fn add_texts(&mut self, rt: &HostRuntime, order: &Order<'a>) -> Result<(), DayFault<'a>> {
+        for name in order.deck1.iter().chain(order.deck2.iter()) {
+            self.add_text(rt, *name)?;
+        }
+        for name in [order.rules, order.redo] {
+            if let Some(name) = name {
+                self.add_text(rt, name)?;
+            }
+        }
+        Ok(())
+    }
+
+    fn add_text(&mut self, rt: &HostRuntime, name: &'a str) -> Result<(), DayFault<'a>> {
+        let text = found(rt, name, &WRITTEN)?;
+        self.texts.push(text)?;
+        Ok(())
+    }
+
+    /// Adds the pack that is read.
+    fn add_pack(&mut self, rt: &HostRuntime, name: Option<&'a str>) -> Result<(), DayFault<'a>> {
+        let Some(name) = name else {
+            return Ok(());
+        };
+        let pack = found(rt, name, &WRITTEN)?;
+        if !pack.target.is_there() {
+            return Err(no_pack(rt, name));
+        }
+        self.pack = Some(pack);
+        Ok(())
+    }
+
+    /// Adds the file that the pack is saved to. It may be the pack that is read, but no text that is read, no pack if the day begins
+    /// with a new one, and without `--overwrite` no other file that exists.
+    fn add_saved(&mut self, rt: &HostRuntime, order: &Order<'a>) -> Result<(), DayFault<'a>> {
+        let Some(name) = order.save else {
+            return Ok(());
+        };
+        let save = found(rt, name, &STREAMS)?;
+        if has_same(&self.texts, &save) {
+            return Err(DayFault::Same(name));
+        }
+        if is_folder(rt, name) {
+            return Err(DayFault::Call(name, io::Error::from(ErrorKind::IsADirectory)));
+        }
+        if order.pack.is_none() && is_pack_at(rt, Path::new(name)) {
+            return Err(DayFault::NewOverPack(name));
+        }
+        if !order.overwrites && save.target.is_there() && !self.is_pack(&save) {
+            return Err(DayFault::OtherPack(name));
+        }
+        self.written.push(save)?;
+        Ok(())
+    }
+
+    /// Adds all other outputs that are files.
+    fn add_written(&mut self, rt: &HostRuntime, order: &Order<'a>) -> Result<(), DayFault<'a>> {
+        for name in [order.script, order.log, order.deck_out1, order.deck_out2] {
+            if let Some(name) = name {
+                self.add_output(rt, name, order.overwrites)?;
+            }
+        }
+        Ok(())
+    }
+
+    /// Adds an output. It may be no file that is read and no other output, and without `--overwrite` no file that exists.
+    fn add_output(
+        &mut self,
+        rt: &HostRuntime,
+        name: &'a str,
+        overwrites: bool,
+    ) -> Result<(), DayFault<'a>> {
+        let output = found(rt, name, &STREAMS)?;
+        if self.has(&output) {
+            return Err(DayFault::Same(name));
+        }
+        if !overwrites && output.target.is_there() {
+            return Err(DayFault::Exists(name));
+        }
+        self.written.push(output)?;
+        Ok(())
+    }
+
+    /// Whether a file is the pack that is read.
+    fn is_pack(&self, file: &Named<'a>) -> bool {
+        match &self.pack {
+            Some(pack) => pack.target.is_same(&file.target),
+            None => false,
+        }
+    }
+
+    /// Whether a file is one of these.
+    fn has(&self, file: &Named<'a>) -> bool {
+        has_same(&self.texts, file) || self.is_pack(file) || has_same(&self.written, file)
+    }
+
+    /// The name of the first of these files that is in a folder, if one is.
+    pub fn name_within(&self, folder: &Metadata) -> Option<&'a str> {
+        if let Some(name) = first_within(&self.texts, folder) {
+            return Some(name);
+        }
+        match &self.pack {
+            Some(pack) if pack.target.is_in(folder) => Some(pack.name),
+            _ => first_within(&self.written, folder),
+        }
+    }
+}
+
+/// Why no pack can be read at a path.
+fn no_pack<'a>(rt: &HostRuntime, name: &'a str) -> DayFault<'a> {
+    match fs::metadata(rt, name) {
+        Ok(found) if found.is_dir() => called(name, ErrorKind::IsADirectory),
+        Ok(_) => DayFault::Device(name),
+        Err(_) => called(name, ErrorKind::NotFound),
+    }
+}
+
+/// The fault of a call on a file that fails in this way.
+fn called<'a>(name: &'a str, kind: ErrorKind) -> DayFault<'a> {
+    DayFault::Call(name, io::Error::from(kind))
+}
+
+/// Whether a folder is at a path.
+fn is_folder(rt: &HostRuntime, path: &str) -> bool {
+    match fs::metadata(rt, path) {
+        Ok(found) => found.is_dir(),
+        Err(_) => false,
+    }
+}
+
+/// Whether a file is one of others.
+fn has_same<'a>(others: &[Named<'a>], file: &Named<'a>) -> bool {
+    others
+        .iter()
+        .any(|other| other.target.is_same(&file.target))
+}
+
+/// The name of the first of some files that is in a folder, if one is.
+fn first_within<'a>(files: &[Named<'a>], folder: &Metadata) -> Option<&'a str> {
+    for file in files {
+        if file.target.is_in(folder) {
+            return Some(file.name);
+        }
+    }
+    None
+}
+
+impl<'a> Outputs<'a> {
+    /// Opens all outputs: after `Ok` each can be written. After a fault the files that it made are removed.
+    pub fn open(
+        rt: &HostRuntime,
+        order: &Order<'a>,
+        locked: Option<LockedPack>,
+    ) -> Result<Outputs<'a>, DayFault<'a>> {
+        let limit = limit_of(rt, order)?;
+        match save_prepared(rt, order, locked) {
+            Ok(locked) => Outputs::open_beside(rt, order, limit, locked),
+            Err(fault) => Err(fault),
+        }
+    }
+
+    /// Opens all outputs beside the file that the pack is saved to.
+    fn open_beside(
+        rt: &HostRuntime,
+        order: &Order<'a>,
+        limit: Option<Limit>,
+        locked: Option<LockedPack>,
+    ) -> Result<Outputs<'a>, DayFault<'a>> {
+        let mut outputs = Outputs {
+            script: None,
+            log: None,
+            deck1: None,
+            deck2: None,
+            locked,
+            kept: KeptOutputs {
+                script: None,
+                log: None,
+                folder: None,
+                limit,
+            },
+            made: Vec::new(rt.alloc()),
+        };
+        match outputs.open_all(rt, order) {
+            Ok(()) => Ok(outputs),
+            Err(fault) => {
+                remove_made(rt, &outputs.made);
+                Err(fault)
+            }
+        }
+    }
+
+    fn open_all(&mut self, rt: &HostRuntime, order: &Order<'a>) -> Result<(), DayFault<'a>> {
+        let overwrites = order.overwrites;
+        self.script = self.open_one(rt, order.script, overwrites)?;
+        self.log = self.open_one(rt, order.log, overwrites)?;
+        self.deck1 = self.open_one(rt, order.deck_out1, overwrites)?;
+        self.deck2 = self.open_one(rt, order.deck_out2, overwrites)?;
+        self.kept.script = kept_of(&self.script, order.script)?;
+        self.kept.log = kept_of(&self.log, order.log)?;
+        self.open_folder(rt, order.paper, overwrites)
+    }
+
+    /// Makes the folder of the pages, if they are asked for and it isn't there.
+    fn open_folder(
+        &mut self,
+        rt: &HostRuntime,
+        paper: Option<Paper<'a>>,
+        overwrites: bool,
+    ) -> Result<(), DayFault<'a>> {
+        let Some(paper) = paper else {
+            return Ok(());
+        };
+        if paper.make(rt, self.kept.limit)? {
+            self.made.push(paper.folder)?;
+        }
+        self.kept.folder = Some(paper.lock(rt, overwrites)?);
+        Ok(())
+    }
+
+    /// Opens an output, if one is named. Its old contents stay until something is written.
+    fn open_one(
+        &mut self,
+        rt: &HostRuntime,
+        name: Option<&'a str>,
+        overwrites: bool,
+    ) -> Result<Option<Output>, DayFault<'a>> {
+        let Some(name) = name else {
+            return Ok(None);
+        };
+        match Output::open(rt, name, overwrites, self.kept.limit) {
+            Ok(output) => {
+                if output.is_made() {
+                    self.made.push(name)?;
+                }
+                Ok(Some(output))
+            }
+            Err(fault) => Err(DayFault::of_pack(&fault, name)),
+        }
+    }
+}
+
+/// The most that new files let anyone do: what the file lets them do that the pack is saved to, or else the file that it is read from.
+fn limit_of<'a>(rt: &HostRuntime, order: &Order<'a>) -> Result<Option<Limit>, DayFault<'a>> {
+    if let Some(limit) = limit_by(rt, order.save)? {
+        return Ok(Some(limit));
+    }
+    limit_by(rt, order.pack)
+}
+
+fn limit_by<'a>(rt: &HostRuntime, name: Option<&'a str>) -> Result<Option<Limit>, DayFault<'a>> {
+    let Some(name) = name else {
+        return Ok(None);
+    };
+    match Limit::of(rt, name) {
+        Ok(limit) => Ok(limit),
+        Err(error) => Err(DayFault::of(&error, name)),
+    }
+}
+
+/// A second handle of an output.
+fn kept_of<'a>(
+    output: &Option<Output>,
+    name: Option<&'a str>,
+) -> Result<Option<Kept>, DayFault<'a>> {
+    let (Some(output), Some(name)) = (output, name) else {
+        return Ok(None);
+    };
+    match output.kept() {
+        Ok(kept) => Ok(Some(kept)),
+        Err(error) => Err(DayFault::of(&error, name)),
+    }
+}
+
+/// The lock on the file that the pack is saved to, after a trial of the save; none if the pack isn't saved, or the file doesn't exist.
+fn save_prepared<'a>(
+    rt: &HostRuntime,
+    order: &Order<'a>,
+    locked: Option<LockedPack>,
+) -> Result<Option<LockedPack>, DayFault<'a>> {
+    let Some(name) = order.save else {
+        return Ok(None);
+    };
+    match prepare_save(rt, name, locked) {
+        Ok(locked) => Ok(locked),
+        Err(FileFault::Call(error)) if error.kind() == ErrorKind::PermissionDenied => {
+            Err(DayFault::FolderClosed(name))
+        }
+        Err(fault) => Err(DayFault::of_pack(&fault, name)),
+    }
+}
+
+/// Removes files that were made by trying, and the folder of the pages.
+pub fn remove_made(rt: &HostRuntime, made: &[&str]) {
+    for name in made {
+        if fs::remove_file(rt, *name).is_err() {
+            let _ = fs::remove_dir(rt, *name);
+        }
+    }
+}
+
+/// Writes a deck as it is run, if that is asked for.
+pub fn write_deck<'a>(
+    rt: &HostRuntime,
+    output: Option<Output>,
+    name: Option<&'a str>,
+    text: &[u8],
+) -> Result<(), DayFault<'a>> {
+    let (Some(mut output), Some(name)) = (output, name) else {
+        return Ok(());
+    };
+    match write_whole(&mut output, text) {
+        Ok(()) => Ok(()),
+        Err(error) => Err(unwritten(rt, name, &error)),
+    }
+}
+
+fn write_whole(output: &mut Output, text: &[u8]) -> io::Result<()> {
+    output.write_all(text)?;
+    output.flush()
+}

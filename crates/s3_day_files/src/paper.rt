@@ -1,0 +1,115 @@
+//! The folder of the pages, and how they are written, as the options ask.
+
+use crate::fault::DayFault;
+use crate::outputs::Files;
+use clap::ArgMatches;
+use s3_host_files::{Limit, LockedFolder, is_empty_folder, make_folder, stream_in, test_folder};
+use std::fs;
+use std::io::ErrorKind;
+
+/// How pages are written.
+#[derive(Clone, Copy)]
+pub enum Form {
+    /// As a text.
+    Text,
+    /// As forms in a PDF document.
+    Document {
+        /// The forms have bars.
+        has_bars: bool,
+    },
+}
+
+/// Where each job's pages are written, and how.
+#[derive(Clone, Copy)]
+pub struct Paper<'a> {
+    /// The name of the folder.
+    pub folder: &'a str,
+    /// How the pages are written.
+    pub form: Form,
+}
+
+impl<'a> Paper<'a> {
+    /// What the options ask for, if they ask for pages, or why they can't.
+    pub fn read(words: &ArgMatches<'a>) -> Result<Option<Paper<'a>>, &'static str> {
+        let named = words.get_str("form");
+        let form = form_of(named, words.get_flag("plain"))?;
+        match words.get_str("paper") {
+            Some(folder) => Ok(Some(Paper { folder, form })),
+            None if named.is_some() => Err("--form goes with --paper"),
+            None => Ok(None),
+        }
+    }
+
+    /// Refuses a folder that isn't empty, unless its files may be overwritten, and a folder with a file that is read or written, as by a
+    /// standard stream. A folder that doesn't exist is made later.
+    pub fn test_free(
+        &self,
+        rt: &HostRuntime,
+        overwrites: bool,
+        files: &Files<'a>,
+    ) -> Result<(), DayFault<'a>> {
+        match fs::metadata(rt, self.folder) {
+            Ok(found) => {
+                if let Some(name) = files.name_within(&found) {
+                    return Err(DayFault::Within(name));
+                }
+                self.test_streams(rt)?;
+                self.test_empty(rt, overwrites)
+            }
+            Err(error) if error.kind() == ErrorKind::NotFound => Ok(()),
+            Err(error) => Err(DayFault::of(&error, self.folder)),
+        }
+    }
+
+    /// Refuses a folder with a file that is also standard output or standard error.
+    fn test_streams(&self, rt: &HostRuntime) -> Result<(), DayFault<'a>> {
+        match stream_in(rt, self.folder) {
+            Ok(Some(stream)) => Err(DayFault::Within(stream.name())),
+            Ok(None) => Ok(()),
+            Err(error) => Err(DayFault::of(&error, self.folder)),
+        }
+    }
+
+    /// Refuses a folder that isn't empty, unless its files may be overwritten.
+    fn test_empty(&self, rt: &HostRuntime, overwrites: bool) -> Result<(), DayFault<'a>> {
+        match is_empty_folder(rt, self.folder) {
+            Ok(is_empty) if is_empty || overwrites => Ok(()),
+            Ok(_) => Err(DayFault::NotEmpty(self.folder)),
+            Err(error) => Err(DayFault::of(&error, self.folder)),
+        }
+    }
+
+    /// Makes the folder, if it doesn't exist. It returns whether it was made.
+    pub fn make(&self, rt: &HostRuntime, limit: Option<Limit>) -> Result<bool, DayFault<'a>> {
+        match make_folder(rt, self.folder, limit) {
+            Ok(()) => Ok(true),
+            Err(error) if error.kind() == ErrorKind::AlreadyExists => Ok(false),
+            Err(error) => Err(DayFault::of(&error, self.folder)),
+        }
+    }
+
+    /// Locks the folder for this day, tests again that it is empty, and tries whether files can be made in it.
+    pub fn lock(&self, rt: &HostRuntime, overwrites: bool) -> Result<LockedFolder, DayFault<'a>> {
+        let locked = match LockedFolder::lock(rt, self.folder) {
+            Ok(locked) => locked,
+            Err(fault) => return Err(DayFault::of_pack(&fault, self.folder)),
+        };
+        self.test_empty(rt, overwrites)?;
+        match test_folder(rt, self.folder) {
+            Ok(()) => Ok(locked),
+            Err(error) => Err(DayFault::of(&error, self.folder)),
+        }
+    }
+}
+
+/// How pages are written, given the form that is named, and whether the bars are left out.
+fn form_of(named: Option<&str>, is_plain: bool) -> Result<Form, &'static str> {
+    match named.unwrap_or("text") {
+        "text" if is_plain => Err("--plain goes with --form pdf"),
+        "text" => Ok(Form::Text),
+        "pdf" => Ok(Form::Document {
+            has_bars: !is_plain,
+        }),
+        _ => Err("--form takes text or pdf"),
+    }
+}

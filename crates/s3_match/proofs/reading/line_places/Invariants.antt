@@ -1,0 +1,6 @@
+use Rattle.std.proofs.Common.{take}
+use Rattle.s3_match.specs.Inner.Reading.{AreLinePlaces}
+use Rattle.s3_match.proofs.reading.line_places.Given as goal
+
+abbrev pub invariant-loop-line : goal.invariant-loop-line
+invariant-loop-line l = AreLinePlaces (take l.line-index l.program.inputs.items) l.places.items

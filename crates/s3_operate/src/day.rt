@@ -1,0 +1,315 @@
+//! A day, from its first turn to what is told at its end.
+
+use crate::pages::{Making, write_paper};
+use crate::saving::{end_day, end_unwritten};
+use crate::streams::Stream;
+use s3_cli::{CliFault, SessionFault};
+use s3_command_line::{FILE, OUT_OF_MEMORY};
+use s3_day_files::{DayFault, KeptOutputs, Order, Output, Outputs, Watch, remove_made, write_deck};
+use s3_day_log::{Begun, DayLog};
+use s3_desk::{Day, operate_day};
+use s3_host_files::StandardOutput;
+use s3_operating::{Closing, Desk, Journal, Questioned, Reports, Seat, Settings, Tape, Verdict};
+use s3_refusals::Reason;
+use s3_replay::Performed;
+use s3_replies::Rules;
+use std::alloc::{AllocError, Global};
+use std::io;
+use std::io::{IsTerminal, Stdin, Write};
+
+/// The most bytes that `run` reads.
+const RUN_LIMIT: u64 = 4_194_304;
+
+/// The bytes of the markers that `run` wants, with their ends.
+const MARKERS: u64 = 22;
+
+/// With what a day that is refused no longer is operated, beside its pack.
+#[derive(Drop)]
+pub struct Prepared<'a> {
+    /// With what it is begun, as the log has it.
+    pub begun: Begun,
+    /// Level 1 with its deck.
+    pub one: Seat<'a>,
+    /// Level 2 with its deck.
+    pub two: Seat<'a>,
+    /// The rules.
+    pub rules: &'a Rules,
+    /// The log that is done again.
+    pub logged: Option<&'a DayLog>,
+}
+
+/// Printed before a list of replies is typed.
+const REPLIES_TYPED: &'static str =
+    "replies are read from this terminal, one a line, as halts are asked; control-D ends them\n";
+
+/// The desk of the command.
+pub type OwnDesk<'a> = Desk<'a, Stdin, Stream<'a>, Output, Watch<'a>>;
+
+/// The texts of both decks.
+#[derive(Clone, Copy)]
+struct Texts<'a> {
+    one: &'a [u8],
+    two: &'a [u8],
+}
+
+/// A day that is over, and the desk's account of it.
+#[derive(Drop)]
+pub struct Over {
+    /// What it left.
+    pub day: Day,
+    /// The desk's account.
+    pub closing: Closing,
+}
+
+impl Over {
+    /// Whether a level isn't done.
+    pub fn is_unfinished(&self) -> bool {
+        self.closing.verdict == Verdict::Unfinished
+    }
+
+    /// Whether the end of the day is reported: not if the day is to be quiet, and each job came to its end.
+    pub fn is_reported(&self, order: &Order<'_>) -> bool {
+        !order.is_quiet || self.closing.verdict != Verdict::Clean
+    }
+}
+
+/// Operates a day over a pack, hands out what it leaves, and gives the exit status.
+pub fn operate_prepared<'n, 'a>(
+    rt: &'a HostRuntime,
+    order: &Order<'n>,
+    pack: Vec<u8>,
+    day: Prepared<'a>,
+    outputs: Outputs<'n>,
+) -> Result<u8, DayFault<'n>> {
+    let Outputs {
+        script,
+        log,
+        deck1,
+        deck2,
+        locked,
+        kept,
+        made,
+    } = outputs;
+    let texts = Texts {
+        one: day.one.text(),
+        two: day.two.text(),
+    };
+    let mut desk = desk_of(rt, order, day, script, log)?;
+    if matches!(order.questioned, Questioned::Lines) && rt.stdin().is_terminal() {
+        desk.tell(REPLIES_TYPED);
+    }
+    match operated(rt.alloc(), order, pack, texts, &mut desk) {
+        Ok(over) => {
+            let written = match write_decks(rt, order, texts, deck1, deck2) {
+                Ok(()) => write_reports(rt, order, &mut desk, texts, &over, &kept),
+                Err(fault) => Err(fault),
+            };
+            match written {
+                Ok(()) => end_day(rt, order, &mut desk, &kept, &over, locked),
+                Err(fault) => Err(end_unwritten(rt, order, &mut desk, &kept, fault)),
+            }
+        }
+        Err(fault) => {
+            // if a deck is refused nothing is written, so what was made by trying goes again
+            if desk.refused().is_some() {
+                remove_made(rt, &made);
+            }
+            Err(fault)
+        }
+    }
+}
+
+/// Writes both decks as they are run, as far as that is asked for.
+fn write_decks<'n>(
+    rt: &HostRuntime,
+    order: &Order<'n>,
+    texts: Texts<'_>,
+    deck1: Option<Output>,
+    deck2: Option<Output>,
+) -> Result<(), DayFault<'n>> {
+    write_deck(rt, deck1, order.deck_out1, texts.one)?;
+    write_deck(rt, deck2, order.deck_out2, texts.two)
+}
+
+/// The desk before its day, with the files for the script and the log.
+fn desk_of<'a>(
+    rt: &'a HostRuntime,
+    order: &Order<'_>,
+    day: Prepared<'a>,
+    script: Option<Output>,
+    log: Option<Output>,
+) -> Result<OwnDesk<'a>, AllocError> {
+    let Prepared {
+        begun,
+        one,
+        two,
+        rules,
+        logged,
+    } = day;
+    let settings = Settings {
+        rules,
+        logged,
+        bounds: order.bounds,
+        is_quiet: order.is_quiet,
+        questioned: order.questioned,
+        wants_decks: order.save.is_some(),
+        saves_unfinished: order.saves_unfinished,
+    };
+    let reports = Reports::new(rt.alloc(), Stream::Reports(StandardOutput::new(rt)))?;
+    Ok(Desk::new(
+        rt.alloc(),
+        settings,
+        one,
+        two,
+        rt.stdin(),
+        Stream::Messages(rt.stderr()),
+        reports,
+        Tape::new(script),
+        Journal::new(log),
+        begun,
+        Watch::new(rt),
+    ))
+}
+
+/// Operates a day to its end, and closes the desk.
+fn operated<'n>(
+    alloc: Global,
+    order: &Order<'n>,
+    pack: Vec<u8>,
+    texts: Texts<'_>,
+    desk: &mut OwnDesk<'_>,
+) -> Result<Over, DayFault<'n>> {
+    let mut performed = Performed::new(alloc);
+    let done = operate_day(
+        alloc,
+        pack,
+        texts.one,
+        texts.two,
+        desk,
+        order.bounds,
+        &mut performed,
+    );
+    if desk.refused().is_some() {
+        return Err(refusal_of(order, desk));
+    }
+    match done {
+        Ok(day) => closed(order, desk, day, &performed),
+        Err(_) if desk.has_given_up() => Err(refusal_of(order, desk)),
+        Err(fault) => Err(DayFault::Cli(CliFault::Session(SessionFault::Run(fault)))),
+    }
+}
+
+/// Closes the desk after its day.
+fn closed<'n>(
+    order: &Order<'n>,
+    desk: &mut OwnDesk<'_>,
+    day: Day,
+    performed: &Performed,
+) -> Result<Over, DayFault<'n>> {
+    match desk.close(&day, performed) {
+        Ok(closing) => Ok(Over { day, closing }),
+        Err(_) => Err(refusal_of(order, desk)),
+    }
+}
+
+/// Writes the reports and the pages, and reports how both levels ended.
+fn write_reports<'n>(
+    rt: &HostRuntime,
+    order: &Order<'n>,
+    desk: &mut OwnDesk<'_>,
+    texts: Texts<'_>,
+    over: &Over,
+    kept: &KeptOutputs,
+) -> Result<(), DayFault<'n>> {
+    let is_written = desk.finish_reports(&over.day.outcome);
+    if over.is_reported(order) {
+        desk.tell("\n");
+        desk.tell(over.closing.summary.as_str());
+    }
+    if order.script.is_some() {
+        tell_size(rt, texts, desk.script_len());
+    }
+    test_outputs(order, desk)?;
+    if desk.reports_to().has_lost_reader() {
+        desk.tell(
+            "what reads standard output has ended before the reports did; all else is done as asked\n",
+        );
+    } else if !is_written {
+        report_output_failure(rt, desk.reports_to().failure());
+        return Err(DayFault::Cli(FILE));
+    }
+    match order.paper {
+        Some(paper) => {
+            let making = Making {
+                overwrites: order.overwrites,
+                limit: kept.limit,
+                is_reported: over.is_reported(order),
+            };
+            write_paper(rt, paper, making, desk, &over.day.outcome)
+        }
+        None => Ok(()),
+    }
+}
+
+/// Reports why standard output can't be written.
+fn report_output_failure(rt: &HostRuntime, failure: Option<io::Error>) {
+    let _ = match failure {
+        Some(error) => {
+            let reason = Reason(error);
+            writeln!(
+                rt.stderr(),
+                "the reports can't be written to standard output: {reason}"
+            )
+        }
+        None => writeln!(
+            rt.stderr(),
+            "the reports can't be written to standard output"
+        ),
+    };
+}
+
+/// Why a day was ended before its time: its deck can't be read, its script or its log can't be written, or memory ran out.
+fn refusal_of<'n>(order: &Order<'n>, desk: &OwnDesk<'_>) -> DayFault<'n> {
+    match (desk.refused(), test_written(order, desk)) {
+        (Some(level), _) => DayFault::Deck(level),
+        (None, Err(fault)) => fault,
+        (None, Ok(())) => DayFault::Cli(OUT_OF_MEMORY),
+    }
+}
+
+/// Reports a script that is too long, with its decks, for `run`.
+fn tell_size(rt: &HostRuntime, texts: Texts<'_>, script: u64) {
+    let all = (texts.one.len() as u64)
+        .saturating_add(texts.two.len() as u64)
+        .saturating_add(script)
+        .saturating_add(MARKERS);
+    if all > RUN_LIMIT {
+        let _ = writeln!(
+            rt.stderr(),
+            "the decks and the script have {all} bytes, and `run` reads {RUN_LIMIT}: this day can't be replayed so"
+        );
+    }
+}
+
+/// Refuses a day that memory ran out for, or whose script or log can't be written, unless a person goes on without it.
+pub fn test_outputs<'n>(order: &Order<'n>, desk: &mut OwnDesk<'_>) -> Result<(), DayFault<'n>> {
+    if desk.is_out_of_memory() {
+        return Err(DayFault::Cli(OUT_OF_MEMORY));
+    }
+    match desk.test_outputs() {
+        Ok(()) => Ok(()),
+        Err(_) => Err(refusal_of(order, desk)),
+    }
+}
+
+/// Refuses a day whose script or log couldn't be written, or that memory ran out for.
+pub fn test_written<'n>(order: &Order<'n>, desk: &OwnDesk<'_>) -> Result<(), DayFault<'n>> {
+    if desk.is_out_of_memory() {
+        return Err(DayFault::Cli(OUT_OF_MEMORY));
+    }
+    match (order.script, order.log) {
+        (Some(name), _) if desk.has_script_failed() => Err(DayFault::File(name)),
+        (_, Some(name)) if desk.has_log_failed() => Err(DayFault::File(name)),
+        _ => Ok(()),
+    }
+}

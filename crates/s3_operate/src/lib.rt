@@ -1,0 +1,386 @@
+//! `bureau operate`: the desk, over real files, the terminal and the clock.
+//!
+//! What is proved: each call is safe and returns, and the exit status is at most 5 (`operate`). What a desk performs and writes of a day
+//! is proved in `s3_desk` and `s3_operating`. What is asked at a terminal, which status stands for what, and that a pack is saved whole
+//! or not at all are tested, by rows. What files, standard input and output and the clock give isn't claimed: they are used as the
+//! toolchain offers them.
+
+#![tactic(auto)]
+
+ghost use Rattle.std.specs.Prelude.{◌≤◌};
+
+mod day;
+mod inherited_words;
+mod noted;
+mod pages;
+mod saving;
+mod streams;
+
+use clap::ArgMatches;
+use day::{Prepared, operate_prepared};
+use inherited_words::words_again;
+use s3_cards::LevelId;
+use s3_cli::{CliFault, RunFault, SessionFault};
+use s3_command_line::{OUT_OF_MEMORY, command};
+use s3_day_files::{
+    Again, DayFault, DayPack, Decks, Order, Outputs, list_jobs, names, read_log, read_rules,
+    test_outputs, test_same,
+};
+use s3_day_log::DayLog;
+use s3_labels::{Pack, Refusal, Refused};
+use s3_operating::Seat;
+use s3_paper_commands::status::{DONE, PASSED_OVER, PERSON_NEEDED};
+use s3_refusals::{Shown, holder_of, pack_words};
+use s3_replies::Rules;
+use s3_store::MemoryStore;
+use std::io::Write;
+
+/// Does what the words of `bureau operate` ask, and gives the exit status. The words as they were given, behind `operate`, are
+/// for the log.
+pub fn operate<'a>(rt: &'a HostRuntime, matches: &ArgMatches<'a>, words: &[String]) -> u8
+    ensures { result ≤ 5 }
+{
+    match matches.get_str("redo") {
+        Some(path) => operate_again(rt, matches, words, path),
+        None => status_of_day(rt, operate_with(rt, matches, words, None)),
+    }
+}
+
+/// The exit status of a day; why it was refused is told.
+fn status_of_day(rt: &HostRuntime, done: Result<u8, DayFault<'_>>) -> u8
+    ensures { result ≤ 5 }
+{
+    match done {
+        Ok(status) => status.min(PASSED_OVER),
+        Err(fault) => {
+            tell_holder(rt, &fault);
+            fault.tell(&mut rt.stderr())
+        }
+    }
+}
+
+/// Reports which process has the pack that is in use, if the system lists it.
+fn tell_holder(rt: &HostRuntime, fault: &DayFault<'_>) {
+    let DayFault::InUse(name) = fault else {
+        return;
+    };
+    if let Some(process) = holder_of(rt, *name) {
+        let name = Shown(*name);
+        let _ = writeln!(rt.stderr(), "{name} is locked by process {process}");
+    }
+}
+
+/// Does the day of a log again.
+fn operate_again(rt: &HostRuntime, matches: &ArgMatches<'_>, words: &[String], path: &str) -> u8
+    ensures { result ≤ 5 }
+{
+    let log = match read_log(rt, path) {
+        Ok(log) => log,
+        Err(fault) => return status_of_day(rt, Err(fault)),
+    };
+    let whole = match words_again(rt.alloc(), words, matches, &log) {
+        Ok(Some(whole)) => whole,
+        Ok(None) => return refuse_log(rt, path),
+        Err(_) => return refuse_for_memory(rt),
+    };
+    let Ok(parser) = command(rt.alloc()) else {
+        return refuse_for_memory(rt);
+    };
+    match parser.try_get_matches_from(whole.as_slice()) {
+        Ok(parsed) => operate_parsed(rt, &parsed, &whole, path, &log),
+        Err(_) => refuse_log(rt, path),
+    }
+}
+
+/// Does the day of a log again, by all its words.
+fn operate_parsed<'a>(
+    rt: &'a HostRuntime,
+    parsed: &ArgMatches<'a>,
+    whole: &[String],
+    path: &'a str,
+    log: &'a DayLog,
+) -> u8
+    ensures { result ≤ 5 }
+{
+    match parsed.subcommand() {
+        Some((_operate, matches)) => {
+            let words = whole.get(2..).unwrap_or(&[]);
+            let again = Again { path, log };
+            status_of_day(rt, operate_with(rt, matches, words, Some(again)))
+        }
+        None => refuse_log(rt, path),
+    }
+}
+
+fn refuse_for_memory(rt: &HostRuntime) -> u8
+    ensures { result ≤ 5 }
+{
+    status_of_day(rt, Err(DayFault::Cli(OUT_OF_MEMORY)))
+}
+
+/// Refuses a log whose words this program doesn't take.
+fn refuse_log(rt: &HostRuntime, path: &str) -> u8
+    ensures { result ≤ 5 }
+{
+    let _ = writeln!(
+        rt.stderr(),
+        "{}: line 1 has words that this program doesn't take; use the program that wrote the log",
+        Shown(path)
+    );
+    status_of_day(rt, Err(DayFault::Redo))
+}
+
+/// Does a day, or lists its jobs. It is refused before the first turn, or only if memory runs out or a file fails.
+fn operate_with<'a>(
+    rt: &'a HostRuntime,
+    matches: &ArgMatches<'a>,
+    words: &[String],
+    again: Option<Again<'a>>,
+) -> Result<u8, DayFault<'a>> {
+    match order_of(rt, matches) {
+        Ok(order) => operate_order(rt, &order, matches.get_flag("jobs"), words, again),
+        Err(fault) => Err(fault),
+    }
+}
+
+/// What the options ask for.
+fn order_of<'a>(rt: &HostRuntime, matches: &ArgMatches<'a>) -> Result<Order<'a>, DayFault<'a>> {
+    let deck1 = names(rt, matches, "deck1")?;
+    match names(rt, matches, "deck2") {
+        Ok(deck2) => match Order::read(rt, matches, deck1, deck2) {
+            Ok(order) => Ok(order),
+            Err(reason) => Err(DayFault::Usage(reason)),
+        },
+        Err(error) => Err(DayFault::from(error)),
+    }
+}
+
+/// Does what the options of a day ask for.
+fn operate_order<'a>(
+    rt: &'a HostRuntime,
+    order: &Order<'a>,
+    lists_jobs: bool,
+    words: &[String],
+    again: Option<Again<'a>>,
+) -> Result<u8, DayFault<'a>> {
+    if let Some(reason) = conflict_of(order, lists_jobs) {
+        return Err(DayFault::Usage(reason));
+    }
+    match Decks::read(rt, order, words, wants_checksums(order, again)) {
+        Ok(decks) if lists_jobs => jobs_listed(rt, &decks),
+        Ok(decks) => operate_decks(rt, order, decks, again),
+        Err(fault) => Err(fault),
+    }
+}
+
+/// Lists the jobs of both decks.
+fn jobs_listed<'a>(rt: &HostRuntime, decks: &Decks<'a>) -> Result<u8, DayFault<'a>> {
+    match list_jobs(rt, &decks.one, &decks.two) {
+        Ok(()) => Ok(DONE),
+        Err(fault) => Err(fault),
+    }
+}
+
+/// Why the options don't go together, if they don't.
+fn conflict_of(order: &Order<'_>, lists_jobs: bool) -> Option<&'static str> {
+    if lists_jobs && order.deck1.is_empty() && order.deck2.is_empty() {
+        return Some("--jobs lists the jobs of decks; give --deck1 FILE, --deck2 FILE or both");
+    }
+    if order.saves_unfinished && order.save.is_none() {
+        return Some("--save-unfinished goes with --save FILE, which names where the pack is saved");
+    }
+    None
+}
+
+/// Whether the files that are read are known by their checksums: for a log that is written, or for one that is done again.
+fn wants_checksums(order: &Order<'_>, again: Option<Again<'_>>) -> bool {
+    order.log.is_some() || again.is_some()
+}
+
+/// What a day has beside its decks.
+#[derive(Drop)]
+struct Rest {
+    pack: DayPack,
+    rules: Rules,
+}
+
+/// Does a day whose decks are read.
+fn operate_decks<'a>(
+    rt: &'a HostRuntime,
+    order: &Order<'a>,
+    mut decks: Decks<'a>,
+    again: Option<Again<'a>>,
+) -> Result<u8, DayFault<'a>> {
+    match read_rest(rt, order, &mut decks, again) {
+        Ok(rest) => operate_read(rt, order, decks, rest, again),
+        Err(fault) => Err(fault),
+    }
+}
+
+/// Reads the rules, tests the outputs, and reads the pack.
+fn read_rest<'a>(
+    rt: &HostRuntime,
+    order: &Order<'a>,
+    decks: &mut Decks<'a>,
+    again: Option<Again<'_>>,
+) -> Result<Rest, DayFault<'a>> {
+    let rules = read_rules(rt, order.rules)?;
+    match read_tested(rt, order, decks, again) {
+        Ok(pack) => Ok(Rest { pack, rules }),
+        Err(fault) => Err(fault),
+    }
+}
+
+/// Reads the pack, once the outputs are tested.
+fn read_tested<'a>(
+    rt: &HostRuntime,
+    order: &Order<'a>,
+    decks: &mut Decks<'a>,
+    again: Option<Again<'_>>,
+) -> Result<DayPack, DayFault<'a>> {
+    test_outputs(rt, order)?;
+    DayPack::read(rt, order, &mut decks.begun, wants_checksums(order, again))
+}
+
+/// Does a day that is read, unless a person has to look at its decks first.
+fn operate_read<'a>(
+    rt: &'a HostRuntime,
+    order: &Order<'a>,
+    mut decks: Decks<'a>,
+    rest: Rest,
+    again: Option<Again<'a>>,
+) -> Result<u8, DayFault<'a>> {
+    match are_decks_taken(rt, order, &mut decks, again) {
+        Ok(true) => operate_over(rt, order, decks, rest, again.map(|again| again.log)),
+        Ok(false) => Ok(PERSON_NEEDED),
+        Err(fault) => Err(fault),
+    }
+}
+
+/// Whether the decks, from where each is taken up, are accepted, and are those of a log that is done again.
+fn are_decks_taken<'a>(
+    rt: &HostRuntime,
+    order: &Order<'a>,
+    decks: &mut Decks<'a>,
+    again: Option<Again<'a>>,
+) -> Result<bool, DayFault<'a>> {
+    if let Some(again) = again {
+        test_same(rt, again, &decks.begun)?;
+    }
+    decks.take_up(rt, order)?;
+    if !decks.are_accepted(rt, order)? {
+        return Ok(false);
+    }
+    if let Some(level) = level_begun_anew(order)
+        && order.redo.is_none()
+    {
+        report_first_job(rt, level);
+    }
+    Ok(true)
+}
+
+/// The level that begins at its first job while the other one is taken up at a line, if there is one.
+fn level_begun_anew(order: &Order<'_>) -> Option<LevelId> {
+    match (order.from1, order.from2) {
+        (Some(_), None) if !order.deck2.is_empty() => Some(LevelId::Two),
+        (None, Some(_)) if !order.deck1.is_empty() => Some(LevelId::One),
+        _ => None,
+    }
+}
+
+/// Reports a level that begins at its first job and may have been done before.
+fn report_first_job(rt: &HostRuntime, level: LevelId) {
+    let level = level.number();
+    let _ = writeln!(
+        rt.stderr(),
+        "level {level} begins at its first job: if it was done before, stop by Control-C and leave --deck{level} out"
+    );
+}
+
+/// Does a day over its pack.
+fn operate_over<'a>(
+    rt: &'a HostRuntime,
+    order: &Order<'a>,
+    decks: Decks<'a>,
+    rest: Rest,
+    logged: Option<&'a DayLog>,
+) -> Result<u8, DayFault<'a>> {
+    let Decks { one, two, begun } = decks;
+    let Rest { pack, rules } = rest;
+    let day = Prepared {
+        begun,
+        one: Seat::new(rt.alloc(), LevelId::One, &one),
+        two: Seat::new(rt.alloc(), LevelId::Two, &two),
+        rules: &rules,
+        logged,
+    };
+    operate_mounted(rt, order, pack, day)
+}
+
+/// Does a day that is prepared over its pack, once the pack and all outputs are tried.
+fn operate_mounted<'n, 'a>(
+    rt: &'a HostRuntime,
+    order: &Order<'n>,
+    pack: DayPack,
+    day: Prepared<'a>,
+) -> Result<u8, DayFault<'n>> {
+    match mount(rt, order, pack) {
+        Ok(mounted) => operate_prepared(rt, order, mounted.bytes, day, mounted.outputs),
+        Err(fault) => Err(fault),
+    }
+}
+
+/// A pack that can be mounted, and the outputs, each of which can be written.
+#[derive(Drop)]
+struct Mounted<'n> {
+    bytes: Vec<u8>,
+    outputs: Outputs<'n>,
+}
+
+/// Tries the pack, and then the outputs.
+fn mount<'n>(
+    rt: &HostRuntime,
+    order: &Order<'n>,
+    pack: DayPack,
+) -> Result<Mounted<'n>, DayFault<'n>> {
+    let DayPack { bytes, locked } = pack;
+    let bytes = mountable(rt, order.pack, bytes)?;
+    match Outputs::open(rt, order, locked) {
+        Ok(outputs) => Ok(Mounted { bytes, outputs }),
+        Err(fault) => Err(fault),
+    }
+}
+
+/// A pack that can be mounted, as it was given; any other is refused, before an output is emptied, and what tells why is named.
+fn mountable<'a>(
+    rt: &HostRuntime,
+    path: Option<&str>,
+    pack: Vec<u8>,
+) -> Result<Vec<u8>, DayFault<'a>> {
+    match Pack::over(rt.alloc(), MemoryStore::from_bytes(pack)) {
+        Ok(Pack { pool, areas: _ }) => Ok(pool.into_bytes()),
+        Err(Refused { pool: _, fault }) => {
+            tell_refused(rt, path, fault);
+            Err(DayFault::Cli(refused(fault)))
+        }
+    }
+}
+
+/// Reports why a pack can't be mounted, and what to do.
+fn tell_refused(rt: &HostRuntime, path: Option<&str>, fault: Refusal) {
+    if let (Refusal::BadPack(fault), Some(path)) = (fault, path) {
+        let (path, reason) = (Shown(path), pack_words(fault));
+        let _ = writeln!(
+            rt.stderr(),
+            "{path} can't be used as a pack: {reason}; check the name, or take a copy that is whole"
+        );
+    }
+}
+
+/// What the refusal of a pack in memory is to the command: its sectors can always be read.
+fn refused(refusal: Refusal) -> CliFault {
+    match refusal {
+        Refusal::BadPack(fault) => CliFault::Session(SessionFault::Run(RunFault::Mount(fault))),
+        Refusal::Sectors(_) => OUT_OF_MEMORY,
+    }
+}

@@ -1,0 +1,390 @@
+//! The end of a day: its pack is saved, if that is asked for, and its log gets its last lines.
+
+use crate::day::{Over, OwnDesk, test_outputs, test_written};
+use s3_day_files::{DayFault, KeptOutputs, Order};
+use s3_day_log::{DayOver, Event, NamedFile, checksum};
+use s3_host_files::{FileFault, Kept, Limit, LockedPack, save_new_pack, save_pack};
+use s3_operating::{Verdict, Wish};
+use s3_paper_commands::status::{DONE, FILE_FAILED, PASSED_OVER, PERSON_NEEDED};
+use s3_refusals::{Reason, Shown};
+use std::alloc::{AllocError, Global};
+use std::io;
+use std::io::Write;
+
+/// Printed if the operator answered that the pack must not be saved.
+const ANSWERED_NO: &'static str = ": the answer was no";
+
+/// Printed if the log of the day that is done again has that answer.
+const LOGGED_NO: &'static str = ": in the log the answer was no";
+
+/// Printed if a level isn't done, and the pack is saved only of a whole day.
+const UNFINISHED: &'static str =
+    ": a level isn't done (--save-unfinished saves it so); do the whole day again from its first job, over the same pack";
+
+/// Printed if the lines above name a line to take up at, and the pack isn't saved.
+const WHOLE_DAY: &'static str =
+    "nothing of this day is saved, so it can't be taken up at a line: do the whole day again from its first job, over the same pack";
+
+/// A pack that is about to be saved.
+#[derive(Clone, Copy)]
+struct Saving<'a, 'b> {
+    /// The file.
+    path: &'a str,
+    /// The checksum of the pack.
+    sum: &'b str,
+}
+
+/// Saves the pack, if that is asked for and the day allows it, reports whether it is saved, logs the end of the day, and gives the
+/// exit status.
+pub fn end_day<'n>(
+    rt: &HostRuntime,
+    order: &Order<'n>,
+    desk: &mut OwnDesk<'_>,
+    kept: &KeptOutputs,
+    over: &Over,
+    locked: Option<LockedPack>,
+) -> Result<u8, DayFault<'n>> {
+    if let Err(fault) = sync_script(rt, order, desk, kept) {
+        return Err(end_unwritten(rt, order, desk, kept, fault));
+    }
+    let Some(path) = order.save else {
+        if over.is_reported(order) {
+            desk.tell("nothing is saved: there is no --save\n");
+        }
+        return end_unsaved(rt, order, desk, kept, over);
+    };
+    if over.is_unfinished() && !order.saves_unfinished {
+        report_unsaved(rt, order, path, UNFINISHED);
+        return end_unsaved(rt, order, desk, kept, over);
+    }
+    match desk.wants_saved()? {
+        Wish::Save => {}
+        Wish::Leave => return end_declined(rt, order, desk, kept, path, ANSWERED_NO),
+        Wish::LeaveByLog => return end_declined(rt, order, desk, kept, path, LOGGED_NO),
+    }
+    let sum = checksum(rt.alloc(), &over.day.outcome.pack)?;
+    let saving = Saving {
+        path,
+        sum: sum.as_str(),
+    };
+    save(rt, order, desk, kept, over, locked, saving)
+}
+
+/// Saves the pack, after the log has that it will be saved, and ends the day.
+fn save<'n>(
+    rt: &HostRuntime,
+    order: &Order<'n>,
+    desk: &mut OwnDesk<'_>,
+    kept: &KeptOutputs,
+    over: &Over,
+    locked: Option<LockedPack>,
+    saving: Saving<'n, '_>,
+) -> Result<u8, DayFault<'n>> {
+    if let Err(fault) = note_saving(rt, order, desk, kept, saving) {
+        return Err(end_unwritten(rt, order, desk, kept, fault));
+    }
+    // what comes after the save must not need memory for the name of the pack
+    let pack = saved_file(rt.alloc(), saving)?;
+    let path = saving.path;
+    match saved(rt, order, path, locked, kept.limit, &over.day.outcome.pack) {
+        Ok(()) => end_saved(rt, order, desk, kept, over, path, pack),
+        Err(FileFault::Unsynced(error)) => end_unsynced(rt, order, desk, kept, path, pack, &error),
+        Err(fault) => end_failed(rt, order, desk, kept, path, &fault),
+    }
+}
+
+/// Ends a day of which an output isn't written, so that its pack isn't saved. This is reported, unless the desk has done so, and logged.
+/// It returns the fault.
+pub fn end_unwritten<'n>(
+    rt: &HostRuntime,
+    order: &Order<'n>,
+    desk: &mut OwnDesk<'_>,
+    kept: &KeptOutputs,
+    fault: DayFault<'n>,
+) -> DayFault<'n> {
+    if let Some(path) = order.save
+        && !desk.has_given_up()
+    {
+        report_unsaved(rt, order, path, "");
+    }
+    if !desk.has_log_failed() {
+        // the fault is the one that came first
+        let _ = log_end(rt, order, desk, kept, fault.status(), None);
+    }
+    fault
+}
+
+/// Reports that the pack isn't saved, and why, unless another line has the reason.
+fn report_unsaved(rt: &HostRuntime, order: &Order<'_>, path: &str, reason: &str) {
+    let path = Shown(path);
+    let _ = writeln!(
+        rt.stderr(),
+        "the pack is not saved, and {path} is left alone{reason}"
+    );
+    report_whole_day(rt, order);
+}
+
+/// Reports that a day whose pack isn't saved can't be taken up at a line, if its summary may name one.
+fn report_whole_day(rt: &HostRuntime, order: &Order<'_>) {
+    if order.saves_unfinished {
+        let _ = writeln!(rt.stderr(), "{WHOLE_DAY}");
+    }
+}
+
+/// Brings the script to the disk, if one is written.
+fn sync_script<'n>(
+    rt: &HostRuntime,
+    order: &Order<'n>,
+    desk: &OwnDesk<'_>,
+    kept: &KeptOutputs,
+) -> Result<(), DayFault<'n>> {
+    if desk.has_script() {
+        sync(rt, &kept.script, order.script)
+    } else {
+        Ok(())
+    }
+}
+
+/// Logs that the pack is going to be saved, and brings the log to the disk. If the desk is killed, a log without an end and the pack
+/// show whether the pack is saved.
+fn note_saving<'n>(
+    rt: &HostRuntime,
+    order: &Order<'n>,
+    desk: &mut OwnDesk<'_>,
+    kept: &KeptOutputs,
+    saving: Saving<'n, '_>,
+) -> Result<(), DayFault<'n>> {
+    if desk.has_log() {
+        let pack = saved_file(rt.alloc(), saving)?;
+        desk.note(Event::Saving { pack })?;
+    }
+    test_outputs(order, desk)?;
+    sync_log(rt, order, desk, kept)
+}
+
+/// Brings the log to the disk, unless the operator continued without it.
+fn sync_log<'n>(
+    rt: &HostRuntime,
+    order: &Order<'n>,
+    desk: &OwnDesk<'_>,
+    kept: &KeptOutputs,
+) -> Result<(), DayFault<'n>> {
+    if desk.has_log() {
+        sync(rt, &kept.log, order.log)
+    } else {
+        Ok(())
+    }
+}
+
+/// Brings an output to the disk.
+fn sync<'n>(
+    rt: &HostRuntime,
+    output: &Option<Kept>,
+    name: Option<&'n str>,
+) -> Result<(), DayFault<'n>> {
+    let (Some(output), Some(name)) = (output, name) else {
+        return Ok(());
+    };
+    match output.sync() {
+        Ok(()) => Ok(()),
+        Err(error) => Err(unsynced(rt, name, &error)),
+    }
+}
+
+/// Reports why an output can't be brought to the disk, and gives the fault.
+fn unsynced<'n>(rt: &HostRuntime, name: &'n str, error: &io::Error) -> DayFault<'n> {
+    let (shown, reason) = (Shown(name), Reason(*error));
+    let _ = writeln!(
+        rt.stderr(),
+        "{shown} can't be brought to the disk: {reason}"
+    );
+    DayFault::File(name)
+}
+
+/// Saves the pack. A file that has appeared since the day began is overwritten only if that is asked for. A new file lets nobody do more
+/// than the limit.
+fn saved(
+    rt: &HostRuntime,
+    order: &Order<'_>,
+    path: &str,
+    locked: Option<LockedPack>,
+    limit: Option<Limit>,
+    pack: &[u8],
+) -> Result<(), FileFault> {
+    if locked.is_none() && !order.overwrites {
+        save_new_pack(rt, path, limit, pack)
+    } else {
+        save_pack(rt, path, locked, limit, pack)
+    }
+}
+
+/// Ends a day whose pack is saved.
+fn end_saved<'n>(
+    rt: &HostRuntime,
+    order: &Order<'n>,
+    desk: &mut OwnDesk<'_>,
+    kept: &KeptOutputs,
+    over: &Over,
+    path: &'n str,
+    pack: NamedFile,
+) -> Result<u8, DayFault<'n>> {
+    if over.is_reported(order) {
+        report_saved(rt, path, over.is_unfinished());
+    }
+    let status = status_of(over.closing.verdict);
+    end_over_saved(rt, order, desk, kept, status, path, pack)?;
+    Ok(status)
+}
+
+/// Reports that the pack is saved, and what that means if a level isn't done.
+fn report_saved(rt: &HostRuntime, path: &str, is_unfinished: bool) {
+    let path = Shown(path);
+    let further = if is_unfinished {
+        ", though a level isn't done: a job that is taken up begins anew, over the records that it has put"
+    } else {
+        ""
+    };
+    let _ = writeln!(rt.stderr(), "the pack is saved in {path}{further}");
+}
+
+/// Ends a day whose pack is saved, though its folder couldn't be brought to the disk.
+fn end_unsynced<'n>(
+    rt: &HostRuntime,
+    order: &Order<'n>,
+    desk: &mut OwnDesk<'_>,
+    kept: &KeptOutputs,
+    path: &'n str,
+    pack: NamedFile,
+    error: &io::Error,
+) -> Result<u8, DayFault<'n>> {
+    let (shown, reason) = (Shown(path), Reason(*error));
+    let _ = writeln!(
+        rt.stderr(),
+        "the pack is saved in {shown}, but may not survive a power cut, because its folder can't be brought to the disk: {reason}"
+    );
+    end_over_saved(rt, order, desk, kept, FILE_FAILED, path, pack)?;
+    Err(DayFault::Unsynced(path))
+}
+
+/// Logs the end of a day whose pack is saved. If the log fails by now, the pack stays saved, which is reported.
+fn end_over_saved<'n>(
+    rt: &HostRuntime,
+    order: &Order<'n>,
+    desk: &mut OwnDesk<'_>,
+    kept: &KeptOutputs,
+    status: u8,
+    path: &'n str,
+    pack: NamedFile,
+) -> Result<(), DayFault<'n>> {
+    if log_end(rt, order, desk, kept, status, Some(pack)).is_ok() {
+        return Ok(());
+    }
+    let log = order.log.unwrap_or(path);
+    let (shown, path) = (Shown(log), Shown(path));
+    let _ = writeln!(
+        rt.stderr(),
+        "{shown} may lack the end of the day; the pack is saved in {path} all the same"
+    );
+    Err(DayFault::File(log))
+}
+
+/// Ends a day whose pack couldn't be saved.
+fn end_failed<'n>(
+    rt: &HostRuntime,
+    order: &Order<'n>,
+    desk: &mut OwnDesk<'_>,
+    kept: &KeptOutputs,
+    path: &'n str,
+    fault: &FileFault,
+) -> Result<u8, DayFault<'n>> {
+    report_failed(rt, path, fault);
+    report_whole_day(rt, order);
+    let fault = DayFault::of_pack(fault, path);
+    log_end(rt, order, desk, kept, fault.status(), None)?;
+    Err(fault)
+}
+
+/// Reports why a pack isn't saved.
+fn report_failed(rt: &HostRuntime, path: &str, fault: &FileFault) {
+    let path = Shown(path);
+    let _ = match fault {
+        FileFault::Call(error) | FileFault::Unsynced(error) => {
+            let reason = Reason(*error);
+            writeln!(rt.stderr(), "the pack is not saved in {path}: {reason}")
+        }
+        FileFault::Exists => writeln!(
+            rt.stderr(),
+            "the pack is not saved: {path} is there by now, and wasn't when the day began; give another name, or --overwrite to write over it"
+        ),
+        // the line of the refusal has the reason
+        FileFault::NoPack
+        | FileFault::IsPack
+        | FileFault::Hindered(_)
+        | FileFault::Stream(_)
+        | FileFault::InUse => writeln!(
+            rt.stderr(),
+            "the pack is not saved, and {path} is left alone"
+        ),
+    };
+}
+
+/// Ends a day whose pack isn't to be saved.
+fn end_unsaved<'n>(
+    rt: &HostRuntime,
+    order: &Order<'n>,
+    desk: &mut OwnDesk<'_>,
+    kept: &KeptOutputs,
+    over: &Over,
+) -> Result<u8, DayFault<'n>> {
+    let status = status_of(over.closing.verdict);
+    log_end(rt, order, desk, kept, status, None)?;
+    Ok(status)
+}
+
+/// Ends a day whose pack the operator doesn't want saved.
+fn end_declined<'n>(
+    rt: &HostRuntime,
+    order: &Order<'n>,
+    desk: &mut OwnDesk<'_>,
+    kept: &KeptOutputs,
+    path: &str,
+    why: &str,
+) -> Result<u8, DayFault<'n>> {
+    report_unsaved(rt, order, path, why);
+    desk.note(Event::Declined)?;
+    log_end(rt, order, desk, kept, PERSON_NEEDED, None)?;
+    Ok(PERSON_NEEDED)
+}
+
+/// Logs the end of the day, and brings the log to the disk.
+fn log_end<'n>(
+    rt: &HostRuntime,
+    order: &Order<'n>,
+    desk: &mut OwnDesk<'_>,
+    kept: &KeptOutputs,
+    status: u8,
+    saved: Option<NamedFile>,
+) -> Result<(), DayFault<'n>> {
+    if desk.has_log() {
+        desk.note(Event::End(DayOver { status, saved }))?;
+    }
+    desk.tell_log_failure()?;
+    test_written(order, desk)?;
+    sync_log(rt, order, desk, kept)
+}
+
+/// The pack as the log has it.
+fn saved_file(alloc: Global, saving: Saving<'_, '_>) -> Result<NamedFile, AllocError> {
+    Ok(NamedFile {
+        name: String::from_str(alloc, saving.path)?,
+        sha256: String::from_str(alloc, saving.sum)?,
+    })
+}
+
+fn status_of(verdict: Verdict) -> u8 {
+    match verdict {
+        Verdict::Clean => DONE,
+        Verdict::Passed => PASSED_OVER,
+        Verdict::Unfinished => PERSON_NEEDED,
+    }
+}
