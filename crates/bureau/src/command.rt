@@ -6,19 +6,22 @@ use crate::version::write_version;
 use clap::error::ErrorKind;
 use clap::{ArgMatches, Error};
 use s3_cli::{CliFault, Watched, image_with, list, migrate, session_on, write_table};
-use s3_command_line::{OUT_OF_MEMORY, command, new_pack, option_without_name};
+use s3_command_line::{
+    OUT_OF_MEMORY, command, names_standard_error, new_pack, option_without_name,
+};
 use s3_data_commands::check_pack::check;
 use s3_data_commands::copy::copy;
 use s3_data_commands::delete::delete;
 use s3_data_commands::load::load;
 use s3_data_commands::sort::sort;
 use s3_data_commands::unload::unload;
+use s3_day_files::list_journals;
 use s3_host_files::{
-    FileFault, Limit, LockedPack, StandardOutput, keep_apart, read_pack, read_to_save,
-    save_new_pack, save_pack,
+    FileFault, Limit, LockedPack, StandardOutput, is_input_standard_error, is_standard_error,
+    keep_save_apart, read_pack, read_to_save, save_new_pack, save_pack,
 };
 use s3_operate::operate;
-use s3_paper_commands::status::{DONE, REFUSED, WRONG_WORDS};
+use s3_paper_commands::status::{DONE, FILE_FAILED, REFUSED, WRONG_WORDS};
 use s3_paper_commands::words::value_of;
 use s3_paper_commands::{compile_files, punch_files};
 use s3_refusals::{Refused, Shown};
@@ -40,7 +43,7 @@ pub fn execute(rt: &HostRuntime) -> u8
         ),
         Err(_) => return misuse(
             rt,
-            "one of the words isn't text in UTF-8; rename the file that it names",
+            "one of the arguments isn't text in UTF-8; rename the file that it names",
         ),
     };
     let words: Vec<String> = match given.collect(alloc) {
@@ -53,7 +56,7 @@ pub fn execute(rt: &HostRuntime) -> u8
     };
     match command.try_get_matches_from(words.as_slice()) {
         Ok(matches) => perform(rt, &matches, &words),
-        Err(error) => explain(rt, &error),
+        Err(error) => explain(rt, &error, &words),
     }
 }
 
@@ -96,10 +99,14 @@ fn tell_refused(rt: &HostRuntime, refused: &Refused<'_>) -> u8
     refused.tell(&mut rt.stderr(), rt.stderr().is_terminal())
 }
 
-/// Prints why the options can't be read, or the help or the version that they ask for.
-fn explain(rt: &HostRuntime, error: &Error) -> u8
+/// Prints why the options can't be read, or the help or the version that they ask for. Nothing is printed into a file that one of the
+/// options may name.
+fn explain(rt: &HostRuntime, error: &Error, words: &[String]) -> u8
     ensures { result ≤ 5 }
 {
+    if error.use_stderr() && is_error_in(rt, words) {
+        return FILE_FAILED;
+    }
     // clap has a status of its own for want of memory
     if error.kind() == ErrorKind::OutOfMemory {
         return refuse(rt, &OUT_OF_MEMORY);
@@ -118,13 +125,42 @@ fn explain(rt: &HostRuntime, error: &Error) -> u8
     }
 }
 
-/// Does what the command asks, and gives the exit status.
+/// Whether an argument of a command line that can't be read has the name of the file that standard error is.
+fn is_error_in(rt: &HostRuntime, words: &[String]) -> bool {
+    for word in words {
+        if is_error_word(rt, word.as_str()) {
+            return true;
+        }
+    }
+    false
+}
+
+/// Whether an argument, or what it has after an equals sign, is the name of the file that standard error is.
+fn is_error_word(rt: &HostRuntime, word: &str) -> bool {
+    let is_value = match word.split_once("=") {
+        Some((_option, value)) => is_standard_error(rt, value),
+        None => false,
+    };
+    is_value || is_standard_error(rt, word)
+}
+
+/// Whether standard error is a file that the command reads or writes.
+fn is_error_used(rt: &HostRuntime, name: &str, matches: &ArgMatches<'_>) -> bool {
+    names_standard_error(rt, name, matches)
+        || matches!(name, "run" | "load") && is_input_standard_error(rt)
+}
+
+/// Does what the command asks, and gives the exit status. If standard error is a file of the command, it does nothing, and reports
+/// nothing: that would get into the file.
 fn perform<'a>(rt: &'a HostRuntime, matches: &ArgMatches<'a>, words: &[String]) -> u8
     ensures { result ≤ 5 }
 {
     let Some((name, matches)) = matches.subcommand() else {
         return misuse(rt, "no command is given");
     };
+    if is_error_used(rt, name, matches) {
+        return FILE_FAILED;
+    }
     if let Some(option) = option_without_name(name, matches) {
         return misuse_empty(rt, option);
     }
@@ -138,6 +174,7 @@ fn perform<'a>(rt: &'a HostRuntime, matches: &ArgMatches<'a>, words: &[String]) 
         "sort" => sort(rt, matches),
         "unload" => unload(rt, matches),
         "load" => load(rt, matches),
+        "journal" => list_journals(rt, matches),
         _ => perform_plain(rt, name, matches),
     }
 }
@@ -169,7 +206,7 @@ fn run<'a>(rt: &HostRuntime, matches: &ArgMatches<'a>) -> Result<(), Refused<'a>
     report_typed(rt);
     let saved = session_over(rt, matches, pack)?;
     match matches.get_str("save") {
-        Some(path) => save_to(rt, path, locked, limit, &saved),
+        Some(path) => save_to(rt, path, locked, limit, matches.get_str("pack"), &saved),
         None => Ok(()),
     }
 }
@@ -207,10 +244,22 @@ fn pack_to_run<'a>(
         (Some(path), Some(save)) => read_locked(rt, path, save),
         (Some(path), None) => Ok((read(rt, path)?, None)),
         (None, Some(save)) => {
-            keep_apart(rt, save).map_err(|fault| saving(rt, save, &fault))?;
+            keep_save_apart(rt, save).map_err(|fault| saving(rt, save, &fault))?;
+            report_new(rt, save);
             Ok((made_pack(rt)?, None))
         }
         (None, None) => Ok((made_pack(rt)?, None)),
+    }
+}
+
+/// Reports at a terminal that the run begins with a new pack.
+fn report_new(rt: &HostRuntime, save: &str) {
+    if rt.stderr().is_terminal() {
+        let save = Shown(save);
+        let _ = writeln!(
+            rt.stderr(),
+            "No --pack is given: the run begins with a new pack, which is saved in {save}."
+        );
     }
 }
 
@@ -246,10 +295,11 @@ fn init(rt: &HostRuntime, matches: &ArgMatches<'_>) -> u8
         Err(refused) => return tell_refused(rt, &refused),
     };
     let path = value_of(matches, "save");
+    let read = [matches.get_str("from")];
     let done = if is_new {
-        save_new_pack(rt, path, limit, &pack)
+        save_new_pack(rt, path, limit, &read, &pack)
     } else {
-        save_pack(rt, path, locked, limit, &pack)
+        save_pack(rt, path, locked, limit, &read, &pack)
     };
     match done {
         Ok(()) => DONE,
@@ -336,7 +386,7 @@ fn migrate_pack<'a>(rt: &HostRuntime, matches: &ArgMatches<'a>) -> Result<(), Re
         CliFault::Migrate(fault),
         Some(path),
     ))?;
-    save_to(rt, save, locked, limit, &pack)
+    save_to(rt, save, locked, limit, Some(path), &pack)
 }
 
 /// The number of tracks of an option, which has a default.
@@ -359,7 +409,7 @@ fn read_locked<'a>(
     path: &'a str,
     save: &'a str,
 ) -> Result<(Vec<u8>, Option<LockedPack>), Refused<'a>> {
-    keep_apart(rt, save).map_err(|fault| saving(rt, save, &fault))?;
+    keep_save_apart(rt, save).map_err(|fault| saving(rt, save, &fault))?;
     read_to_save(rt, path, save).map_err(|fault| reading(rt, path, &fault))
 }
 
@@ -368,7 +418,8 @@ fn save_to<'a>(
     path: &'a str,
     locked: Option<LockedPack>,
     limit: Option<Limit>,
+    read: Option<&str>,
     pack: &[u8],
 ) -> Result<(), Refused<'a>> {
-    save_pack(rt, path, locked, limit, pack).map_err(|fault| saving(rt, path, &fault))
+    save_pack(rt, path, locked, limit, &[read], pack).map_err(|fault| saving(rt, path, &fault))
 }

@@ -66,6 +66,7 @@ pub fn saving<'a>(rt: &HostRuntime, path: &'a str, fault: &FileFault) -> Refused
         FileFault::NoPack => of_file(path, FileWork::NoPack),
         FileFault::Hindered(hindrance) => of_file(path, FileWork::Hindered(*hindrance)),
         FileFault::Stream(stream) => of_file(path, FileWork::Stream(*stream)),
+        FileFault::Talk(stream) => of_file(path, FileWork::Talk(*stream)),
         FileFault::Call(error) => of_call(path, FileWork::Saving(*error), error),
         FileFault::Unsynced(error) => of_file(path, FileWork::Unsynced(*error)),
     }

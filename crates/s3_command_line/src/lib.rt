@@ -10,4 +10,4 @@ mod words;
 
 pub use defaults::new_pack;
 pub use faults::{FILE, OUT_OF_MEMORY};
-pub use words::{command, option_without_name};
+pub use words::{command, names_standard_error, option_without_name};

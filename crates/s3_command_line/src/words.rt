@@ -9,6 +9,7 @@ use s3_data_commands::load::LOAD;
 use s3_data_commands::sort::SORT;
 use s3_data_commands::unload::UNLOAD;
 use s3_data_commands::words::{PACK, SAVE};
+use s3_host_files::is_standard_error;
 use s3_paper_commands::words::{CommandWords, Takes, Word};
 use s3_paper_commands::{COMPILE, PUNCH};
 use std::alloc::{AllocError, Global};
@@ -17,8 +18,9 @@ use std::alloc::{AllocError, Global};
 const QUOTA: &str = "64";
 
 /// The commands, in the order in which the help lists them.
-const COMMANDS: [CommandWords; 13] = [
-    RUN, OPERATE, PUNCH, COMPILE, INIT, LIST, CHECK, COPY, DELETE, SORT, UNLOAD, LOAD, MIGRATE,
+const COMMANDS: [CommandWords; 14] = [
+    RUN, OPERATE, JOURNAL, PUNCH, COMPILE, INIT, LIST, CHECK, COPY, DELETE, SORT, UNLOAD, LOAD,
+    MIGRATE,
 ];
 
 /// `bureau run` and its options.
@@ -140,6 +142,21 @@ const OPERATE: CommandWords = CommandWords {
             help: "Saves the pack even if a level isn't done; needs --save",
         },
         Word {
+            name: "journal",
+            takes: Takes::Value("FILE"),
+            help: "The journal of the pack: a line for each day that is saved; needs --save",
+        },
+        Word {
+            name: "again",
+            takes: Takes::Nothing,
+            help: "Does the day even if the journal has its decks, or doesn't have the pack last; needs --journal",
+        },
+        Word {
+            name: "once",
+            takes: Takes::Nothing,
+            help: "Does nothing, with status 0, if the journal has the decks; needs --journal",
+        },
+        Word {
             name: "overwrite",
             takes: Takes::Nothing,
             help: "Replaces a script, a log, a deck or a pack that exists, and writes into a folder of pages that isn't empty",
@@ -148,6 +165,24 @@ const OPERATE: CommandWords = CommandWords {
             name: "quiet",
             takes: Takes::Nothing,
             help: "Prints no progress, no replies of rules or a log, and no summary of a day with status 0",
+        },
+    ],
+};
+
+/// `bureau journal` and its options.
+const JOURNAL: CommandWords = CommandWords {
+    name: "journal",
+    about: "Lists the days of journals",
+    words: &[
+        Word {
+            name: "file",
+            takes: Takes::FollowingFiles,
+            help: "Journals that --journal of `bureau operate` wrote",
+        },
+        Word {
+            name: "verify",
+            takes: Takes::Nothing,
+            help: "Prints how many lines a journal has, if each has the checksum of the line before it",
         },
     ],
 };
@@ -251,6 +286,43 @@ pub fn option_without_name(command: &str, matches: &ArgMatches<'_>) -> Option<&'
         Takes::FollowingFiles => Some(""),
         _ => Some(word.name),
     }
+}
+
+/// Whether an option of a command names the file that standard error is. Nothing may be printed then: it would get into that file.
+pub fn names_standard_error(rt: &HostRuntime, command: &str, matches: &ArgMatches<'_>) -> bool {
+    let Some(command) = COMMANDS.iter().find(|known| known.name == command) else {
+        return false;
+    };
+    command
+        .words
+        .iter()
+        .any(|word| is_standard_error_of(rt, *word, matches))
+}
+
+/// Whether an option names the file that standard error is.
+fn is_standard_error_of(rt: &HostRuntime, word: Word, matches: &ArgMatches<'_>) -> bool {
+    match word.takes {
+        Takes::Value(shown) | Takes::Needed(shown) if FILES.contains(&shown) => {
+            match matches.get_str(word.name) {
+                Some(name) => is_standard_error(rt, name),
+                None => false,
+            }
+        }
+        Takes::Files | Takes::FollowingFiles => {
+            has_standard_error(rt, matches.get_strs(word.name).unwrap_or(&[]))
+        }
+        _ => false,
+    }
+}
+
+/// Whether one of these names leads to the file that standard error is.
+fn has_standard_error(rt: &HostRuntime, names: &[&str]) -> bool {
+    for name in names {
+        if is_standard_error(rt, *name) {
+            return true;
+        }
+    }
+    false
 }
 
 /// Whether an option of a command line has an empty file name.

@@ -160,7 +160,7 @@ impl Stepper {
     {
         match self.stand() {
             Stand::Field { .. } => self.processed(),
-            Stand::ChainedField { .. } => self.progress.record.as_slice(),
+            Stand::ChainedField { .. } => self.progress.record.as_record().as_slice(),
             Stand::Output { .. } => self.composition.codes(),
             Stand::Nowhere | Stand::Head { .. } | Stand::Calculation { .. } => &[],
         }

@@ -4,11 +4,11 @@ ghost use Rattle.s3_operations.specs.Inner.Beginning.{IsDate};
 ghost use Rattle.s3_operations.specs.Inner.Held.{HasTexts};
 ghost use Rattle.s3_cycle.specs.Inner.Starting.{AreInstructions, BeginsProgress, BeginsRun, BeginsState, IsBegun, Starts};
 
+use crate::found::FoundRecord;
 use crate::progress::{Point, Progress, Time};
 use crate::request::Request;
 use crate::state::State;
 use crate::stepper::Stepper;
-use s3_decimal::Record;
 use s3_instructions::calculation::{CalculationInstruction, calculations, totals_guard};
 use s3_instructions::guard::Guard;
 use s3_instructions::input::{InputInstruction, inputs};
@@ -46,7 +46,7 @@ impl Progress {
             reading: Reading::first(alloc, program, switches)?,
             time: Time::Last,
             course: Course::new(Spot::detail(program)),
-            record: Record::new(),
+            record: FoundRecord::none(alloc)?,
         })
     }
 }

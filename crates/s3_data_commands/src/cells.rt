@@ -66,7 +66,7 @@ fn numbers_of(
         _ => {
             return Err(wrong_words(
                 rt.alloc(),
-                "the mark before the decimals is a point or a comma; say --decimal . or --decimal ,",
+                "the mark before the decimals is a point or a comma; give --decimal . or --decimal ,",
             ));
         }
     };
@@ -91,7 +91,7 @@ fn thousands_of(
         (Some("'"), _) => Ok(Thousands::Apostrophe),
         (Some("." | ","), _) => Err(wrong_words(
             rt.alloc(),
-            "the mark between thousands is the one before the decimals too; say --decimal , beside --thousands . or --thousands , alone",
+            "the mark between thousands is the one before the decimals too; give --decimal , with --thousands . or --thousands , alone",
         )),
         _ => Err(wrong_words(
             rt.alloc(),

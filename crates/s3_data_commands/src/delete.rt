@@ -35,7 +35,7 @@ pub const DELETE: CommandWords = CommandWords {
         Word {
             name: "permanent",
             takes: Takes::Nothing,
-            help: "Deletes the file also where it is permanent",
+            help: "Deletes the file even if it is permanent",
         },
         OVERWRITE,
     ],

@@ -118,7 +118,7 @@ fn save_cure(kind: ErrorKind) -> &'static str {
             "; have the folder's owner let you write there, as by `chmod`, or save elsewhere",
         ErrorKind::IsADirectory => "; name a file in it",
         ErrorKind::StorageFull | ErrorKind::QuotaExceeded =>
-            "; make room on its disk, or save elsewhere",
+            "; make space on its disk, or save elsewhere",
         _ => "; see whether its disk is at work, or save elsewhere",
     }
 }
@@ -132,7 +132,7 @@ pub fn of_pack(rt: &HostRuntime, used: Use, fault: &FileFault, path: &str) -> Fa
             "the pack {shown} is in use by another command; try again when that is done"
         )),
         FileFault::Exists => refused_or_memory(format!(in rt.alloc();
-            "{shown} is there already; give another name, or say --overwrite to write over it"
+            "{shown} is there already; give another name, or --overwrite to write over it"
         )),
         FileFault::IsPack => refused_or_memory(format!(in rt.alloc();
             "{shown} is a pack; name another file"
@@ -143,6 +143,7 @@ pub fn of_pack(rt: &HostRuntime, used: Use, fault: &FileFault, path: &str) -> Fa
         FileFault::Hindered(hindrance) => file_or_memory(hindered(rt.alloc(), *hindrance, path)),
         FileFault::Stream(StandardStream::Error) => Fault::StandardError,
         FileFault::Stream(stream) => refused_or_memory(is_stream(rt.alloc(), *stream, path)),
+        FileFault::Talk(stream) => refused_or_memory(is_talk(rt.alloc(), *stream, path)),
         FileFault::Unsynced(error) => file_or_memory(format!(in rt.alloc();
             "the pack is saved in {shown}, but may not survive a power cut, because its folder can't be brought to the disk: {error}"
         )),
@@ -162,6 +163,15 @@ fn is_stream(alloc: Global, stream: StandardStream, path: &str) -> Result<String
     let shown = Shown(path);
     format!(in alloc;
         "{shown} is also {stream}, so what is printed would get into it; send {stream} to another file"
+    )
+}
+
+/// The sentence about a pack that would be saved to a standard stream.
+fn is_talk(alloc: Global, stream: StandardStream, path: &str) -> Result<String, AllocError> {
+    let stream = stream.name();
+    let shown = Shown(path);
+    format!(in alloc;
+        "{shown} is {stream}, and no pack is saved there; give --save the name of a file"
     )
 }
 

@@ -30,7 +30,7 @@ pub fn delimiter_of(rt: &HostRuntime, matches: &ArgMatches<'_>) -> Result<u8, Fa
         [byte] if byte.is_ascii() && !matches!(byte, b'"' | b'\n' | b'\r') => Ok(*byte),
         _ => Err(wrong_words(
             rt.alloc(),
-            "a delimiter is one character of ASCII, as , or ; or | or a tab, and neither a quote nor the end of a line",
+            "a delimiter is one ASCII character, as , or ; or | or a tab, but not a quote or the end of a line",
         )),
     }
 }
@@ -154,7 +154,7 @@ fn sound_punched(rt: &HostRuntime, path: &str, text: &[u8]) -> Result<Punched, F
     tell_punched(rt, path, &punched);
     Err(refused(Words::of_path(path).fill(
         rt.alloc(),
-        "the text {path} can't be punched; mend what is told above",
+        "the text {path} can't be punched; correct what is reported above",
     )))
 }
 
@@ -219,10 +219,18 @@ fn indicator_of(rt: &HostRuntime, text: &str) -> Result<Indicator, Fault> {
         [tens @ b'0'..=b'9', ones @ b'0'..=b'9'] if *tens > b'0' || *ones > b'0' => {
             Ok(Indicator::General((*tens - b'0') * 10 + (*ones - b'0')))
         }
-        _ => Err(wrong_words(
-            rt.alloc(),
-            "a type of records is named by its indicator, 01 to 99 or H1 to H9",
-        )),
+        _ => Err(no_indicator(rt, text)),
+    }
+}
+
+/// The refusal of a text that is no record identifying indicator.
+fn no_indicator(rt: &HostRuntime, text: &str) -> Fault {
+    let text = Shown(text);
+    match format!(in rt.alloc();
+        "--type {text} is no record identifying indicator; give the one of the type, 01 to 99 or H1 to H9, as columns 19 and 20 of the I sheet have it"
+    ) {
+        Ok(sentence) => Fault::Usage(sentence),
+        Err(_) => Fault::NoMemory,
     }
 }
 

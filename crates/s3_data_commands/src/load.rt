@@ -49,7 +49,7 @@ pub const LOAD: CommandWords = CommandWords {
         Word {
             name: "records",
             takes: Takes::U32("N"),
-            help: "Room for so many records; as many as the table has if it isn't said",
+            help: "Space for so many records; as many as the table has by default",
         },
         Word {
             name: "tracks",
@@ -59,17 +59,17 @@ pub const LOAD: CommandWords = CommandWords {
         Word {
             name: "retain",
             takes: Takes::Value("R"),
-            help: "T, S or P; T if it isn't said",
+            help: "T, S or P; T by default",
         },
         Word {
             name: "date",
             takes: Takes::Value("MMDDYY"),
-            help: "The date of the file: month, day and year; 000000 if it isn't said",
+            help: "The date of the file: month, day and year; 000000 by default",
         },
         Word {
             name: "append",
             takes: Takes::Nothing,
-            help: "Puts the records behind those of the file that is there",
+            help: "Adds the records after those of the file that is there",
         },
         Word {
             name: "fill",
@@ -334,7 +334,7 @@ fn room_of(rt: &HostRuntime, matches: &ArgMatches<'_>) -> Result<Room, Fault> {
         (None, Some(tracks)) => Ok(Room::Tracks(tracks)),
         (Some(_), Some(_)) => Err(wrong_words(
             rt.alloc(),
-            "room is given by --records or by --tracks, and not by both",
+            "space is given by --records or by --tracks, not by both",
         )),
     }
 }
@@ -442,7 +442,7 @@ fn sentence_of(
     )
 }
 
-/// That a level has no room for a file.
+/// The refusal of a file for which a level has no space.
 fn no_room(rt: &HostRuntime, words: &LoadWords<'_>) -> Fault {
     let area = number_of(words.level);
     match room_in(rt, words.path, area) {
@@ -494,8 +494,8 @@ fn tell_values(
 fn tell_others(rt: &HostRuntime, count: u64) {
     let others = count.saturating_sub(MOST_TOLD as u64);
     if others == 1 {
-        let _ = writeln!(rt.stderr(), "1 other fault isn't shown");
+        let _ = writeln!(rt.stderr(), "1 other error isn't shown");
     } else if others > 1 {
-        let _ = writeln!(rt.stderr(), "{others} other faults aren't shown");
+        let _ = writeln!(rt.stderr(), "{others} other errors aren't shown");
     }
 }

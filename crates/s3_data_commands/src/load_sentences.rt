@@ -16,10 +16,10 @@ use std::alloc::{AllocError, Global};
 const DELIMITER_CURES: [(u8, &str); 3] = [
     (
         b'\t',
-        "if a tab stands between the cells, say --delimiter \"$(printf '\\t')\"",
+        "if a tab is between the cells, give --delimiter \"$(printf '\\t')\"",
     ),
-    (b';', "if ; stands between the cells, say --delimiter ';'"),
-    (b'|', "if | stands between the cells, say --delimiter '|'"),
+    (b';', "if ; is between the cells, give --delimiter ';'"),
+    (b'|', "if | is between the cells, give --delimiter '|'"),
 ];
 
 /// How many characters of a cell are shown.
@@ -30,12 +30,12 @@ fn load_label_words(fault: LabelFault) -> &'static str {
     match fault {
         LabelFault::Master => "a master of {path} has the label {label}; load under another label",
         LabelFault::Retained =>
-            "{label} in area {area} of {path} is there and permanent; delete it first by `bureau delete --permanent`, load behind its records by --append, or load under another label",
+            "{label} in area {area} of {path} is there and permanent; delete it first by `bureau delete --permanent`, add the records after its own by --append, or load under another label",
         _ => label_words(fault),
     }
 }
 
-/// Why a file has no room for the records of a table, made for it or there before.
+/// Why a file has no space for the records of a table, made for it or there before.
 fn full_sentence(
     alloc: Global,
     label: &str,
@@ -44,12 +44,12 @@ fn full_sentence(
     records: u64,
 ) -> Result<String, AllocError> {
     let cure = if appends {
-        "unload it, delete it, and load all of its records with more room by --records or --tracks"
+        "unload it, delete it, and load all of its records with more space by --records or --tracks"
     } else {
         "ask for more by --records or --tracks"
     };
     format!(in alloc;
-        "the file {label} has room for {room} records and would have {records}; {cure}"
+        "the file {label} has space for {room} records and would have {records}; {cure}"
     )
 }
 
@@ -84,18 +84,18 @@ fn load_words(fault: &LoadFault) -> &'static str {
         LoadFault::OpenQuote(_) =>
             "line {number}: a quote is opened here and never closed; close it at the end of its cell, or write it twice in quotes if it belongs to a text",
         LoadFault::NoHeading =>
-            "standard input has no table; its first line has to name the fields of the layout",
+            "standard input has no table; its first line must name the fields of the layout",
         LoadFault::Heading(_) => "the heading isn't that of the layout; nothing is loaded",
-        LoadFault::Values(_, 1) => "the table has 1 fault; nothing is loaded",
-        LoadFault::Values(..) => "the table has {number} faults; nothing is loaded",
+        LoadFault::Values(_, 1) => "the table has 1 error; nothing is loaded",
+        LoadFault::Values(..) => "the table has {number} errors; nothing is loaded",
         LoadFault::Mount(fault) => mount_words(*fault),
         LoadFault::Label(fault) => load_label_words(*fault),
         LoadFault::DamagedSlot(_) => DAMAGED,
         LoadFault::NoName => NO_LABEL,
         LoadFault::NoKey =>
-            "the key of the F sheet doesn't lie in the records; mend columns 29, 30 and 35 to 38 of the layout's F card",
+            "the key of the F sheet isn't within the records; correct columns 29, 30 and 35 to 38 of the layout's F card",
         LoadFault::NoRoom =>
-            "a file has room for 1 to 999999 records or takes 1 to 999 tracks; ask for such room, or load the table in parts",
+            "a file has space for 1 to 999999 records or takes 1 to 999 tracks; give such a number, or load the table in parts",
         LoadFault::OtherKind =>
             "the file {label} that is there has records of another length, another key or another organization; give the layout of that file: a load without --append would replace the whole file",
         LoadFault::BadIndex =>
@@ -115,13 +115,13 @@ pub fn heading_sentence(alloc: Global, fault: &HeadingFault) -> Result<String, A
         ),
         HeadingFault::Overlap(one, other) => fields_sentence(
             alloc,
-            "line 1: the fields {field} and {other} lie over each other; leave one column out",
+            "line 1: the fields {field} and {other} overlap; leave one column out",
             *one,
             *other,
         ),
         HeadingFault::Under(field, named) => fields_sentence(
             alloc,
-            "line 1: the field {field} lies partly under {other}, so it can't be 0; name {field} in place of {other}, or leave --fill out",
+            "line 1: the field {field} overlaps {other}, so it can't be 0; name {field} in place of {other}, or leave --fill out",
             *field,
             *named,
         ),
@@ -237,7 +237,9 @@ fn push_other_type(text: &mut String, fault: TypeFault) -> Result<(), AllocError
                 " too, which is before the type of --type in the source; change the cells that have these codes",
             )
         }
-        TypeFault::NoType => text.push_str("the source has no type of the indicator of --type"),
+        TypeFault::NoType => text.push_str(
+            "the source has no type with the indicator of --type; give one of those that columns 19 and 20 of its I sheet have",
+        ),
     }
 }
 
@@ -289,9 +291,9 @@ fn push_type(text: &mut String, indicator: Indicator) -> Result<(), AllocError> 
 fn words_of(fault: CellFault, has_comma: bool) -> &'static str {
     match fault {
         CellFault::NoNumber if has_comma =>
-            " is no number; write digits, with a minus in front and a comma where they are needed",
+            " is no number; write digits, with a minus before them and a comma if they are needed",
         CellFault::NoNumber =>
-            " is no number; write digits, with a minus in front and a point where they are needed",
+            " is no number; write digits, with a minus before them and a point if they are needed",
         CellFault::TooManyDecimals => " has more decimals than the field; round it",
         CellFault::TooLarge =>
             " has more digits before the point than the field; write a smaller number",

@@ -6,13 +6,13 @@ use crate::filled::Words;
 use clap::ArgMatches;
 use s3_cards::{LevelId, Name, is_name, to_ebcdic};
 use s3_host_files::{
-    Limit, LockedPack, Target, is_pack_at, keep_apart, read_pack, read_to_save, save_new_pack,
-    save_pack,
+    Limit, LockedPack, Target, is_empty_at, is_pack_at, keep_save_apart, read_pack, read_to_save,
+    save_new_pack, save_pack,
 };
 use s3_labels::{LabelFault, MountFault};
 use s3_listing::{FreeRoom, file_size, free_room};
 use s3_pack_care::CareFault;
-use s3_refusals::{Shown, begins_as_pack};
+use s3_refusals::{Shown, beginning_words};
 use std::alloc::{AllocError, Global};
 use std::fs;
 use std::io::Write;
@@ -24,7 +24,7 @@ pub const NO_LABEL: &str =
 
 /// Why no file is made in an area with a damaged slot.
 pub const DAMAGED: &str =
-    "slot {number} of area {area} of {path} is damaged, and what it holds can't be told: delete it by `bureau delete --slot {number}` first, or mend it";
+    "slot {number} of area {area} of {path} is damaged, and it isn't known what it has: delete it by `bureau delete --slot {number}` first, or correct it";
 
 /// The area that a word names: 0 for the masters, 1 or 2 for a level.
 pub fn area_number(rt: &HostRuntime, text: &str) -> Result<u16, Fault>
@@ -114,15 +114,12 @@ pub fn pack_of(rt: &HostRuntime, path: &str) -> Result<Vec<u8>, Fault> {
 
 /// Refuses a file that doesn't begin as a pack, as a text or a table that was named in a pack's place.
 fn test_begin(alloc: Global, path: &str, pack: &[u8]) -> Result<(), Fault> {
-    if pack.starts_with(b"S3PACK01") || pack.starts_with(b"S3PACK02") {
+    let words = beginning_words(pack);
+    if words.is_empty() {
         return Ok(());
     }
-    let words = if begins_as_pack(pack) {
-        "{path} is no pack of the two formats that there are: it begins neither with S3PACK01 nor with S3PACK02; use the program that made it, or take a copy that is whole"
-    } else {
-        "{path} is no pack: it doesn't begin with S3PACK; give the file of a pack, as `bureau init` makes it"
-    };
-    Err(refused(Words::of_path(path).fill(alloc, words)))
+    let path = Shown(path);
+    Err(refused(format!(in alloc; "{path} {words}")))
 }
 
 /// The bytes of the pack at a path, for a command that saves to another or the same, with the lock in the second case.
@@ -131,7 +128,7 @@ fn pack_to_save(
     path: &str,
     save: &str,
 ) -> Result<(Vec<u8>, Option<LockedPack>), Fault> {
-    if let Err(fault) = keep_apart(rt, save) {
+    if let Err(fault) = keep_save_apart(rt, save) {
         return Err(of_pack(rt, Use::Saves, &fault, save));
     }
     match read_to_save(rt, path, save) {
@@ -167,10 +164,12 @@ fn refuse_file_there(rt: &HostRuntime, save: &str) -> Result<(), Fault> {
     }
 }
 
-/// Why a pack isn't saved where a file is, and what helps: `--overwrite` writes over packs only.
+/// Why a pack isn't saved where a file is, and what helps: `--overwrite` writes over packs and empty files only.
 fn there_words(rt: &HostRuntime, save: &str) -> &'static str {
     if is_pack_at(rt, Path::new(save)) {
-        "{path} is there already; give another name, or say --overwrite to write over it"
+        "{path} is there already; give another name, or --overwrite to write over it"
+    } else if is_empty_at(rt, Path::new(save)) {
+        "{path} is there already, and is empty; give another name, or --overwrite to write over it"
     } else {
         "{path} is there already and is no pack; give another name, or remove that file"
     }
@@ -184,7 +183,7 @@ pub fn keep_input(rt: &HostRuntime, save: &str, input: &str) -> Result<(), Fault
     let shown = Shown(save);
     let read = Shown(input);
     Err(refused(format!(in rt.alloc();
-        "--save {shown} names the file that is read as {read}, and what stands there would be lost; give another name"
+        "--save {shown} names the file that is read as {read}, and its contents would be lost; give another name"
     )))
 }
 
@@ -272,9 +271,9 @@ fn care_words(fault: CareFault) -> &'static str {
         CareFault::Damaged(_) => DAMAGED,
         CareFault::NoName => NO_LABEL,
         CareFault::Permanent =>
-            "{label} in area {area} of {path} is permanent; say --permanent if it is meant",
+            "{label} in area {area} of {path} is permanent; give --permanent to delete it",
         CareFault::Uncovers(_) =>
-            "slot {number} in area {area} of {path}, which is damaged, would have a file again once {label} is gone; free it first by --slot {number}, or put its label right",
+            "slot {number} in area {area} of {path}, which is damaged, would have a file again once {label} is gone; free it first by --slot {number}, or correct its label",
     }
 }
 
@@ -287,7 +286,7 @@ pub fn refused(sentence: Result<String, AllocError>) -> Fault {
 }
 
 /// Saves a pack, whole or not at all. Without `--overwrite` a file that has appeared by now isn't overwritten. A new file lets nobody
-/// do more than the pack that was read.
+/// do more than the pack that was read. The packs that were read aren't taken for leftovers of a save.
 pub fn saved<'a>(
     rt: &HostRuntime,
     matches: &ArgMatches<'_>,
@@ -300,10 +299,11 @@ pub fn saved<'a>(
         path: save,
         is_other_replaced: locked.is_none() && is_pack_at(rt, Path::new(save)),
     };
+    let read = [matches.get_str("pack"), matches.get_str("into")];
     let done = if locked.is_none() && !matches.get_flag("overwrite") {
-        save_new_pack(rt, save, limit, pack)
+        save_new_pack(rt, save, limit, &read, pack)
     } else {
-        save_pack(rt, save, locked, limit, pack)
+        save_pack(rt, save, locked, limit, &read, pack)
     };
     match done {
         Ok(()) => Ok(saved),
@@ -340,10 +340,10 @@ pub fn label_words(fault: LabelFault) -> &'static str {
         LabelFault::NotFound =>
             "area {area} of {path} has no file {label}; `bureau list --pack {path}` shows those that it has",
         LabelFault::DamagedLabel =>
-            "{label} in area {area} of {path} is damaged; `bureau check --pack {path}` tells its slot and why: put its label right, or free the slot by `bureau delete --slot`",
+            "{label} in area {area} of {path} is damaged; `bureau check --pack {path}` reports its slot and why: correct its label, or free the slot by `bureau delete --slot`",
         LabelFault::Master => "a master of {path} has the label {label}; give another one by --as",
         LabelFault::NoSpace =>
-            "area {area} of {path} has no room for {label}; delete a file there, or make a larger pack",
+            "area {area} of {path} has no space for {label}; delete a file there, or make a larger pack",
         LabelFault::Retained =>
             "{label} in area {area} of {path} is permanent; delete it first by `bureau delete --permanent`, or give another label",
         LabelFault::NoSlot =>
@@ -351,7 +351,7 @@ pub fn label_words(fault: LabelFault) -> &'static str {
     }
 }
 
-/// Why an area has no room for a file that takes so many tracks, where that is known: with the tracks that are free there, and what
+/// Why an area has no space for a file that takes so many tracks, if that is known: with the tracks that are free there, and what
 /// helps beside the deletion of another file.
 pub fn no_room_sentence(
     alloc: Global,
@@ -372,7 +372,7 @@ fn push_no_room(
     room: FreeRoom,
     otherwise: &str,
 ) -> Result<(), AllocError> {
-    words.push(text, "area {area} of {path} has no room for {label}")?;
+    words.push(text, "area {area} of {path} has no space for {label}")?;
     match wanted {
         Some(1) => text.push_str(", which takes 1 track")?,
         Some(tracks) => write!(text, ", which takes {tracks} tracks")?,

@@ -29,21 +29,21 @@ fn layout_words(fault: &LayoutFault) -> &'static str {
     match fault {
         LayoutFault::NoMemory => "",
         LayoutFault::Card { .. } =>
-            "the first source in {path} has the diagnostics above; mend its cards (docs/MESSAGES.md says how), or have a job compile it and see `bureau compile` mark the columns",
+            "the first source in {path} has the diagnostics above; correct its cards (docs/MESSAGES.md says how), or have a job compile it and see `bureau compile` mark the columns",
         LayoutFault::NoFile =>
             "the first source in {path} has no file on DISK; give a source whose F sheet has the file",
         LayoutFault::SeveralFiles =>
-            "the first source in {path} has several files on DISK; say which by --file NAME",
+            "the first source in {path} has several files on DISK; choose one by --file NAME",
         LayoutFault::OtherFile =>
             "the first source in {path} has no file of the name of --file on DISK; its F sheet has the names",
         LayoutFault::SeveralTypes =>
-            "the file has several types of records in the first source in {path}; say which by --type INDICATOR, as columns 19 and 20 of the I sheet have it",
+            "the file has several record types in the first source in {path}; choose one by --type INDICATOR, as columns 19 and 20 of the I sheet have it",
         LayoutFault::OtherType =>
-            "the file has no type of records of the indicator of --type in the first source in {path}; columns 19 and 20 of the I sheet have them",
+            "the file has no record type with the indicator of --type in the first source in {path}; give one of those that columns 19 and 20 of the I sheet have",
         LayoutFault::NoFields =>
             "the first source in {path} has no field of these records; give one whose I sheet has their fields",
         LayoutFault::NoForm(_) =>
-            "the field {field} in the first source in {path} has a length or decimals that no program can have; mend its card of the I sheet",
+            "the field {field} in the first source in {path} has a length or decimals that no program can have; correct its card of the I sheet",
         LayoutFault::Twice(_) =>
             "the field {field} is there twice in the first source in {path}; give a source in which each field of these records has a name of its own",
     }
@@ -64,11 +64,11 @@ pub fn unload_sentence<'a>(
         UnloadFault::DamagedLabel => words.fill(alloc, label_words(LabelFault::DamagedLabel)),
         UnloadFault::BadIndex => words.fill(
             alloc,
-            "the index of {label} in area {area} of {path} isn't that of its records; --as hex writes the records as they stand in the file",
+            "the index of {label} in area {area} of {path} isn't that of its records; --as hex writes the records as they are in the file",
         ),
         UnloadFault::OtherLength(length) => words.with_number(u64::from(*length)).fill(
             alloc,
-            "the records of {label} in area {area} of {path} have {number} bytes, and those of the layout have another length; give the source of a program that uses this file",
+            "the records of {label} in area {area} of {path} have {number} bytes, and the layout's records have another length; give the source of a program that uses this file",
         ),
         UnloadFault::Hidden(record, field, fault) => {
             hidden_sentence(alloc, label, *record, *field, *fault)
@@ -92,9 +92,9 @@ pub fn others_sentence<'a>(
     others: u32,
 ) -> Result<String, AllocError> {
     let sentence = if others == 1 {
-        "1 record of {label} in area {area} of {path} is of another type and isn't in the table"
+        "1 record of {label} in area {area} of {path} is of another type and isn't in the table; the --type of that type unloads it, and --as hex all records"
     } else {
-        "{number} records of {label} in area {area} of {path} are of other types and aren't in the table"
+        "{number} records of {label} in area {area} of {path} are of other types and aren't in the table; the --type of such a type unloads them, and --as hex all records"
     };
     Words::of_file(path, area, label)
         .with_number(u64::from(others))

@@ -30,7 +30,7 @@ pub const SORT: CommandWords = CommandWords {
         Word {
             name: "by",
             takes: Takes::Needed("FIELDS"),
-            help: "The fields by which it is sorted, FROM-TO each with commas between: Z behind one is a zoned number, P a packed one, D the greatest first",
+            help: "The fields by which it is sorted, FROM-TO each with commas between; Z after one is a zoned number, P a packed one, D puts the greatest first",
         },
         Word {
             name: "as",
@@ -177,7 +177,7 @@ fn fields_of(alloc: Global, text: &str) -> Result<Vec<SortField>, Fault> {
     let wrong = wrong.as_str();
     let text = Shown(text);
     Err(Fault::Usage(format!(in alloc;
-        "--by {text} names no fields: {wrong}; a field is FROM-TO, with Z or P, and D, behind it, as 1-6,20-24PD"
+        "--by {text} names no fields: {wrong}; a field is FROM-TO, then Z for a zoned number or P for a packed one, then D if the greatest comes first, as 1-6,20-24PD"
     )?))
 }
 
@@ -198,7 +198,7 @@ fn field_of(part: &str) -> Result<SortField, &'static str> {
     };
     let (range, form) = form_of(rest);
     let Some((from, to)) = range_of(range) else {
-        return Err("isn't two numbers with a hyphen between them");
+        return Err(unread_words(part));
     };
     let field = SortField {
         from,
@@ -210,6 +210,27 @@ fn field_of(part: &str) -> Result<SortField, &'static str> {
         return Ok(field);
     }
     Err(misfit_of(from, to, form))
+}
+
+/// Why a text names no field, if its two places can't be read.
+fn unread_words(part: &str) -> &'static str {
+    if has_other_letters(part) {
+        "ends in letters other than Z or P and then D"
+    } else {
+        "isn't two numbers with a hyphen between them"
+    }
+}
+
+/// Whether a text is two numbers with a hyphen between them, and letters after them.
+fn has_other_letters(part: &str) -> bool {
+    match part.split_once("-") {
+        Some((from, to)) => {
+            place_of(from).is_some()
+                && matches!(to.as_bytes().first(), Some(b'0'..=b'9'))
+                && to.bytes().all(|byte| byte.is_ascii_alphanumeric())
+        }
+        None => false,
+    }
 }
 
 /// The two places in a record that a text gives.
@@ -293,14 +314,14 @@ fn push_misfits(
 ) -> Result<(), AllocError> {
     write!(
         text,
-        "the records of {label} have {length} bytes, and --by names bytes behind them:"
+        "the records of {label} have {length} bytes, and --by names bytes after them:"
     )?;
     for field in fields {
         if !field.fits(length) {
             push_range(text, *field)?;
         }
     }
-    text.push_str("; give fields that lie in the records")
+    text.push_str("; give fields within the records")
 }
 
 fn push_range(text: &mut String, field: SortField) -> Result<(), AllocError> {

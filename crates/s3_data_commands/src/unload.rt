@@ -32,7 +32,7 @@ pub const UNLOAD: CommandWords = CommandWords {
         Word {
             name: "as",
             takes: Takes::Value("FORM"),
-            help: "csv, text or hex; csv with a layout, else text, if it isn't said",
+            help: "csv, text or hex; by default csv with a layout, else text",
         },
         DELIMITER,
         SAFE_CELLS,
@@ -187,7 +187,7 @@ fn test_words(
     if form.is_some() && matches.get_str("delimiter").is_some() {
         return Err(wrong_words(
             rt.alloc(),
-            "--delimiter stands between the cells of a table, and text and hex have none; leave it out, or give a layout and --as csv",
+            "--delimiter is for tables, and text and hex have no cells; leave it out, or give a layout and --as csv",
         ));
     }
     Ok(())

@@ -55,7 +55,7 @@ pub const LAYOUT: Word = Word {
 pub const LAYOUT_FILE: Word = Word {
     name: "file",
     takes: Takes::Value("NAME"),
-    help: "The file of the source, where it has several on DISK",
+    help: "The file of the source, if it has several on DISK",
 };
 
 /// The type of records that is meant.
@@ -69,7 +69,7 @@ pub const LAYOUT_TYPE: Word = Word {
 pub const DELIMITER: Word = Word {
     name: "delimiter",
     takes: Takes::Value("C"),
-    help: "The character between the cells, a comma if it isn't said",
+    help: "The character between the cells, a comma by default",
 };
 
 /// An apostrophe before texts that begin as formulas do.

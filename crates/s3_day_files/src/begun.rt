@@ -7,7 +7,7 @@ use std::alloc::{AllocError, Global};
 use std::io::Write;
 
 /// The options that name outputs, or the log of another day, which no log has.
-const OUTPUTS: [&str; 7] = [
+const OUTPUTS: [&str; 8] = [
     "--save",
     "--script",
     "--log",
@@ -15,6 +15,7 @@ const OUTPUTS: [&str; 7] = [
     "--deck-out1",
     "--deck-out2",
     "--paper",
+    "--journal",
 ];
 
 /// A log whose day is done again.

@@ -22,6 +22,10 @@ const NO_PACK: &str =
 /// The refusal of what can't have a pack.
 const DEVICE: &str = "is no pack: it is a device or a pipe; give the file of a pack";
 
+/// The refusal of what can't have a journal.
+const NO_JOURNAL: &str =
+    "is no journal: it is a folder, a device or a pipe; give --journal the name of a file";
+
 /// The refusal of a file of `--save` in a folder that may not be written.
 const FOLDER_CLOSED: &str =
     "can't be saved: permission is denied; have the folder's owner let you read and write there, as by `chmod`, or save elsewhere";
@@ -95,6 +99,16 @@ pub enum DayFault<'a> {
     NoTakingUp,
     /// The day isn't that of the log.
     Redo,
+    /// This pack is an old copy.
+    Old(&'a str),
+    /// No line of the journal has this pack.
+    Changed(&'a str),
+    /// The decks are posted.
+    Posted,
+    /// The journal can't be read.
+    Journal,
+    /// This is a folder, a device or a pipe, in the place of a journal.
+    NoJournal(&'a str),
 }
 
 impl<'a> From<AllocError> for DayFault<'a> {
@@ -128,6 +142,7 @@ impl<'a> DayFault<'a> {
             FileFault::IsPack => DayFault::IsPack(name),
             FileFault::Hindered(hindrance) => DayFault::Hindered(name, *hindrance),
             FileFault::Stream(stream) => DayFault::Stream(name, *stream),
+            FileFault::Talk(_) => DayFault::Device(name),
             FileFault::Call(error) => DayFault::of(error, name),
             FileFault::Unsynced(_) => DayFault::Unsynced(name),
         }
@@ -144,6 +159,7 @@ impl<'a> DayFault<'a> {
             | DayFault::TooLarge(_)
             | DayFault::NoPack(_)
             | DayFault::Device(_)
+            | DayFault::NoJournal(_)
             | DayFault::FolderClosed(_)
             | DayFault::Hindered(_, _)
             | DayFault::Stream(_, StandardStream::Error)
@@ -172,6 +188,10 @@ impl<'a> DayFault<'a> {
             DayFault::Deck(LevelId::Two) => writeln!(writer, "bureau: deck2"),
             DayFault::NoTakingUp => writeln!(writer, "bureau: from"),
             DayFault::Redo => writeln!(writer, "bureau: redo"),
+            DayFault::Old(name) => write_pack(writer, "old", *name),
+            DayFault::Changed(name) => write_pack(writer, "changed", *name),
+            DayFault::Posted => writeln!(writer, "bureau: posted"),
+            DayFault::Journal => writeln!(writer, "bureau: journal"),
             DayFault::Call(name, error) => write_call(writer, *name, *error),
             DayFault::Hindered(name, hindrance) => write_file(writer, *name, hindrance.words()),
             // A line would get into the file.
@@ -192,6 +212,7 @@ impl<'a> DayFault<'a> {
             DayFault::NoPack(name) => Some((*name, NO_PACK)),
             DayFault::IsPack(name) => Some((*name, "is a pack; name another file")),
             DayFault::Device(name) => Some((*name, DEVICE)),
+            DayFault::NoJournal(name) => Some((*name, NO_JOURNAL)),
             DayFault::FolderClosed(name) => Some((*name, FOLDER_CLOSED)),
             DayFault::NewOverPack(name) => Some((*name, NEW_OVER_PACK)),
             DayFault::Unsynced(name) => {
@@ -215,6 +236,12 @@ impl<'a> DayFault<'a> {
             _ => None,
         }
     }
+}
+
+/// Writes what is refused of a pack.
+fn write_pack<W: Write>(writer: &mut W, word: &str, name: &str) -> io::Result<()> {
+    let name = Shown(name);
+    writeln!(writer, "bureau: {word} {name}")
 }
 
 /// Writes a sentence about a file.

@@ -168,18 +168,29 @@ pub fn read_text<'a>(
     }
 }
 
-/// The rules of a file, or none if no file is named. Each line that is no rule is reported.
-pub fn read_rules<'a>(rt: &HostRuntime, path: Option<&'a str>) -> Result<Rules, DayFault<'a>> {
+/// The text of a file of rules; an empty text if no file is named.
+pub fn rules_text<'a>(rt: &HostRuntime, path: Option<&'a str>) -> Result<Vec<u8>, DayFault<'a>> {
+    match path {
+        Some(path) => read_text(rt, path, RULES_LIMIT),
+        None => Ok(Vec::new(rt.alloc())),
+    }
+}
+
+/// The rules of a text of a file, or none if no file is named. Each line that is no rule is reported.
+pub fn read_rules<'a>(
+    rt: &HostRuntime,
+    path: Option<&'a str>,
+    text: &[u8],
+) -> Result<Rules, DayFault<'a>> {
     let Some(path) = path else {
         return Ok(Rules::none(rt.alloc()));
     };
-    let text = read_text(rt, path, RULES_LIMIT)?;
-    if let Some(encoding) = encoding_of(&text) {
+    if let Some(encoding) = encoding_of(text) {
         let (path, words) = (Shown(path), encoding.words());
         let _ = writeln!(rt.stderr(), "{path} {words}");
         return Err(DayFault::Replies(1));
     }
-    match Rules::read(rt.alloc(), &text) {
+    match Rules::read(rt.alloc(), text) {
         Ok(rules) => Ok(rules),
         Err(fault) => Err(rules_refused(rt, path, &fault)),
     }

@@ -9,6 +9,8 @@
 mod begun;
 mod fault;
 mod inputs;
+mod journal;
+mod journal_list;
 mod level_deck;
 mod order;
 mod outputs;
@@ -19,9 +21,13 @@ mod watch;
 
 pub use begun::{Again, push_word, test_same};
 pub use fault::{DayFault, unwritten};
-pub use inputs::{DayPack, Decks, read_log, read_rules};
+pub use inputs::{DayPack, Decks, read_log, read_rules, rules_text};
+pub use journal::{Begin, DayJournal, Given, begin_day};
+pub use journal_list::list_journals;
 pub use order::{Order, names, replies_of};
-pub use outputs::{KeptOutputs, Output, Outputs, remove_made, test_outputs, write_deck};
+pub use outputs::{
+    KeptOutputs, Output, Outputs, remove_made, test_decks, test_journal, test_outputs, write_deck,
+};
 pub use paper::{Form, Paper};
 pub use taking_up::list_jobs;
 pub use watch::Watch;

@@ -56,6 +56,12 @@ pub struct Order<'a> {
     pub paper: Option<Paper<'a>>,
     /// The pack is saved also where a level isn't done.
     pub saves_unfinished: bool,
+    /// The journal of the pack.
+    pub journal: Option<&'a str>,
+    /// The day is done whatever the journal has.
+    pub does_again: bool,
+    /// A day that is posted isn't refused.
+    pub is_once: bool,
     /// What is there is written over.
     pub overwrites: bool,
     /// Neither progress is told, nor what rules answer.
@@ -94,6 +100,9 @@ impl<'a> Order<'a> {
             deck_out2: words.get_str("deck-out2"),
             paper,
             saves_unfinished: words.get_flag("save-unfinished"),
+            journal: words.get_str("journal"),
+            does_again: words.get_flag("again"),
+            is_once: words.get_flag("once"),
             overwrites: words.get_flag("overwrite"),
             is_quiet: words.get_flag("quiet"),
         })

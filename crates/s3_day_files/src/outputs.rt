@@ -6,7 +6,7 @@ use crate::paper::Paper;
 pub use s3_host_files::Output;
 use s3_host_files::{
     FileFault, Kept, Limit, LockedFolder, LockedPack, STREAMS, StandardStream, Target, WRITTEN,
-    is_pack_at, prepare_save, stream_at,
+    is_empty_at, is_pack_at, prepare_save, stream_at,
 };
 use std::alloc::Global;
 use std::fs::Metadata;
@@ -93,6 +93,18 @@ pub fn test_outputs<'a>(rt: &HostRuntime, order: &Order<'a>) -> Result<(), DayFa
     files.test(rt, order)
 }
 
+/// Refuses a file that is read and is also standard output or standard error.
+pub fn test_decks<'a>(rt: &HostRuntime, order: &Order<'a>) -> Result<(), DayFault<'a>> {
+    Files::new(rt.alloc()).add_texts(rt, order)
+}
+
+/// Refuses a journal that is the same file as one that is read, as the pack that is saved or as a standard stream, and a pack that
+/// doesn't exist.
+pub fn test_journal<'a>(rt: &HostRuntime, order: &Order<'a>) -> Result<(), DayFault<'a>> {
+    let mut files = Files::new(rt.alloc());
+    files.test_journal(rt, order)
+}
+
 impl<'a> Files<'a> {
     fn new(alloc: Global) -> Files<'a> {
         Files {
@@ -107,9 +119,28 @@ impl<'a> Files<'a> {
         self.add_texts(rt, order)?;
         self.add_pack(rt, order.pack)?;
         self.add_saved(rt, order)?;
+        self.add_journal(rt, order.journal)?;
         self.add_written(rt, order)?;
         match order.paper {
             Some(paper) => paper.test_free(rt, order.overwrites, self),
+            None => Ok(()),
+        }
+    }
+
+    /// Adds what the day reads and the pack that it saves, and tests the journal.
+    fn test_journal(&mut self, rt: &HostRuntime, order: &Order<'a>) -> Result<(), DayFault<'a>> {
+        self.add_texts(rt, order)?;
+        self.add_pack(rt, order.pack)?;
+        if let Some(name) = order.save {
+            self.written.push(found(rt, name, &STREAMS)?)?;
+        }
+        self.add_journal(rt, order.journal)
+    }
+
+    /// Adds the journal. It may be no file that is read and no other output.
+    fn add_journal(&mut self, rt: &HostRuntime, name: Option<&'a str>) -> Result<(), DayFault<'a>> {
+        match name {
+            Some(name) => self.add_output(rt, name, true),
             None => Ok(()),
         }
     }
@@ -163,7 +194,7 @@ impl<'a> Files<'a> {
             return Err(DayFault::NewOverPack(name));
         }
         if !order.overwrites && save.target.is_there() && !self.is_pack(&save) {
-            return Err(DayFault::OtherPack(name));
+            return Err(there_already(rt, name));
         }
         self.written.push(save)?;
         Ok(())
@@ -219,6 +250,18 @@ impl<'a> Files<'a> {
             Some(pack) if pack.target.is_in(folder) => Some(pack.name),
             _ => first_within(&self.written, folder),
         }
+    }
+}
+
+/// Why a pack isn't saved over a file without `--overwrite`.
+fn there_already<'a>(rt: &HostRuntime, name: &'a str) -> DayFault<'a> {
+    let place = Path::new(name);
+    if is_pack_at(rt, place) {
+        DayFault::OtherPack(name)
+    } else if is_empty_at(rt, place) {
+        DayFault::Exists(name)
+    } else {
+        DayFault::NoPack(name)
     }
 }
 
@@ -356,7 +399,7 @@ impl<'a> Outputs<'a> {
 }
 
 /// The most that new files let anyone do: what the file lets them do that the pack is saved to, or else the file that it is read from.
-fn limit_of<'a>(rt: &HostRuntime, order: &Order<'a>) -> Result<Option<Limit>, DayFault<'a>> {
+pub fn limit_of<'a>(rt: &HostRuntime, order: &Order<'a>) -> Result<Option<Limit>, DayFault<'a>> {
     if let Some(limit) = limit_by(rt, order.save)? {
         return Ok(Some(limit));
     }

@@ -1,0 +1,6 @@
+pub mod MemberLemmas
+pub mod ListLemmas
+pub mod LogLemmas
+pub mod WritingLemmas
+pub mod TextLemmas
+pub mod RoundTrip

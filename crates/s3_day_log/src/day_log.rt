@@ -1,8 +1,11 @@
 //! A log that is read, so that its day can be done again.
-ghost use Rattle.std.specs.Prelude.{◌≡◌, ◌++◌, OnOk, slice_get};
+ghost use Rattle.std.specs.Prelude.{◌≡◌, map, option_map, slice_get};
+ghost use Rattle.std.specs.List.{list_all};
 ghost use Rattle.std.specs.Option.{option_copied};
-ghost use Rattle.s3_cards.specs.declared.levels.LevelId.TheVariants.{One, Two};
-ghost use Rattle.s3_day_log.specs.Inner.Logged.{replies_at, replies_in};
+ghost use Rattle.std.specs.String.{string_bytes};
+ghost use Rattle.s3_day_log.specs.Inner.Events.{day_of, file_of, said_of};
+ghost use Rattle.s3_day_log.specs.Inner.Logged.{Follows, IsRead, IsReadAfter, Takes, answered, continued, ended, events_in, has_checksum, has_checksum_if_any, is_hexadecimal as is_hexadecimal_spec, is_checksum as is_checksum_spec, is_sound as is_sound_spec, log_in, replies_at, taken, taken_if_said, with_pack};
+ghost use Rattle.s3_day_log.specs.Inner.Lines.{said_on};
 
 use crate::event::{Begun, DayOver, Event, LoggedReply, NamedFile};
 use crate::reading::event_of;
@@ -28,12 +31,22 @@ pub enum LogFault {
 }
 
 impl From<AllocError> for LogFault {
+    ghost use Rattle.std.specs.Prelude.{◌≡◌};
+    ghost use Rattle.s3_day_log.specs.declared.day_log.LogFault.TheVariants.{NoMemory};
+
+    ghost from_gives = { λ _ fault. fault ≡ NoMemory };
+
     fn from(_: AllocError) -> LogFault {
         LogFault::NoMemory
     }
 }
 
 impl<T: Drop> From<AllocFailed<T>> for LogFault {
+    ghost use Rattle.std.specs.Prelude.{◌≡◌};
+    ghost use Rattle.s3_day_log.specs.declared.day_log.LogFault.TheVariants.{NoMemory};
+
+    ghost from_gives = { λ _ fault. fault ≡ NoMemory };
+
     fn from(_: AllocFailed<T>) -> LogFault {
         LogFault::NoMemory
     }
@@ -72,17 +85,32 @@ pub struct DayLog {
 }
 
 impl DayLog {
-    /// The log of a text. A last line without its end is that of a desk that was killed, and isn't looked at.
-    pub fn read(alloc: Global, text: &str) -> Result<DayLog, LogFault> {
+    /// The log of a text: what its lines say. A last line without its end is that of a desk that was killed, and isn't looked at. The
+    /// first line must begin the day. A text is refused with the number of its first line that is no event, or comes too early or too
+    /// late: only the first line begins the day, only the last one ends it, after the answer about saving only that one follows, a reply is
+    /// one that its halt allows, and each file that is read or saved has a checksum.
+    pub fn read(alloc: Global, text: &str) -> Result<DayLog, LogFault>
+        ensures { IsRead text.now result }
+    {
         let Some((first, rest)) = text.split_once('\n') else {
             return Err(LogFault::Line(1));
         };
-        let Event::Begin { day } = event_of(alloc, first, 1)? else {
+        let Some(event) = event_of(alloc, first)? else {
+            return Err(LogFault::Line(1));
+        };
+        let Event::Begin { day } = event else {
             return Err(LogFault::Line(1));
         };
         if !is_sound(&day) {
             return Err(LogFault::Line(1));
         }
+        DayLog::read_after(alloc, day, rest)
+    }
+
+    /// The log of a day that was begun with this, and of the lines after the first one.
+    fn read_after(alloc: Global, day: Begun, rest: &str) -> Result<DayLog, LogFault>
+        ensures { IsReadAfter (day_of day) rest.now result }
+    {
         let mut log = DayLog {
             begun: day,
             replies1: Vec::new(alloc),
@@ -95,25 +123,36 @@ impl DayLog {
         Ok(log)
     }
 
-    /// Reads the lines behind the first one.
-    fn read_rest(&mut self, alloc: Global, text: &str) -> Result<(), LogFault> {
+    /// Reads the lines after the first one.
+    fn read_rest(&mut self, alloc: Global, text: &str) -> Result<(), LogFault>
+        ensures { Follows 2 (events_in text.now) self.old self.new result }
+    {
         let mut rest = text;
         let mut number: usize = 1;
         while let Some((line, after)) = rest.split_once('\n') {
-            number = number.saturating_add(1);
-            if self.status.is_some() {
-                return Err(LogFault::Line(number));
-            }
-            self.take(event_of(alloc, line, number)?, number)?;
+            number += 1;
+            self.take_line(alloc, line, number)?;
             rest = after;
         }
         Ok(())
     }
 
+    /// Takes a line, which has this number.
+    fn take_line(&mut self, alloc: Global, line: &str, number: usize) -> Result<(), LogFault>
+        ensures { Takes number (taken_if_said (said_on line.now) (log_in self.old)) self.new result }
+    {
+        if self.status.is_some() {
+            return Err(LogFault::Line(number));
+        }
+        match event_of(alloc, line)? {
+            Some(event) => self.take(event, number),
+            None => Err(LogFault::Line(number)),
+        }
+    }
+
     /// Takes an event of the log, with the number of its line.
     fn take(&mut self, event: Event, number: usize) -> Result<(), LogFault>
-        ensures one { OnOk result (self.new.replies1.items ≡ self.old.replies1.items ++ replies_in One event) }
-        ensures two { OnOk result (self.new.replies2.items ≡ self.old.replies2.items ++ replies_in Two event) }
+        ensures { Takes number (taken (said_of event) (log_in self.old)) self.new result }
     {
         match event {
             Event::End(day) => self.end(day, number),
@@ -124,8 +163,7 @@ impl DayLog {
 
     /// Takes the last event of the log.
     fn end(&mut self, day: DayOver, number: usize) -> Result<(), LogFault>
-        ensures one { self.new.replies1.items ≡ self.old.replies1.items }
-        ensures two { self.new.replies2.items ≡ self.old.replies2.items }
+        ensures { Takes number (ended day.status (option_map file_of day.saved) (log_in self.old)) self.new result }
     {
         let DayOver { status, saved } = day;
         self.status = Some(status);
@@ -138,8 +176,7 @@ impl DayLog {
 
     /// Takes the pack that is saved.
     fn save(&mut self, pack: NamedFile, number: usize) -> Result<(), LogFault>
-        ensures one { self.new.replies1.items ≡ self.old.replies1.items }
-        ensures two { self.new.replies2.items ≡ self.old.replies2.items }
+        ensures { Takes number (with_pack (file_of pack) (log_in self.old)) self.new result }
     {
         if !is_checksum(&pack) {
             return Err(LogFault::Line(number));
@@ -150,27 +187,34 @@ impl DayLog {
 
     /// Takes an event before the last one.
     fn go_on(&mut self, event: Event, number: usize) -> Result<(), LogFault>
-        ensures one { OnOk result (self.new.replies1.items ≡ self.old.replies1.items ++ replies_in One event) }
-        ensures two { OnOk result (self.new.replies2.items ≡ self.old.replies2.items ++ replies_in Two event) }
+        ensures { Takes number (continued (said_of event) (log_in self.old)) self.new result }
     {
         match event {
-            Event::Begin { .. } | Event::End(_) => return Err(LogFault::Line(number)),
+            Event::Begin { .. } | Event::End(_) => Err(LogFault::Line(number)),
             Event::JobBegins(_)
             | Event::JobEnds(_)
             | Event::Halt(_)
             | Event::Cut { .. }
-            | Event::Stop => {}
-            Event::Declined => self.is_declined = true,
-            Event::Reply(reply) => {
-                if !allowed(reply.code, reply.digit) {
-                    return Err(LogFault::Line(number));
-                }
-                match reply.level {
-                    LevelId::One => self.replies1.push(reply)?,
-                    LevelId::Two => self.replies2.push(reply)?,
-                }
+            | Event::Stop => Ok(()),
+            Event::Declined => {
+                self.is_declined = true;
+                Ok(())
             }
-            Event::Saving { pack } => return self.save(pack, number),
+            Event::Reply(reply) => self.answer(reply, number),
+            Event::Saving { pack } => self.save(pack, number),
+        }
+    }
+
+    /// Takes a reply, if its halt allows it.
+    fn answer(&mut self, reply: LoggedReply, number: usize) -> Result<(), LogFault>
+        ensures { Takes number (answered reply (log_in self.old)) self.new result }
+    {
+        if !allowed(reply.code, reply.digit) {
+            return Err(LogFault::Line(number));
+        }
+        match reply.level {
+            LevelId::One => self.replies1.push(reply)?,
+            LevelId::Two => self.replies2.push(reply)?,
         }
         Ok(())
     }
@@ -225,21 +269,56 @@ fn test_deck(logged: &[NamedFile], given: &[String], level: u8) -> Result<(), Re
     Ok(())
 }
 
-/// Whether the checksums of a day's files are such.
-fn is_sound(day: &Begun) -> bool {
-    let pack_is_sound = match &day.pack {
+/// Whether each file of a day has a checksum.
+fn is_sound(day: &Begun) -> bool
+    ensures { result ≡ is_sound_spec (day_of day.now) }
+{
+    pack_is_sound(&day.pack) && are_checksums(&day.deck1) && are_checksums(&day.deck2)
+}
+
+fn pack_is_sound(pack: &Option<NamedFile>) -> bool
+    ensures { result ≡ has_checksum_if_any (option_map file_of pack.now) }
+{
+    match pack {
         Some(pack) => is_checksum(pack),
         None => true,
-    };
-    pack_is_sound && day.deck1.iter().all(is_checksum) && day.deck2.iter().all(is_checksum)
+    }
+}
+
+#[tactic(auto, using(crate::proofs::LogLemmas::all_checksums))]
+fn are_checksums(files: &[NamedFile]) -> bool
+    ensures { result ≡ list_all has_checksum (map file_of files.now) }
+{
+    each_is_checksum(files)
+}
+
+fn each_is_checksum(files: &[NamedFile]) -> bool
+    ensures { result ≡ list_all (λ file. has_checksum (file_of file)) files.now }
+{
+    files.iter().all(|file| is_checksum(file))
 }
 
 /// Whether a file has a checksum: 64 hexadecimal digits, with small letters.
-fn is_checksum(file: &NamedFile) -> bool {
-    file.sha256.len() == CHECKSUM
-        && file
-            .sha256
-            .as_bytes()
-            .iter()
-            .all(|byte| matches!(*byte, b'0'..=b'9' | b'a'..=b'f'))
+fn is_checksum(file: &NamedFile) -> bool
+    ensures { result ≡ has_checksum (file_of file.now) }
+{
+    is_checksum_text(file.sha256.as_bytes())
+}
+
+fn is_checksum_text(text: &[u8]) -> bool
+    ensures { result ≡ is_checksum_spec text.now }
+{
+    text.len() == CHECKSUM && are_hexadecimal(text)
+}
+
+fn are_hexadecimal(text: &[u8]) -> bool
+    ensures { result ≡ list_all is_hexadecimal_spec text.now }
+{
+    text.iter().all(|byte| is_hexadecimal(*byte))
+}
+
+fn is_hexadecimal(byte: u8) -> bool
+    ensures { result ≡ is_hexadecimal_spec byte }
+{
+    matches!(byte, b'0'..=b'9' | b'a'..=b'f')
 }

@@ -7,10 +7,14 @@
 //! - `checksum` is the SHA-256 digest;
 //! - how a job ended that is over, and what a reply changes in the accounting;
 //! - what became of a day, by how its levels ended, and which pack of a logged day a pack is;
-//! - each reply event that is read adds its reply after those of its level, no other event adds one, and `DayLog::reply` gives the
-//!   reply after so many.
+//! - `line_of` writes exactly the line of an event at its time: one JSON object, and a line feed;
+//! - `DayLog::read` reads exactly the log of the events that a text's lines say, or refuses the first line that is refused, or memory runs
+//!   out; `DayLog::reply` gives the reply to a level's halt after so many;
+//! - the lines that are written of events are read as these events, also if a further line was begun (`laws::a_log_reads_back`). The text of
+//!   a line and its tokens are the kit's `json`, whose own round trip the proof uses. The premises: each time is one that `jiff` reads, and
+//!   each halt is one that a level can show.
 //!
-//! Tested: what is written of an event, that a line is read as that event, which jobs have begun, and to which job a line belongs.
+//! Tested: that the times of `utc_text` are such times, which jobs have begun, and to which job a line belongs.
 
 #![tactic(auto)]
 
@@ -19,6 +23,7 @@ mod clock_text;
 mod day_log;
 mod endings;
 mod event;
+pub mod laws;
 mod ledger;
 mod members;
 mod reading;

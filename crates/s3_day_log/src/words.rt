@@ -1,10 +1,60 @@
-//! The words by which the log has how a job ended, and who gave a reply.
+//! The words of the log: for kinds of events, for how a job ended, and for who gave a reply.
+ghost use Rattle.std.specs.Prelude.{◌≡◌};
+ghost use Rattle.s3_day_log.specs.Inner.Lines.{end_named, end_word, kind_named, replier_named, replier_word};
 
 use crate::event::{JobEnd, Replier};
 
+/// The kinds of events.
+#[derive(Clone, Copy)]
+pub(crate) enum EventKind {
+    /// The day begins.
+    Begin,
+    /// A job begins.
+    JobBegins,
+    /// A job is over.
+    JobEnds,
+    /// A halt waits.
+    Halt,
+    /// A halt is answered.
+    Reply,
+    /// A level is stopped at a limit.
+    Cut,
+    /// The operator ended the day.
+    Stop,
+    /// The operator answered that the pack isn't to be saved.
+    Declined,
+    /// The pack is going to be saved.
+    Saving,
+    /// The day is over.
+    End,
+}
+
+impl EventKind {
+    /// The kind of this word.
+    pub(crate) fn of_word(word: &str) -> Option<EventKind>
+        ensures { result ≡ kind_named word.now }
+    {
+        match word {
+            "begin" => Some(EventKind::Begin),
+            "job_begins" => Some(EventKind::JobBegins),
+            "job_ends" => Some(EventKind::JobEnds),
+            "halt" => Some(EventKind::Halt),
+            "reply" => Some(EventKind::Reply),
+            "cut" => Some(EventKind::Cut),
+            "stop" => Some(EventKind::Stop),
+            "declined" => Some(EventKind::Declined),
+            "saving" => Some(EventKind::Saving),
+            "end" => Some(EventKind::End),
+            _ => None,
+        }
+    }
+}
+
 impl JobEnd {
     /// Its word.
-    pub(crate) fn word(self) -> &'static str {
+    pub(crate) fn word(self) -> &'static str
+        ensures { result.now ≡ end_word self }
+    {
         match self {
             JobEnd::Ended => "ended",
             JobEnd::Replied => "replied",
@@ -13,16 +63,23 @@ impl JobEnd {
     }
 
     /// The end of this word.
-    pub(crate) fn of_word(word: &str) -> Option<JobEnd> {
-        [JobEnd::Ended, JobEnd::Replied, JobEnd::PassedOver]
-            .into_iter()
-            .find(|end| end.word() == word)
+    pub(crate) fn of_word(word: &str) -> Option<JobEnd>
+        ensures { result ≡ end_named word.now }
+    {
+        match word {
+            "ended" => Some(JobEnd::Ended),
+            "replied" => Some(JobEnd::Replied),
+            "passed_over" => Some(JobEnd::PassedOver),
+            _ => None,
+        }
     }
 }
 
 impl Replier {
     /// Its word.
-    pub(crate) fn word(self) -> &'static str {
+    pub(crate) fn word(self) -> &'static str
+        ensures { result.now ≡ replier_word self }
+    {
         match self {
             Replier::Rule => "rule",
             Replier::Line => "line",
@@ -32,14 +89,15 @@ impl Replier {
     }
 
     /// The replier of this word.
-    pub(crate) fn of_word(word: &str) -> Option<Replier> {
-        [
-            Replier::Rule,
-            Replier::Line,
-            Replier::Operator,
-            Replier::Log,
-        ]
-        .into_iter()
-        .find(|replier| replier.word() == word)
+    pub(crate) fn of_word(word: &str) -> Option<Replier>
+        ensures { result ≡ replier_named word.now }
+    {
+        match word {
+            "rule" => Some(Replier::Rule),
+            "line" => Some(Replier::Line),
+            "operator" => Some(Replier::Operator),
+            "log" => Some(Replier::Log),
+            _ => None,
+        }
     }
 }

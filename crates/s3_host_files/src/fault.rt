@@ -19,6 +19,8 @@ pub enum FileFault {
     Hindered(Hindrance),
     /// The file is this standard stream as well.
     Stream(StandardStream),
+    /// No pack is saved there: it is this standard stream, which is a pipe or a terminal.
+    Talk(StandardStream),
     /// A call of the system failed, and the file is what it was.
     Call(io::Error),
     /// The pack is saved, but its folder couldn't be brought to the disk: it may not survive a power cut.

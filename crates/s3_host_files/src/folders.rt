@@ -37,7 +37,7 @@ pub fn test_folder(rt: &HostRuntime, path: &str) -> io::Result<()> {
 
 /// Whether a folder has nothing in it. What a killed trial has left there is removed first.
 pub fn is_empty_folder(rt: &HostRuntime, path: &str) -> io::Result<bool> {
-    remove_leftovers(rt, tried(rt, path)?.as_path(), None);
+    remove_leftovers(rt, tried(rt, path)?.as_path(), None, &[]);
     let mut entries = fs::read_dir(rt, path)?;
     match entries.next() {
         Some(Ok(_)) => Ok(false),

@@ -1,10 +1,11 @@
 //! The new files that killed saves have left beside a pack.
 
 use super::locking::lock;
-use super::places::{are_same, folder_of, leads_to};
+use super::naming::{Claim, is_leftover};
+use super::places::{are_same, existing, folder_of, leads_to};
 use super::reading::is_begun_pack;
 use std::alloc::AllocError;
-use std::fs::{Metadata, OpenOptions};
+use std::fs::{File, Metadata, OpenOptions};
 use std::path::Path;
 use std::{fs, io};
 
@@ -16,12 +17,17 @@ pub fn beside(rt: &HostRuntime, place: Path<'_>, number: u32) -> Result<String, 
     format!(in rt.alloc(); "{}{INFIX}{number}", place.as_str())
 }
 
-/// Removes what killed saves to a path have left beside it, given the file that is there, if one is. A file that can't be removed stays,
-/// and hinders no save.
-pub fn remove_leftovers(rt: &HostRuntime, place: Path<'_>, there: Option<&Metadata>) {
+/// Removes what killed saves to a path have left beside it, given the file that is there, if one is, and the packs that the command
+/// reads, which stay. A file that can't be removed stays too, and hinders no save.
+pub fn remove_leftovers(
+    rt: &HostRuntime,
+    place: Path<'_>,
+    there: Option<&Metadata>,
+    read: &[Option<&str>],
+) {
     if let Ok(found) = numbered(rt, place) {
         for path in &found {
-            let _ = remove_if_left(rt, path.as_str(), there);
+            let _ = remove_if_left(rt, path.as_str(), there, read);
         }
     }
 }
@@ -48,21 +54,59 @@ fn number_after<'a>(name: &str, entry: &'a str) -> Option<&'a str> {
     is_number.then_some(number)
 }
 
-/// Removes a file that no save holds, if it is a regular one that is empty or begins as a pack does; also a second name of the file
-/// that is there, which a save left that was killed after it had given that file its name.
-fn remove_if_left(rt: &HostRuntime, path: &str, there: Option<&Metadata>) -> io::Result<()> {
+/// Removes a regular file if it is a leftover.
+fn remove_if_left(
+    rt: &HostRuntime,
+    path: &str,
+    there: Option<&Metadata>,
+    read: &[Option<&str>],
+) -> io::Result<()> {
     let found = fs::symlink_metadata(rt, path)?;
     if !found.is_file() {
         return Ok(());
     }
+    if is_read(rt, &found, read) {
+        return remove_by(rt, path, Claim::Read, false);
+    }
     if let Some(there) = there
         && are_same(there, &found)
     {
-        return fs::remove_file(rt, path);
+        return remove_by(rt, path, Claim::SecondName, false);
     }
+    // the lock lasts until the file is removed
     let mut file = OpenOptions::new().read(true).write(true).open(rt, path)?;
-    if lock(&file)? && leads_to(rt, Path::new(path), &file)? && is_begun_pack(rt, &mut file)? {
-        fs::remove_file(rt, path)?;
+    let claim = claim_by_lock(rt, path, &file)?;
+    let begins = is_begun_pack(rt, &mut file)?;
+    remove_by(rt, path, claim, begins)
+}
+
+/// Whether a file is one of the packs that the command reads.
+fn is_read(rt: &HostRuntime, found: &Metadata, read: &[Option<&str>]) -> bool {
+    for name in read {
+        if let Some(name) = name
+            && let Ok(Some(pack)) = existing(rt, Path::new(*name))
+            && are_same(&pack, found)
+        {
+            return true;
+        }
     }
-    Ok(())
+    false
+}
+
+/// Who has the file of a name, which is locked here if no other command has it.
+fn claim_by_lock(rt: &HostRuntime, path: &str, file: &File) -> io::Result<Claim> {
+    Ok(if lock(file)? && leads_to(rt, Path::new(path), file)? {
+        Claim::Free
+    } else {
+        Claim::Locked
+    })
+}
+
+/// Removes the file of a name if it is a leftover.
+fn remove_by(rt: &HostRuntime, path: &str, claim: Claim, begins_as_pack: bool) -> io::Result<()> {
+    if is_leftover(claim, begins_as_pack) {
+        fs::remove_file(rt, path)
+    } else {
+        Ok(())
+    }
 }

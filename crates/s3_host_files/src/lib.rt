@@ -2,7 +2,7 @@
 //! and standard output.
 //!
 //! What is proved: how a new file gets the name of an old one, by what is found there (`choose_naming`), which files a pack may replace
-//! (`can_begin_pack`), and the names of the standard streams (`StandardStream::name`).
+//! (`can_begin_pack`), which files a save removes (`is_leftover`), and the names of the standard streams (`StandardStream::name`).
 //! Each call is safe and returns. What files give and take isn't claimed: they are used as the toolchain offers them, and
 //! `tools/kill-saves` and `tools/test-saves` test the saves.
 
@@ -31,15 +31,18 @@ pub use naming::Hindrance;
 pub use outputs::{Kept, Output};
 pub use places::Target;
 use places::{existing, followed};
-pub use reading::is_pack_at;
 use reading::read_up_to;
+pub use reading::{is_empty_at, is_pack_at};
 use replacing::{replace, save_first, test_place, test_replacing};
 pub use standard_output::StandardOutput;
 use std::fs::{File, OpenOptions};
 use std::io;
 use std::io::{ErrorKind, Write};
 use std::path::Path;
-pub use streams::{STREAMS, StandardStream, WRITTEN, keep_apart, stream_at};
+pub use streams::{
+    STREAMS, StandardStream, WRITTEN, is_input_standard_error, is_standard_error, keep_apart,
+    keep_save_apart, stream_at,
+};
 use syncing::sync_if_kept;
 
 /// The bytes of 65,535 sectors, the most that a pack can have.
@@ -55,14 +58,14 @@ pub fn read_pack(rt: &HostRuntime, path: &str) -> Result<Vec<u8>, FileFault> {
 
 /// A pack as `read_pack` reads it, for a command that saves to a path. If that path leads to the same regular file, the file is locked
 /// before it is read, and stays so until the save, which takes the lock. `InUse` if another command has it; `Stream` if one of the
-/// files is also standard output or standard error.
+/// files is also standard output or standard error; `Talk` if the pack would be saved to one that is a pipe or a terminal.
 pub fn read_to_save(
     rt: &HostRuntime,
     path: &str,
     save: &str,
 ) -> Result<(Vec<u8>, Option<LockedPack>), FileFault> {
     keep_apart(rt, path)?;
-    keep_apart(rt, save)?;
+    keep_save_apart(rt, save)?;
     match LockedPack::read_and_saved(rt, path, save)? {
         Some((bytes, locked)) => Ok((bytes, Some(locked))),
         None => Ok((read_pack(rt, path)?, None)),
@@ -74,23 +77,24 @@ pub fn read_to_save(
 /// `Unsynced` the file is the new pack too; after any other fault it is what it was.
 ///
 /// An old file is replaced under the lock that the pack was read under, or is locked here. It keeps its mode. A new file gets the mode of
-/// a new file, within a limit. Refusals: `InUse` if another command has the old file, `NoPack` if it isn't a pack, `Hindered` if it may
-/// not be written, was changed since the lock or has lost its name to another file, and `Stream` if it is also standard output or
-/// standard error.
+/// a new file, within a limit. What killed saves have left beside it is removed, except the packs that the command reads. Refusals: `InUse` if another command has the old file, `NoPack` if it isn't a pack, `Hindered` if it may
+/// not be written, was changed since the lock or has lost its name to another file, and `Stream` or `Talk` if it is also standard
+/// output or standard error.
 pub fn save_pack(
     rt: &HostRuntime,
     path: &str,
     locked: Option<LockedPack>,
     limit: Option<Limit>,
+    read: &[Option<&str>],
     bytes: &[u8],
 ) -> Result<(), FileFault> {
     if let Some(locked) = locked {
-        return replace(rt, locked, bytes);
+        return replace(rt, locked, read, bytes);
     }
-    match save_new_pack(rt, path, limit, bytes) {
+    match save_new_pack(rt, path, limit, read, bytes) {
         Err(FileFault::Exists) => {
             let locked = LockedPack::replaced(rt, followed(rt, path)?)?;
-            replace(rt, locked, bytes)
+            replace(rt, locked, read, bytes)
         }
         done => done,
     }
@@ -101,12 +105,13 @@ pub fn save_new_pack(
     rt: &HostRuntime,
     path: &str,
     limit: Option<Limit>,
+    read: &[Option<&str>],
     bytes: &[u8],
 ) -> Result<(), FileFault> {
-    keep_apart(rt, path)?;
+    keep_save_apart(rt, path)?;
     let place = followed(rt, path)?;
     match existing(rt, place.as_path())? {
-        None => save_first(rt, place.as_path(), limit, bytes),
+        None => save_first(rt, place.as_path(), limit, read, bytes),
         Some(old) if old.is_file() => Err(FileFault::Exists),
         Some(_) => Ok(write_in_place(rt, place.as_path(), bytes)?),
     }
@@ -122,7 +127,7 @@ pub fn prepare_save(
     if let Some(locked) = locked {
         return Ok(Some(prepared(rt, locked)?));
     }
-    keep_apart(rt, path)?;
+    keep_save_apart(rt, path)?;
     let place = followed(rt, path)?;
     match existing(rt, place.as_path())? {
         None => {

@@ -1,6 +1,6 @@
-//! How a new pack gets the name of its file, by what is found there.
+//! How a new pack gets the name of its file, by what is found there, and which files beside it are leftovers of killed saves.
 ghost use Rattle.std.specs.Prelude.{◌≡◌};
-ghost use Rattle.s3_host_files.specs.Inner.Naming.{naming_of, words_of_hindrance, can_begin_pack as can_begin_pack_spec, is_begun as is_begun_spec};
+ghost use Rattle.s3_host_files.specs.Inner.Naming.{naming_of, words_of_hindrance, can_begin_pack as can_begin_pack_spec, is_begun as is_begun_spec, is_leftover as is_leftover_spec};
 
 /// What has the name of a locked file.
 #[derive(Clone, Copy, Debug, PartialEq, Eq)]
@@ -67,6 +67,30 @@ pub fn choose_naming(
         AtName::Locked if !may_write => Err(Hindrance::Protected),
         AtName::Locked if !is_as_locked => Err(Hindrance::Changed),
         AtName::Locked => Ok(Naming::Replaces),
+    }
+}
+
+/// Who has a file that is named as the new files of saves are.
+#[derive(Clone, Copy, Debug, PartialEq, Eq)]
+pub enum Claim {
+    /// The command that saves: it reads this pack.
+    Read,
+    /// The file that is saved: a save that was killed after it had given that file its name left this second name.
+    SecondName,
+    /// A command that has locked it.
+    Locked,
+    /// Nobody.
+    Free,
+}
+
+/// Whether a file is the leftover of a killed save, given who has it, and whether it is empty or begins as a pack does.
+pub fn is_leftover(claim: Claim, begins_as_pack: bool) -> bool
+    ensures { result ≡ is_leftover_spec claim begins_as_pack }
+{
+    match claim {
+        Claim::Read | Claim::Locked => false,
+        Claim::SecondName => true,
+        Claim::Free => begins_as_pack,
     }
 }
 

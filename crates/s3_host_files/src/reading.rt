@@ -28,17 +28,22 @@ fn space_for(rt: &HostRuntime, file: &File, limit: usize) -> Result<Vec<u8>, All
 /// The first bytes of an open file, or all if there are no more than a limit.
 pub fn read_up_to(rt: &HostRuntime, file: &mut File, limit: usize) -> io::Result<Vec<u8>> {
     let mut bytes = space_for(rt, file, limit)?;
+    let mut chunk = [0; CHUNK];
     for _turn in 0..limit {
-        if read_chunk(file, &mut bytes, limit)? == 0 {
+        if read_chunk(file, &mut bytes, &mut chunk, limit)? == 0 {
             break;
         }
     }
     Ok(bytes)
 }
 
-/// Appends what one call reads of a file, up to a limit of all bytes. It returns the number of bytes.
-fn read_chunk(file: &mut File, bytes: &mut Vec<u8>, limit: usize) -> io::Result<usize> {
-    let mut chunk = [0u8; CHUNK];
+/// Appends what one call reads of a file by way of a chunk, up to a limit of all bytes. It returns the number of bytes.
+fn read_chunk(
+    file: &mut File,
+    bytes: &mut Vec<u8>,
+    chunk: &mut [u8; CHUNK],
+    limit: usize,
+) -> io::Result<usize> {
     let space = limit.saturating_sub(bytes.len()).min(CHUNK);
     let count = read_some(file, &mut chunk[..space])?;
     bytes.extend_from_slice(&chunk[..count])?;
@@ -62,6 +67,14 @@ fn read_some(file: &mut File, bytes: &mut [u8]) -> io::Result<usize>
 pub fn is_pack_at(rt: &HostRuntime, place: Path<'_>) -> bool {
     match existing(rt, place) {
         Ok(Some(found)) if found.is_file() => begins_as_pack(rt, place),
+        _ => false,
+    }
+}
+
+/// Whether an empty regular file is at a path.
+pub fn is_empty_at(rt: &HostRuntime, place: Path<'_>) -> bool {
+    match existing(rt, place) {
+        Ok(Some(found)) => found.is_file() && found.len() == 0,
         _ => false,
     }
 }

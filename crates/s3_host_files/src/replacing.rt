@@ -27,11 +27,17 @@ struct NewFile {
 }
 
 /// Replaces the file of a pack. Right before the new file gets the name, the old one is compared with what it was when it was locked:
-/// `Hindered` if it may not be replaced. If the old file has lost its name, the new one is the first of that name.
-pub fn replace(rt: &HostRuntime, locked: LockedPack, bytes: &[u8]) -> Result<(), FileFault> {
+/// `Hindered` if it may not be replaced. If the old file has lost its name, the new one is the first of that name. The packs that the
+/// command reads stay.
+pub fn replace(
+    rt: &HostRuntime,
+    locked: LockedPack,
+    read: &[Option<&str>],
+    bytes: &[u8],
+) -> Result<(), FileFault> {
     let old = locked.metadata()?;
     let folder = open_folder(rt, locked.place())?;
-    remove_leftovers(rt, locked.place(), Some(&old));
+    remove_leftovers(rt, locked.place(), Some(&old), read);
     let mut new = NewFile::beside(rt, locked.place(), PRIVATE)?;
     let naming = match new.fill_as(bytes, &old) {
         Ok(()) => locked.naming_now(rt),
@@ -56,15 +62,17 @@ pub fn test_place(rt: &HostRuntime, place: Path<'_>) -> io::Result<()> {
     fs::remove_file(rt, empty.path.as_str())
 }
 
-/// Saves a pack under a name that no file has; `Exists` if one has it by now. The pack gets the mode of a new file, within a limit.
+/// Saves a pack under a name that no file has; `Exists` if one has it by now. The pack gets the mode of a new file, within a limit. The
+/// packs that the command reads stay.
 pub fn save_first(
     rt: &HostRuntime,
     place: Path<'_>,
     limit: Option<Limit>,
+    read: &[Option<&str>],
     bytes: &[u8],
 ) -> Result<(), FileFault> {
     let folder = open_folder(rt, place)?;
-    remove_leftovers(rt, place, None);
+    remove_leftovers(rt, place, None, read);
     let usual = usual_mode(rt, place)?;
     let mut new = NewFile::beside(rt, place, PRIVATE)?;
     let naming = match new.fill_within(bytes, usual, limit) {

@@ -1,9 +1,12 @@
-//! The standard streams, if they are regular files.
+//! The standard streams: which file, pipe or terminal each of them is.
 ghost use Rattle.std.specs.Prelude.{◌≡◌};
 ghost use Rattle.s3_host_files.specs.Inner.Streams.{stream_words};
 
 use super::fault::FileFault;
-use super::places::lead_to_one_file;
+use super::places::{are_same, lead_to_one_file};
+use std::fs;
+use std::io::IsTerminal;
+use std::os::unix::fs::FileTypeExt;
 
 /// A standard stream of the program.
 #[derive(Clone, Copy, Debug, PartialEq, Eq)]
@@ -38,6 +41,15 @@ impl StandardStream {
         }
     }
 
+    /// Whether the stream is a terminal.
+    fn is_terminal(self, rt: &HostRuntime) -> bool {
+        match self {
+            StandardStream::Input => rt.stdin().is_terminal(),
+            StandardStream::Output => rt.stdout().is_terminal(),
+            StandardStream::Error => rt.stderr().is_terminal(),
+        }
+    }
+
     /// A path that the system has for what the stream is connected to.
     fn path(self) -> &'static str {
         match self {
@@ -61,6 +73,37 @@ pub fn stream_at(
         }
     }
     None
+}
+
+/// Whether a path leads to the regular file that is also standard error. Whatever a command reports would be written into it.
+pub fn is_standard_error(rt: &HostRuntime, path: &str) -> bool {
+    stream_at(rt, path, &[StandardStream::Error]).is_some()
+}
+
+/// Whether standard input and standard error are one regular file.
+pub fn is_input_standard_error(rt: &HostRuntime) -> bool {
+    is_standard_error(rt, StandardStream::Input.path())
+}
+
+/// Refuses a place for a pack that is also standard output or standard error: a file, a pipe or a terminal.
+pub fn keep_save_apart(rt: &HostRuntime, path: &str) -> Result<(), FileFault> {
+    keep_apart(rt, path)?;
+    for stream in &WRITTEN {
+        if is_talk_at(rt, path, *stream) {
+            return Err(FileFault::Talk(*stream));
+        }
+    }
+    Ok(())
+}
+
+/// Whether a path leads to the pipe or the terminal that a stream is.
+fn is_talk_at(rt: &HostRuntime, path: &str, stream: StandardStream) -> bool {
+    match (fs::metadata(rt, path), fs::metadata(rt, stream.path())) {
+        (Ok(found), Ok(other)) if are_same(&found, &other) => {
+            found.file_type().is_fifo() || stream.is_terminal(rt)
+        }
+        _ => false,
+    }
 }
 
 /// Refuses a file that is also standard output or standard error: what is printed would be written into it.

@@ -10,7 +10,7 @@ ghost use Rattle.s3_keyed.specs.Inner.Shape.{bytes_in, index_sector, entry_here}
 
 use crate::entries::sectors_before;
 use crate::indexed::IndexedFile;
-use crate::keys::Key;
+use crate::keys::{Key, few_number};
 use byteorder::{BigEndian, ByteOrder};
 use s3_files::read_bytes;
 use s3_store::{SectorFault, Sectors};
@@ -164,13 +164,27 @@ pub fn is_key_of(sector: &[u8; 256], j: usize, key_length: usize, key: &Key) -> 
     compare_entry(sector, j, key_length, key) == Ordering::Equal
 }
 
+/// How two texts of 12 to 16 bytes stand to each other: by the first eight bytes, and then by the others.
+fn compare_words(one: &[u8], other: &[u8]) -> Ordering
+    requires same { length one.now ≡ length other.now }
+    requires long { 12 ≤ length one.now }
+    requires short { length one.now ≤ 16 }
+    ensures { result ≡ nat_cmp (number_of one.now) (number_of other.now) }
+{
+    let head = BigEndian::read_u64(one).cmp(&BigEndian::read_u64(other));
+    head.then(few_number(&one[8..]).cmp(&few_number(&other[8..])))
+}
+
 /// How the first `count` bytes of one text stand to those of another.
 fn compare_first(one: &[u8], other: &[u8], count: usize) -> Ordering
     requires one { count ≤ length one.now }
     requires other { count ≤ length other.now }
     ensures { result ≡ nat_cmp (number_of (take count one.now)) (number_of (take count other.now)) }
 {
-    one[..count].cmp(&other[..count])
+    match count {
+        12..=16 => compare_words(&one[..count], &other[..count]),
+        _ => one[..count].cmp(&other[..count]),
+    }
 }
 
 /// Whether two texts begin with the same `count` bytes.

@@ -73,19 +73,28 @@ impl Key {
     }
 }
 
-/// The number whose bytes are these, where they are four to eight: it is put together of the first four and the last four.
+/// The number whose bytes are these, four to eight: it is put together of the first four and the last four.
+pub fn few_number(key: &[u8]) -> u64
+    requires some { 4 ≤ length key.now }
+    requires few { length key.now ≤ 8 }
+    ensures { result ≡ number_of key.now }
+{
+    let length = key.len();
+    let first = u64::from(BigEndian::read_u32(key));
+    let last = u64::from(BigEndian::read_u32(&key[length - 4..]));
+    (first >> (8 * (8 - length)) << 32) + last
+}
+
+/// The number whose bytes are these, where they are four to eight.
 pub fn short_number_of(key: &[u8]) -> Option<u64>
     ensures number { IfSome result (λ number. number ≡ number_of key.now) }
     ensures long { IfSome result (λ _. 4 ≤ length key.now) }
     ensures short { IfSome result (λ _. length key.now ≤ 8) }
 {
-    let length = key.len();
-    if !(4..=8).contains(&length) {
-        return None;
+    match key.len() {
+        4..=8 => Some(few_number(key)),
+        _ => None,
     }
-    let first = u64::from(BigEndian::read_u32(key));
-    let last = u64::from(BigEndian::read_u32(&key[length - 4..]));
-    Some((first >> (8 * (8 - length)) << 32) + last)
 }
 
 /// Whether two texts of one length have the same bytes.

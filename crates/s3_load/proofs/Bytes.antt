@@ -12,7 +12,6 @@ use Rattle.s3_cards.specs.Codes.{code_page, ebcdic}
 use Rattle.s3_cards.specs.declared.ebcdic.TheConstants.{BLANK, DIGIT_0}
 use Rattle.s3_decimal.specs.Records.{low_half, packed_bytes, zone_at, zoned_bytes}
 use Rattle.s3_store.specs.Bytes.{part}
-use Rattle.s3_store.specs.Inner.Bytes.{with_part}
 use Rattle.s3_keyed.specs.KeyOrder.{number_of}
 use Rattle.s3_cells.specs.Inner.Fields.{field_bytes, zeroed}
 use Rattle.s3_cells.specs.Inner.Values.{Value, bytes_of, Number, Characters, zeroed_bytes}
@@ -29,7 +28,7 @@ use Rattle.s3_meaning.specs.Selection.{zone_of}
 use Rattle.s3_record_types.specs.Inner.Chosen.{codes_of}
 use Rattle.s3_record_types.specs.Inner.Codes.{merged, byte_with, with_code, with_codes}
 use Rattle.s3_record_types.specs.declared.chosen.ChosenRecords.{ChosenRecords}
-use Rattle.s3_load.specs.Inner.Columns.{has_byte, is_inside, is_number}
+use Rattle.s3_load.specs.Inner.Columns.{has_byte, is_inside}
 use Rattle.s3_load.specs.Inner.Records.{IsRecordOf, empty_record, with_zeros}
 
 unfoldable pub AreBytes : List ℕ → Type 0

@@ -1,17 +1,15 @@
 -- Columns that are named one after another.
-use Rattle.std.proofs.Common.{◌≡◌, ℕ, ◌+◌, ◌-◌, ◌<◌, ◌≤◌, refl, arith, sym, ◌∙◌, ap, ap₂, subst, Bool, true, false, ◌||◌, ◌&&◌, not, cond, suc, zero, List, [], ◌∷◌, ◌++◌, length, take, get_or, inl, inr}
+use Rattle.std.proofs.Common.{◌≡◌, ℕ, ◌+◌, ◌<◌, refl, arith, sym, ◌∙◌, ap, ap₂, subst, Bool, true, false, ◌&&◌, not, List, [], ◌∷◌, length, take, get_or, inl, inr}
 use Rattle.std.specs.Prelude.{Some, None}
 use Rattle.csv.specs.Records.{field_at}
 use Rattle.csv.proofs.RecordFacts.{field-get, field-there}
-use Rattle.std.specs.List.{list_all, list_any, range_with_len}
+use Rattle.std.specs.List.{list_all, list_any}
 use Rattle.std.proofs.lemmas.List.{get_or-take, get_or_append_left, get_or_default, get_or_push, length-append, length-take-le}
-use Rattle.std.proofs.lemmas.List.Elements.{filter_more}
-use Rattle.std.proofs.lemmas.List.Folds.{list_all_more, list_any_at, list_any_more}
+use Rattle.std.proofs.lemmas.List.Folds.{list_all_more, list_any_at}
 use Rattle.std.proofs.lemmas.Bool.{cases_Bool, cases_eq}
-use Rattle.std.proofs.Math.Bool.{and-true}
 use Rattle.s3_cells.specs.declared.field.Field.{Field}
 use Rattle.s3_unload.specs.Inner.Tables.{name_text}
-use Rattle.s3_load.specs.Inner.Columns.{AddsColumn, AreNamed, IsNamed, LieApart, bare, is_clear, is_covered, is_inside, is_number, left_out, overlap}
+use Rattle.s3_load.specs.Inner.Columns.{AddsColumn, AreNamed, IsNamed, LieApart, bare, is_clear, is_number, overlap}
 
 pub none_told : {X : Type 0} (xs : List X) (P : Type 0) → 0 < length xs → xs ≡ [] → P
 none_told xs P some none = absurd (omega (arith, some, ap length none))
@@ -51,12 +49,6 @@ one_more_named fields cells i old new before adds =
       ];
     }
 
--- ---- fields that lie over each other
-pub one_more_beside : (others : List Field) (field : Field) (i : ℕ) (o : Field) → i < length others → o ≡ get_or others i o → list_any (λ other. overlap other field) (take i others) ≡ false → overlap o field ≡ false
-    → list_any (λ other. overlap other field) (take (i + 1) others) ≡ false
-one_more_beside others field i o h is before one =
-    list_any_more (λ other. overlap other field) others i o h ∙ ap₂ (λ a b. a || b) before (sym (ap (λ other. overlap other field) is) ∙ one)
-
 -- ---- numbers that can be 0
 pub clear_text : (columns : List Field) (field : Field) → is_number field.kind ≡ false → is_clear columns field ≡ true
 clear_text columns field h = ap (λ b. not (b && list_any (λ other. overlap other field) columns)) h
@@ -95,47 +87,3 @@ one_more_apart columns n f h is before one i j d low high = elim (cases_eq j n) 
 
 pub all_apart : (columns : List Field) → ApartBelow columns (length columns) → LieApart columns
 all_apart columns h = h
-
--- ---- fields that are left out
-pub one_more_left_out : (columns fields : List Field) (i : ℕ) (f : Field) → i < length fields → f ≡ get_or fields i f
-    → left_out columns (take (i + 1) fields) ≡ left_out columns (take i fields) ++ cond (not (is_covered columns f)) (f ∷ []) []
-one_more_left_out columns fields i f h is =
-    filter_more (λ field. not (is_covered columns field)) fields i f h
-    ∙ ap (λ (g : Field). left_out columns (take i fields) ++ cond (not (is_covered columns g)) (g ∷ []) []) (sym is)
-
--- ---- bytes that are inside
-all_more : (p : ℕ → Bool) (a n : ℕ) → list_all p (range_with_len a (suc n)) ≡ (list_all p (range_with_len a n) && p (a + n))
-all_more p a zero = let at : a + 0 ≡ a = omega arith in and-true (p a) ∙ ap p (sym at)
-all_more p a (suc n) =
-    let at : a + 1 + n ≡ a + suc n = omega arith in
-    ap (λ b. p a && b) (all_more p (a + 1) n ∙ ap (λ i. list_all p (range_with_len (a + 1) n) && p i) at)
-    ∙ elim (p a) as (λ b. (b && (list_all p (range_with_len (a + 1) n) && p (a + suc n))) ≡ ((b && list_all p (range_with_len (a + 1) n)) && p (a + suc n))) [ true ↦ refl | false ↦ refl ]
-
--- the first so many bytes of a field are inside
-abbrev pub InsideBelow : List Field → (start stop : ℕ) → Type 0
-InsideBelow columns start stop = (start ≤ stop) × (list_all (is_inside columns) (range_with_len start (stop - start)) ≡ true)
-
-pub none_inside : (columns : List Field) (start : ℕ) → InsideBelow columns start start
-none_inside columns start = let none : start - start ≡ 0 = omega arith in (omega arith, ap (λ n. list_all (is_inside columns) (range_with_len start n)) none)
-
-pub one_more_inside : (columns : List Field) (start place : ℕ) → InsideBelow columns start place → is_inside columns place ≡ true → InsideBelow columns start (place + 1)
-one_more_inside columns start place before one =
-    let low = before.0 in
-    let more : place + 1 - start ≡ suc (place - start) = omega arith in
-    let at : start + (place - start) ≡ place = omega arith in
-    (omega arith, ap (λ n. list_all (is_inside columns) (range_with_len start n)) more ∙ all_more (is_inside columns) start (place - start) ∙ ap₂ (λ a b. a && b) before.1 (ap (is_inside columns) at ∙ one))
-
-pub all_inside : (columns : List Field) (field : Field) (stop : ℕ) → stop ≡ field.start + field.width → InsideBelow columns field.start stop → is_covered columns field ≡ true
-all_inside columns field stop at inside =
-    let wide : stop - field.start ≡ field.width = omega arith in
-    ap (λ n. list_all (is_inside columns) (range_with_len field.start n)) (sym wide) ∙ inside.1
-
-all_fails : (p : ℕ → Bool) (a n i : ℕ) → a ≤ i → i < a + n → p i ≡ false → list_all p (range_with_len a n) ≡ false
-all_fails p a zero i low high fails = absurd (omega arith)
-all_fails p a (suc n) i low high fails = elim (cases_eq i a) [
-  | inl here ↦ ap (λ b. b && list_all p (range_with_len (a + 1) n)) (ap p (sym here) ∙ fails)
-  | inr more ↦ ap (λ b. p a && b) (all_fails p (a + 1) n i (omega arith) (omega arith) fails) ∙ elim (p a) as (λ b. (b && false) ≡ false) [ true ↦ refl | false ↦ refl ]
-]
-
-pub one_outside : (columns : List Field) (field : Field) (place : ℕ) → field.start ≤ place → place < field.start + field.width → is_inside columns place ≡ false → is_covered columns field ≡ false
-one_outside columns field place low high fails = all_fails (is_inside columns) field.start field.width place low high fails

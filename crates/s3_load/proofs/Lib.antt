@@ -13,5 +13,6 @@ pub mod KeyOrders
 pub mod KeyedAlike
 pub mod LoadedFiles
 pub mod Marks
+pub mod OwnerLemmas
 pub mod ReadAgain
 pub mod QuoteLemmas

@@ -1,30 +1,21 @@
 -- Records that get the values of cells, one after another.
-use Rattle.std.proofs.Common.{◌≡◌, ℕ, ◌+◌, ◌-◌, ◌*◌, ◌^◌, ◌<◌, ◌≤◌, ◌⊎◌, refl, arith, sym, ◌∙◌, ap, ap₂, subst, Bool, true, false, ◌||◌, ◌&&◌, cond, not, suc, zero, nat_le, nat_lt, List, [], ◌∷◌, length, take, get_or, replicate, inl, inr}
-use Rattle.std.specs.Prelude.{pos, Some, Result, Ok, Err, OnOk, OnErr}
-use Rattle.std.specs.Option.{option_map}
+use Rattle.std.proofs.Common.{◌≡◌, ℕ, ◌+◌, ◌-◌, ◌<◌, ◌≤◌, ◌⊎◌, refl, arith, sym, ◌∙◌, ap, ap₂, subst, Bool, true, false, ◌||◌, ◌&&◌, not, suc, zero, nat_le, nat_lt, List, [], length, take, get_or, inl, inr}
 use Rattle.std.specs.List.{All}
-use Rattle.std.proofs.Math.Nat.{zero-mul, zero-add}
 use Rattle.std.proofs.lemmas.List.{get_or-drop, get_or-take, get_or_default, take_all}
 use Rattle.std.proofs.lemmas.List.Elements.{All-contains, All-filter, All-get_or}
 use Rattle.std.proofs.lemmas.List.Folds.{list_any_more}
 use Rattle.std.proofs.lemmas.List.Sums.{fold_more}
-use Rattle.std.proofs.lemmas.Bool.{cases_Bool, cases_eq, le-leb, lt-ltb, ltb-false, leb-false}
-use Rattle.s3_decimal.proofs.Powers.{ten_pos}
-use Rattle.s3_decimal.specs.Records.{number_of}
+use Rattle.std.proofs.lemmas.Bool.{cases_Bool, cases_eq, ltb-false, leb-false}
 use Rattle.s3_store.specs.Bytes.{part}
 use Rattle.s3_store.specs.Inner.Bytes.{SameOutside, with_part}
 use Rattle.s3_store.proofs.SectorParts.{length-with_part, outside-with_part, part-with_part}
 use Rattle.s3_files.proofs.PartLemmas.{part-after, part-before}
 use Rattle.s3_cells.specs.Inner.Fields.{LiesIn, Takes, field_bytes, zeroed}
-use Rattle.s3_cells.specs.Inner.Numbers.{magnitude_read, number_read}
 use Rattle.s3_cells.specs.Inner.Values.{GetsValue}
-use Rattle.s3_cells.specs.declared.fault.CellFault.{CellFault}
 use Rattle.s3_cells.specs.declared.field.Field.{Field}
-use Rattle.s3_cells.specs.declared.kind.FieldKind.{FieldKind}
-use Rattle.s3_cells.specs.declared.kind.FieldKind.TheVariants.{Text as TextKind, Zoned, Packed}
 use Rattle.s3_record_types.specs.Inner.Chosen.{is_chosen}
 use Rattle.s3_record_types.specs.declared.chosen.ChosenRecords.{ChosenRecords}
-use Rattle.s3_load.specs.Inner.Columns.{AreNamed, LieApart, has_byte, is_covered, is_inside, is_number, left_out, overlap}
+use Rattle.s3_load.specs.Inner.Columns.{AreNamed, LieApart, has_byte, is_covered, is_inside, left_out, overlap}
 use Rattle.s3_load.specs.Inner.Records.{HasTaken, IsRecordOf, empty_record, with_zeros}
 
 pub field_lies : (fields : List Field) (n i : ℕ) (f : Field) → All (LiesIn n) fields → i < length fields → f ≡ get_or fields i f → LiesIn n f

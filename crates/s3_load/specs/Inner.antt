@@ -1,5 +1,6 @@
 -- What the contracts of a run and of a session don't reach: words of inner functions, of proofs and of other calls.
 pub mod Columns
+pub mod Owners
 pub mod Records
 pub mod Filling
 pub mod KeyOrder

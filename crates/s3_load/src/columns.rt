@@ -1,15 +1,19 @@
 //! The columns of a table, by its heading.
-ghost use Rattle.std.specs.Prelude.{◌≡◌, ◌<◌, ◌≤◌, ◌⊎◌, ◌↔◌, [], true, false, drop, length, map, get_or, OnOk, IfNone, IfOk, IfSome, IsTrue};
-ghost use Rattle.std.specs.List.{list_all, list_any, prefix_len};
+ghost use Rattle.std.specs.Prelude.{◌≡◌, ◌<◌, ◌≤◌, ◌⊎◌, ◌↔◌, [], true, drop, length, map, get_or, OnOk, IfOk, IsTrue};
+ghost use Rattle.std.specs.List.{All, Contains, list_all, prefix_len};
 ghost use Rattle.csv.specs.Records.{fields_of};
 ghost use Rattle.s3_cards.specs.Codes.{shown_byte};
 ghost use Rattle.s3_unload.specs.Inner.Tables.{name_text};
-ghost use Rattle.s3_load.specs.Inner.Columns.{AddsColumn, AreNamed, IsHeading, IsNamed, LieApart, bare as bare_spec, has_byte as has_byte_spec, is_blank, is_clear, is_covered as is_covered_spec, is_inside as is_inside_spec, is_number as is_number_spec, left_out, overlap};
+ghost use Rattle.s3_cells.specs.Inner.Fields.{LiesIn};
+ghost use Rattle.s3_load.specs.Inner.Columns.{AddsColumn, AreNamed, IsHeading, LieApart, bare as bare_spec, has_byte as has_byte_spec, is_blank, is_clear, is_number as is_number_spec};
+ghost use Rattle.s3_load.specs.Inner.Owners.{AreOwners, IsFree, unowned};
 
 use crate::fault::{HeadingFault, LoadFault};
+use crate::names::FieldNames;
+use crate::owners::{first_owner, is_owned_whole, own};
 use csv::ByteRecord;
 use s3_cards::{Name, host_byte, word_len};
-use s3_cells::{DateField, Field, FieldKind, trimmed};
+use s3_cells::{DateField, Field, FieldKind, Layout, trimmed};
 use std::alloc::{AllocError, Global};
 
 /// The field of each column, and the fields that no column has and that get a blank or 0.
@@ -21,20 +25,22 @@ pub struct Columns {
     pub filled: Vec<Field>,
 }
 
-/// The columns that a heading names. Refused with all that is wrong with it.
+/// The columns that a heading names. Refused with all that is wrong with it. The time that it takes grows with the number of fields and
+/// of their bytes.
+#[tactic(auto, using(crate::proofs::OwnerLemmas::named_within, crate::proofs::OwnerLemmas::missing_within, crate::proofs::OwnerLemmas::unowned_left))]
 pub fn read_columns(
     alloc: Global,
     heading: &ByteRecord,
-    fields: &[Field],
+    layout: &Layout,
     fills: bool,
 ) -> Result<Columns, LoadFault>
-    ensures { IfOk result (IsHeading fields.now fills (fields_of heading.now)) }
+    ensures { IfOk result (IsHeading layout.now.fields.items fills (fields_of heading.now)) }
 {
     let mut faults = Vec::new(alloc);
-    let named = named_fields(alloc, heading, fields, &mut faults)?;
-    find_overlaps(&named, &mut faults)?;
-    let missing = missing_fields(alloc, fields, &named)?;
-    tell_missing(&missing, &named, fills, &mut faults)?;
+    let named = named_fields(alloc, heading, &layout.fields, &mut faults)?;
+    let owners = find_overlaps(alloc, layout.record_length, &named, &mut faults)?;
+    let missing = missing_fields(alloc, &layout.fields, &owners)?;
+    tell_missing(&missing, &named, &owners, fills, &mut faults)?;
     if faults.is_empty() {
         Ok(Columns {
             fields: named,
@@ -54,12 +60,14 @@ fn named_fields(
     faults: &mut Vec<HeadingFault>,
 ) -> Result<Vec<Field>, AllocError>
     ensures named { IfOk result (λ named. faults.new.items ≡ [] → AreNamed fields.now (fields_of heading.now) (length (fields_of heading.now)) named.items) }
+    ensures among { IfOk result (λ named. All (Contains fields.now) named.items) }
     ensures before { OnOk result (faults.new.items ≡ [] → faults.old.items ≡ []) }
 {
+    let mut names = FieldNames::of(alloc, fields)?;
     let mut named: Vec<Field> = Vec::new(alloc);
     for column in 0..heading.len() {
         let cell = bare(cell_at(heading, column));
-        name_column(alloc, fields, column, cell, &mut named, faults)?;
+        name_column(alloc, fields, &mut names, column, cell, &mut named, faults)?;
     }
     Ok(named)
 }
@@ -73,19 +81,22 @@ fn tell(faults: &mut Vec<HeadingFault>, fault: HeadingFault) -> Result<(), Alloc
 }
 
 /// Adds the field that a cell of a heading names, or that it names none, or one for the second time.
-#[tactic(auto, using(crate::proofs::ColumnLemmas::none_told))]
+#[tactic(auto, using(crate::proofs::ColumnLemmas::none_told, crate::proofs::OwnerLemmas::one_more_among))]
 fn name_column(
     alloc: Global,
     fields: &[Field],
+    names: &mut FieldNames,
     column: usize,
     cell: &[u8],
     named: &mut Vec<Field>,
     faults: &mut Vec<HeadingFault>,
 ) -> Result<(), AllocError>
+    requires { All (Contains fields.now) named.old.items }
     ensures named { OnOk result (faults.new.items ≡ [] → AddsColumn fields.now cell.now named.old.items named.new.items) }
+    ensures among { OnOk result (All (Contains fields.now) named.new.items) }
     ensures before { OnOk result (faults.new.items ≡ [] → faults.old.items ≡ []) }
 {
-    match field_named(fields, cell) {
+    match names.field_of(fields, cell) {
         None => {
             let text = Vec::from_slice(alloc, cell)?;
             tell(
@@ -93,10 +104,13 @@ fn name_column(
                 HeadingFault::Unknown(column.saturating_add(1), text),
             )?;
         }
-        Some(field) if has_name(named, field.name) => {
+        Some(field) if names.is_taken(field.name) => {
             tell(faults, HeadingFault::Twice(field.name))?;
         }
-        Some(field) => named.push(field)?,
+        Some(field) => {
+            names.take(field.name);
+            named.push(field)?;
+        }
     }
     Ok(())
 }
@@ -140,26 +154,8 @@ fn blanks_in_front(cell: &[u8]) -> usize
     cell.len()
 }
 
-/// The field of a name, if there is one.
-#[tactic(auto, using(crate::proofs::ColumnLemmas::is_one_of))]
-fn field_named(fields: &[Field], text: &[u8]) -> Option<Field>
-    ensures { IfSome result (IsNamed fields.now text.now) }
-{
-    for field in fields {
-        if is_name_of(text, field.name) {
-            return Some(*field);
-        }
-    }
-    None
-}
-
-/// Whether one of these fields has the name.
-fn has_name(fields: &[Field], name: Name) -> bool {
-    fields.iter().any(|field| field.name == name)
-}
-
 /// Whether a text says a name.
-fn is_name_of(text: &[u8], name: Name) -> bool
+pub fn is_name_of(text: &[u8], name: Name) -> bool
     ensures { IsTrue result ↔ (name_text name ≡ text.now) }
 {
     are_characters_of(text, &name.codes[..word_len(&name.codes)])
@@ -180,88 +176,112 @@ fn are_characters_of(text: &[u8], codes: &[u8]) -> bool
     true
 }
 
-/// Tells of each two fields that are named and lie over each other.
-#[tactic(auto, using(crate::proofs::ColumnLemmas::none_apart, crate::proofs::ColumnLemmas::one_more_apart, crate::proofs::ColumnLemmas::all_apart))]
-fn find_overlaps(named: &[Field], faults: &mut Vec<HeadingFault>) -> Result<(), AllocError>
+/// Reports each field that is named and lies over one that is named before. Returns which of the fields has each byte of a record:
+/// the number, from 1, of the first that has it; 0 if none has.
+#[tactic(auto, using(crate::proofs::OwnerLemmas::none_owned))]
+fn find_overlaps(
+    alloc: Global,
+    record_length: u16,
+    named: &[Field],
+    faults: &mut Vec<HeadingFault>,
+) -> Result<Vec<usize>, AllocError>
+    requires { All (LiesIn record_length) named.now }
     ensures apart { OnOk result (faults.new.items ≡ [] → LieApart named.now) }
+    ensures owners { IfOk result (λ owners. AreOwners named.now owners.items) }
+    ensures long { IfOk result (λ owners. length owners.items ≡ record_length) }
+    ensures before { OnOk result (faults.new.items ≡ [] → faults.old.items ≡ []) }
+{
+    let mut owners = vec![in alloc; 0usize; usize::from(record_length)]?;
+    own_in_order(named, &mut owners, faults)?;
+    Ok(owners)
+}
+
+/// Gives the fields that are named their bytes, in their order, and reports each that lies over one before it.
+#[tactic(auto, using(crate::proofs::ColumnLemmas::none_apart, crate::proofs::ColumnLemmas::all_apart, crate::proofs::RecordLemmas::field_lies, crate::proofs::OwnerLemmas::all_owned))]
+fn own_in_order(
+    named: &[Field],
+    owners: &mut [usize],
+    faults: &mut Vec<HeadingFault>,
+) -> Result<(), AllocError>
+    requires within { All (LiesIn (length owners.old)) named.now }
+    requires free { AreOwners [] owners.old }
+    ensures apart { OnOk result (faults.new.items ≡ [] → LieApart named.now) }
+    ensures owners { OnOk result (AreOwners named.now owners.new) }
     ensures before { OnOk result (faults.new.items ≡ [] → faults.old.items ≡ []) }
 {
     for (place, field) in named.iter().enumerate() {
-        tell_overlaps(field, &named[..place], faults)?;
+        tell_overlap(field, named, owners, faults)?;
+        own(field, place + 1, owners);
     }
     Ok(())
 }
 
-/// Tells of the first of some fields that lies over this one.
+/// Reports the first of the fields that have a byte of this one.
 #[tactic(auto, using(crate::proofs::ColumnLemmas::none_told))]
-fn tell_overlaps(
+fn tell_overlap(
     field: &Field,
-    others: &[Field],
+    named: &[Field],
+    owners: &[usize],
     faults: &mut Vec<HeadingFault>,
 ) -> Result<(), AllocError>
-    ensures beside { OnOk result (faults.new.items ≡ [] → list_any (λ other. overlap other field.now) others.now ≡ false) }
+    requires { LiesIn (length owners.now) field.now }
+    ensures free { OnOk result (faults.new.items ≡ [] → IsFree owners.now field.now) }
     ensures before { OnOk result (faults.new.items ≡ [] → faults.old.items ≡ []) }
 {
-    match first_over(field, others) {
-        Some(other) => tell(faults, HeadingFault::Overlap(other.name, field.name)),
-        None => Ok(()),
+    match first_owner(field, owners) {
+        0 => Ok(()),
+        number => tell(
+            faults,
+            HeadingFault::Overlap(name_at(named, number, field.name), field.name),
+        ),
     }
 }
 
-/// The first of some fields that lies over this one.
-#[tactic(auto, using(crate::proofs::ColumnLemmas::one_more_beside))]
-fn first_over(field: &Field, others: &[Field]) -> Option<Field>
-    ensures { IfNone result (list_any (λ other. overlap other field.now) others.now ≡ false) }
-{
-    for other in others {
-        if do_overlap(other, field) {
-            return Some(*other);
-        }
+/// The name of the field with this number, from 1; another name where there is none.
+fn name_at(named: &[Field], number: usize, other: Name) -> Name {
+    match named.get(number.saturating_sub(1)) {
+        Some(field) => field.name,
+        None => other,
     }
-    None
 }
 
-/// Whether two fields have a byte in common.
-fn do_overlap(one: &Field, other: &Field) -> bool
-    ensures { result ≡ overlap one.now other.now }
-{
-    u32::from(one.start) < u32::from(other.start) + u32::from(other.width)
-        && u32::from(other.start) < u32::from(one.start) + u32::from(one.width)
-}
-
-/// The fields that aren't covered by those that are named.
-#[tactic(auto, using(crate::proofs::ColumnLemmas::one_more_left_out))]
+/// The fields not all of whose bytes have an owner.
+#[tactic(auto, using(crate::proofs::OwnerLemmas::one_more_unowned))]
 fn missing_fields(
     alloc: Global,
     fields: &[Field],
-    named: &[Field],
+    owners: &[usize],
 ) -> Result<Vec<Field>, AllocError>
-    ensures { IfOk result (λ missing. missing.items ≡ left_out named.now fields.now) }
+    requires { All (LiesIn (length owners.now)) fields.now }
+    ensures { IfOk result (λ missing. missing.items ≡ unowned owners.now fields.now) }
 {
     let mut missing = Vec::new(alloc);
     for field in fields {
-        if !is_covered(field, named) {
+        if !is_owned_whole(field, owners) {
             missing.push(*field)?;
         }
     }
     Ok(missing)
 }
 
-/// Tells of the fields that are missing; where they are to be filled, of the numbers among them that lie partly under a field that
+/// Reports the fields that are missing; where they are to be filled, the numbers among them that lie partly under a field that
 /// is named, and so can't be 0.
 #[tactic(auto, using(crate::proofs::ColumnLemmas::none_told, crate::proofs::ColumnLemmas::all_of_none))]
 fn tell_missing(
     missing: &[Field],
     named: &[Field],
+    owners: &[usize],
     fills: bool,
     faults: &mut Vec<HeadingFault>,
 ) -> Result<(), AllocError>
+    requires within { All (LiesIn (length owners.now)) missing.now }
+    requires owners { AreOwners named.now owners.now }
     ensures allowed { OnOk result (faults.new.items ≡ [] → (fills ≡ true) ⊎ (missing.now ≡ [])) }
     ensures clear { OnOk result (faults.new.items ≡ [] → list_all (is_clear named.now) missing.now ≡ true) }
     ensures before { OnOk result (faults.new.items ≡ [] → faults.old.items ≡ []) }
 {
     if fills {
-        tell_all_under(missing, named, faults)?;
+        tell_all_under(missing, named, owners, faults)?;
         return Ok(());
     }
     for field in missing {
@@ -270,38 +290,47 @@ fn tell_missing(
     Ok(())
 }
 
-/// Tells of the numbers among some fields that lie under ones that are named.
-#[tactic(auto, using(crate::proofs::ColumnLemmas::one_more_clear))]
+/// Reports the numbers among some fields that lie under ones that are named.
+#[tactic(auto, using(crate::proofs::ColumnLemmas::one_more_clear, crate::proofs::RecordLemmas::field_lies))]
 fn tell_all_under(
     missing: &[Field],
     named: &[Field],
+    owners: &[usize],
     faults: &mut Vec<HeadingFault>,
 ) -> Result<(), AllocError>
+    requires within { All (LiesIn (length owners.now)) missing.now }
+    requires owners { AreOwners named.now owners.now }
     ensures clear { OnOk result (faults.new.items ≡ [] → list_all (is_clear named.now) missing.now ≡ true) }
     ensures before { OnOk result (faults.new.items ≡ [] → faults.old.items ≡ []) }
 {
     for field in missing {
-        tell_under(field, named, faults)?;
+        tell_under(field, named, owners, faults)?;
     }
     Ok(())
 }
 
-/// Tells of a field that is a number and lies under one that is named.
-#[tactic(auto, using(crate::proofs::ColumnLemmas::none_told, crate::proofs::ColumnLemmas::clear_text, crate::proofs::ColumnLemmas::clear_number))]
+/// Reports a field that is a number and lies under one that is named.
+#[tactic(auto, using(crate::proofs::ColumnLemmas::none_told, crate::proofs::ColumnLemmas::clear_text, crate::proofs::OwnerLemmas::clear_free))]
 fn tell_under(
     field: &Field,
     named: &[Field],
+    owners: &[usize],
     faults: &mut Vec<HeadingFault>,
 ) -> Result<(), AllocError>
+    requires within { LiesIn (length owners.now) field.now }
+    requires owners { AreOwners named.now owners.now }
     ensures clear { OnOk result (faults.new.items ≡ [] → is_clear named.now field.now ≡ true) }
     ensures before { OnOk result (faults.new.items ≡ [] → faults.old.items ≡ []) }
 {
     if !is_number(field.kind) {
         return Ok(());
     }
-    match first_over(field, named) {
-        Some(other) => tell(faults, HeadingFault::Under(field.name, other.name)),
-        None => Ok(()),
+    match first_owner(field, owners) {
+        0 => Ok(()),
+        number => tell(
+            faults,
+            HeadingFault::Under(field.name, name_at(named, number, field.name)),
+        ),
     }
 }
 
@@ -313,27 +342,6 @@ fn is_number(kind: FieldKind) -> bool
         FieldKind::Text(_) | FieldKind::Date(DateField::Text) => false,
         FieldKind::Zoned(..) | FieldKind::Packed(..) | FieldKind::Date(DateField::Number) => true,
     }
-}
-
-/// Whether each byte of a field is one of some others.
-#[tactic(auto, using(crate::proofs::ColumnLemmas::none_inside, crate::proofs::ColumnLemmas::one_more_inside, crate::proofs::ColumnLemmas::all_inside, crate::proofs::ColumnLemmas::one_outside))]
-fn is_covered(field: &Field, others: &[Field]) -> bool
-    ensures { result ≡ is_covered_spec others.now field.now }
-{
-    let start = u32::from(field.start);
-    for place in start..start + u32::from(field.width) {
-        if !is_inside(others, place) {
-            return false;
-        }
-    }
-    true
-}
-
-/// Whether a byte is one of these fields.
-fn is_inside(fields: &[Field], place: u32) -> bool
-    ensures { result ≡ is_inside_spec fields.now place }
-{
-    fields.iter().any(|field| has_byte(field, place))
 }
 
 /// Whether a byte of a record is one of a field.

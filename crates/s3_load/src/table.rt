@@ -40,7 +40,7 @@ pub fn read_table<R: Read + Drop>(
     if !next_row(&mut table, &mut cells)? {
         return Err(LoadFault::NoHeading);
     }
-    let columns = read_columns(alloc, &cells, &order.layout.fields, order.fills)?;
+    let columns = read_columns(alloc, &cells, order.layout, order.fills)?;
     let mut faults = Faults::new(alloc);
     let mut lines = Lines::new(text);
     let mut rows = read_rows(alloc, order, &columns, &mut table, &mut lines, &mut faults)?;

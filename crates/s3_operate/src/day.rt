@@ -1,11 +1,13 @@
 //! A day, from its first turn to what is told at its end.
 
 use crate::pages::{Making, write_paper};
-use crate::saving::{end_day, end_unwritten};
+use crate::saving::{Place, end_day, end_unwritten};
 use crate::streams::Stream;
 use s3_cli::{CliFault, SessionFault};
 use s3_command_line::{FILE, OUT_OF_MEMORY};
-use s3_day_files::{DayFault, KeptOutputs, Order, Output, Outputs, Watch, remove_made, write_deck};
+use s3_day_files::{
+    DayFault, DayJournal, KeptOutputs, Order, Output, Outputs, Watch, remove_made, write_deck,
+};
 use s3_day_log::{Begun, DayLog};
 use s3_desk::{Day, operate_day};
 use s3_host_files::StandardOutput;
@@ -80,6 +82,7 @@ pub fn operate_prepared<'n, 'a>(
     pack: Vec<u8>,
     day: Prepared<'a>,
     outputs: Outputs<'n>,
+    journal: Option<DayJournal<'n>>,
 ) -> Result<u8, DayFault<'n>> {
     let Outputs {
         script,
@@ -90,6 +93,7 @@ pub fn operate_prepared<'n, 'a>(
         kept,
         made,
     } = outputs;
+    let place = Place { locked, journal };
     let texts = Texts {
         one: day.one.text(),
         two: day.two.text(),
@@ -105,7 +109,7 @@ pub fn operate_prepared<'n, 'a>(
                 Err(fault) => Err(fault),
             };
             match written {
-                Ok(()) => end_day(rt, order, &mut desk, &kept, &over, locked),
+                Ok(()) => end_day(rt, order, &mut desk, &kept, &over, place),
                 Err(fault) => Err(end_unwritten(rt, order, &mut desk, &kept, fault)),
             }
         }
@@ -232,7 +236,7 @@ fn write_reports<'n>(
     test_outputs(order, desk)?;
     if desk.reports_to().has_lost_reader() {
         desk.tell(
-            "what reads standard output has ended before the reports did; all else is done as asked\n",
+            "the reader of standard output ended before the reports did; everything else was done\n",
         );
     } else if !is_written {
         report_output_failure(rt, desk.reports_to().failure());

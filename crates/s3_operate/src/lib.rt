@@ -21,16 +21,17 @@ use day::{Prepared, operate_prepared};
 use inherited_words::words_again;
 use s3_cards::LevelId;
 use s3_cli::{CliFault, RunFault, SessionFault};
-use s3_command_line::{OUT_OF_MEMORY, command};
+use s3_command_line::{OUT_OF_MEMORY, command, names_standard_error};
 use s3_day_files::{
-    Again, DayFault, DayPack, Decks, Order, Outputs, list_jobs, names, read_log, read_rules,
-    test_outputs, test_same,
+    Again, Begin, DayFault, DayJournal, DayPack, Decks, Given, Order, Outputs, begin_day,
+    list_jobs, names, read_log, read_rules, rules_text, test_decks, test_journal, test_outputs,
+    test_same,
 };
 use s3_day_log::DayLog;
 use s3_labels::{Pack, Refusal, Refused};
 use s3_operating::Seat;
-use s3_paper_commands::status::{DONE, PASSED_OVER, PERSON_NEEDED};
-use s3_refusals::{Shown, holder_of, pack_words};
+use s3_paper_commands::status::{DONE, FILE_FAILED, PASSED_OVER, PERSON_NEEDED};
+use s3_refusals::{Shown, beginning_words, holder_of, pack_words};
 use s3_replies::Rules;
 use s3_store::MemoryStore;
 use std::io::Write;
@@ -103,6 +104,8 @@ fn operate_parsed<'a>(
     ensures { result ≤ 5 }
 {
     match parsed.subcommand() {
+        // what is reported would get into that file
+        Some((_operate, matches)) if names_standard_error(rt, "operate", matches) => FILE_FAILED,
         Some((_operate, matches)) => {
             let words = whole.get(2..).unwrap_or(&[]);
             let again = Again { path, log };
@@ -124,7 +127,7 @@ fn refuse_log(rt: &HostRuntime, path: &str) -> u8
 {
     let _ = writeln!(
         rt.stderr(),
-        "{}: line 1 has words that this program doesn't take; use the program that wrote the log",
+        "{}: line 1 has options that this program doesn't take; use the program that wrote the log",
         Shown(path)
     );
     status_of_day(rt, Err(DayFault::Redo))
@@ -166,6 +169,9 @@ fn operate_order<'a>(
     if let Some(reason) = conflict_of(order, lists_jobs) {
         return Err(DayFault::Usage(reason));
     }
+    if lists_jobs {
+        test_decks(rt, order)?;
+    }
     match Decks::read(rt, order, words, wants_checksums(order, again)) {
         Ok(decks) if lists_jobs => jobs_listed(rt, &decks),
         Ok(decks) => operate_decks(rt, order, decks, again),
@@ -187,7 +193,18 @@ fn conflict_of(order: &Order<'_>, lists_jobs: bool) -> Option<&'static str> {
         return Some("--jobs lists the jobs of decks; give --deck1 FILE, --deck2 FILE or both");
     }
     if order.saves_unfinished && order.save.is_none() {
-        return Some("--save-unfinished goes with --save FILE, which names where the pack is saved");
+        return Some("--save-unfinished needs --save FILE, which names where the pack is saved");
+    }
+    journal_conflict(order)
+}
+
+/// Why the options of the journal don't go with the others, if they don't.
+fn journal_conflict(order: &Order<'_>) -> Option<&'static str> {
+    if order.journal.is_some() && order.save.is_none() {
+        return Some("--journal goes with --save FILE, which names where the pack is saved");
+    }
+    if (order.does_again || order.is_once) && order.journal.is_none() {
+        return Some("--again and --once go with --journal FILE");
     }
     None
 }
@@ -202,6 +219,8 @@ fn wants_checksums(order: &Order<'_>, again: Option<Again<'_>>) -> bool {
 struct Rest {
     pack: DayPack,
     rules: Rules,
+    /// The text of the rules.
+    text: Vec<u8>,
 }
 
 /// Does a day whose decks are read.
@@ -224,21 +243,24 @@ fn read_rest<'a>(
     decks: &mut Decks<'a>,
     again: Option<Again<'_>>,
 ) -> Result<Rest, DayFault<'a>> {
-    let rules = read_rules(rt, order.rules)?;
+    let text = rules_text(rt, order.rules)?;
+    let rules = read_rules(rt, order.rules, &text)?;
     match read_tested(rt, order, decks, again) {
-        Ok(pack) => Ok(Rest { pack, rules }),
+        Ok(pack) => Ok(Rest { pack, rules, text }),
         Err(fault) => Err(fault),
     }
 }
 
-/// Reads the pack, once the outputs are tested.
+/// Reads the pack, once the outputs are tested. If there is a journal, they are tested once it lets the day begin.
 fn read_tested<'a>(
     rt: &HostRuntime,
     order: &Order<'a>,
     decks: &mut Decks<'a>,
     again: Option<Again<'_>>,
 ) -> Result<DayPack, DayFault<'a>> {
-    test_outputs(rt, order)?;
+    if order.journal.is_none() {
+        test_outputs(rt, order)?;
+    }
     DayPack::read(rt, order, &mut decks.begun, wants_checksums(order, again))
 }
 
@@ -251,10 +273,44 @@ fn operate_read<'a>(
     again: Option<Again<'a>>,
 ) -> Result<u8, DayFault<'a>> {
     match are_decks_taken(rt, order, &mut decks, again) {
-        Ok(true) => operate_over(rt, order, decks, rest, again.map(|again| again.log)),
+        Ok(true) => operate_begun(rt, order, decks, rest, again.map(|again| again.log)),
         Ok(false) => Ok(PERSON_NEEDED),
         Err(fault) => Err(fault),
     }
+}
+
+/// Does a day, if its journal lets it begin.
+fn operate_begun<'a>(
+    rt: &'a HostRuntime,
+    order: &Order<'a>,
+    decks: Decks<'a>,
+    rest: Rest,
+    logged: Option<&'a DayLog>,
+) -> Result<u8, DayFault<'a>> {
+    match begin_by_journal(rt, order, &rest, &decks) {
+        Ok(Begin::Day(journal)) => operate_over(rt, order, decks, rest, journal, logged),
+        Ok(Begin::IsPosted) => Ok(DONE),
+        Err(fault) => Err(fault),
+    }
+}
+
+/// What the journal says of the start of a day. A day that is posted is found before outputs are refused because they exist.
+fn begin_by_journal<'a>(
+    rt: &HostRuntime,
+    order: &Order<'a>,
+    rest: &Rest,
+    decks: &Decks<'a>,
+) -> Result<Begin<'a>, DayFault<'a>> {
+    let Some(name) = order.journal else {
+        return Ok(Begin::Day(None));
+    };
+    test_journal(rt, order)?;
+    let given = Given::of(rt.alloc(), order, &rest.pack.bytes, decks, &rest.text)?;
+    let begin = begin_day(rt, order, name, given)?;
+    if let Begin::Day(_) = &begin {
+        test_outputs(rt, order)?;
+    }
+    Ok(begin)
 }
 
 /// Whether the decks, from where each is taken up, are accepted, and are those of a log that is done again.
@@ -273,6 +329,7 @@ fn are_decks_taken<'a>(
     }
     if let Some(level) = level_begun_anew(order)
         && order.redo.is_none()
+        && !order.is_quiet
     {
         report_first_job(rt, level);
     }
@@ -303,10 +360,15 @@ fn operate_over<'a>(
     order: &Order<'a>,
     decks: Decks<'a>,
     rest: Rest,
+    journal: Option<DayJournal<'a>>,
     logged: Option<&'a DayLog>,
 ) -> Result<u8, DayFault<'a>> {
     let Decks { one, two, begun } = decks;
-    let Rest { pack, rules } = rest;
+    let Rest {
+        pack,
+        rules,
+        text: _,
+    } = rest;
     let day = Prepared {
         begun,
         one: Seat::new(rt.alloc(), LevelId::One, &one),
@@ -314,7 +376,7 @@ fn operate_over<'a>(
         rules: &rules,
         logged,
     };
-    operate_mounted(rt, order, pack, day)
+    operate_mounted(rt, order, pack, journal, day)
 }
 
 /// Does a day that is prepared over its pack, once the pack and all outputs are tried.
@@ -322,10 +384,11 @@ fn operate_mounted<'n, 'a>(
     rt: &'a HostRuntime,
     order: &Order<'n>,
     pack: DayPack,
+    journal: Option<DayJournal<'n>>,
     day: Prepared<'a>,
 ) -> Result<u8, DayFault<'n>> {
     match mount(rt, order, pack) {
-        Ok(mounted) => operate_prepared(rt, order, mounted.bytes, day, mounted.outputs),
+        Ok(mounted) => operate_prepared(rt, order, mounted.bytes, day, mounted.outputs, journal),
         Err(fault) => Err(fault),
     }
 }
@@ -357,24 +420,30 @@ fn mountable<'a>(
     path: Option<&str>,
     pack: Vec<u8>,
 ) -> Result<Vec<u8>, DayFault<'a>> {
+    let beginning = beginning_words(&pack);
     match Pack::over(rt.alloc(), MemoryStore::from_bytes(pack)) {
         Ok(Pack { pool, areas: _ }) => Ok(pool.into_bytes()),
         Err(Refused { pool: _, fault }) => {
-            tell_refused(rt, path, fault);
+            tell_refused(rt, path, beginning, fault);
             Err(DayFault::Cli(refused(fault)))
         }
     }
 }
 
-/// Reports why a pack can't be mounted, and what to do.
-fn tell_refused(rt: &HostRuntime, path: Option<&str>, fault: Refusal) {
-    if let (Refusal::BadPack(fault), Some(path)) = (fault, path) {
-        let (path, reason) = (Shown(path), pack_words(fault));
-        let _ = writeln!(
+/// Reports why a pack can't be mounted, and what to do, given the words of a file that doesn't begin as a pack does.
+fn tell_refused(rt: &HostRuntime, path: Option<&str>, beginning: &str, fault: Refusal) {
+    let (Refusal::BadPack(fault), Some(path)) = (fault, path) else {
+        return;
+    };
+    let (path, reason) = (Shown(path), pack_words(fault));
+    let _ = if beginning.is_empty() {
+        writeln!(
             rt.stderr(),
             "{path} can't be used as a pack: {reason}; check the name, or take a copy that is whole"
-        );
-    }
+        )
+    } else {
+        writeln!(rt.stderr(), "{path} {beginning}")
+    };
 }
 
 /// What the refusal of a pack in memory is to the command: its sectors can always be read.

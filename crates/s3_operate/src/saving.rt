@@ -1,9 +1,11 @@
 //! The end of a day: its pack is saved, if that is asked for, and its log gets its last lines.
 
 use crate::day::{Over, OwnDesk, test_outputs, test_written};
-use s3_day_files::{DayFault, KeptOutputs, Order};
+use s3_cards::LevelId;
+use s3_day_files::{DayFault, DayJournal, KeptOutputs, Order};
 use s3_day_log::{DayOver, Event, NamedFile, checksum};
 use s3_host_files::{FileFault, Kept, Limit, LockedPack, save_new_pack, save_pack};
+use s3_journal::LevelCount;
 use s3_operating::{Verdict, Wish};
 use s3_paper_commands::status::{DONE, FILE_FAILED, PASSED_OVER, PERSON_NEEDED};
 use s3_refusals::{Reason, Shown};
@@ -34,6 +36,15 @@ struct Saving<'a, 'b> {
     sum: &'b str,
 }
 
+/// Where the pack is saved.
+#[derive(Drop)]
+pub struct Place<'n> {
+    /// The lock on its file, if it is there.
+    pub locked: Option<LockedPack>,
+    /// The journal, which gets the line of the day before the pack is saved.
+    pub journal: Option<DayJournal<'n>>,
+}
+
 /// Saves the pack, if that is asked for and the day allows it, reports whether it is saved, logs the end of the day, and gives the
 /// exit status.
 pub fn end_day<'n>(
@@ -42,7 +53,7 @@ pub fn end_day<'n>(
     desk: &mut OwnDesk<'_>,
     kept: &KeptOutputs,
     over: &Over,
-    locked: Option<LockedPack>,
+    place: Place<'n>,
 ) -> Result<u8, DayFault<'n>> {
     if let Err(fault) = sync_script(rt, order, desk, kept) {
         return Err(end_unwritten(rt, order, desk, kept, fault));
@@ -67,7 +78,7 @@ pub fn end_day<'n>(
         path,
         sum: sum.as_str(),
     };
-    save(rt, order, desk, kept, over, locked, saving)
+    save(rt, order, desk, kept, over, place, saving)
 }
 
 /// Saves the pack, after the log has that it will be saved, and ends the day.
@@ -77,10 +88,17 @@ fn save<'n>(
     desk: &mut OwnDesk<'_>,
     kept: &KeptOutputs,
     over: &Over,
-    locked: Option<LockedPack>,
+    place: Place<'n>,
     saving: Saving<'n, '_>,
 ) -> Result<u8, DayFault<'n>> {
     if let Err(fault) = note_saving(rt, order, desk, kept, saving) {
+        return Err(end_unwritten(rt, order, desk, kept, fault));
+    }
+    let Place {
+        locked,
+        mut journal,
+    } = place;
+    if let Err(fault) = note_day(rt, order, desk, over, &mut journal, saving.sum) {
         return Err(end_unwritten(rt, order, desk, kept, fault));
     }
     // what comes after the save must not need memory for the name of the pack
@@ -162,6 +180,38 @@ fn note_saving<'n>(
     sync_log(rt, order, desk, kept)
 }
 
+/// Appends the line of the day to the journal, if there is one, and brings it to the disk. If the desk is killed, the last line and the
+/// pack show whether the day is posted. The journal stays locked until the pack is saved.
+fn note_day<'n>(
+    rt: &HostRuntime,
+    order: &Order<'n>,
+    desk: &OwnDesk<'_>,
+    over: &Over,
+    journal: &mut Option<DayJournal<'n>>,
+    sum: &str,
+) -> Result<(), DayFault<'n>> {
+    let Some(journal) = journal else {
+        return Ok(());
+    };
+    let status = status_of(over.closing.verdict);
+    let one = count_of(desk, LevelId::One)?;
+    let two = count_of(desk, LevelId::Two)?;
+    journal.append(rt, order, sum, status, one, two)
+}
+
+/// How many jobs of a level were begun, and how many lines they printed.
+fn count_of(desk: &OwnDesk<'_>, level: LevelId) -> Result<LevelCount, AllocError> {
+    let jobs = desk.printed_jobs(level)?;
+    let mut lines: u64 = 0;
+    for job in &jobs {
+        lines = lines.saturating_add(job.lines);
+    }
+    Ok(LevelCount {
+        jobs: jobs.len() as u64,
+        lines,
+    })
+}
+
 /// Brings the log to the disk, unless the operator continued without it.
 fn sync_log<'n>(
     rt: &HostRuntime,
@@ -211,10 +261,11 @@ fn saved(
     limit: Option<Limit>,
     pack: &[u8],
 ) -> Result<(), FileFault> {
+    let read = [order.pack];
     if locked.is_none() && !order.overwrites {
-        save_new_pack(rt, path, limit, pack)
+        save_new_pack(rt, path, limit, &read, pack)
     } else {
-        save_pack(rt, path, locked, limit, pack)
+        save_pack(rt, path, locked, limit, &read, pack)
     }
 }
 
@@ -240,7 +291,7 @@ fn end_saved<'n>(
 fn report_saved(rt: &HostRuntime, path: &str, is_unfinished: bool) {
     let path = Shown(path);
     let further = if is_unfinished {
-        ", though a level isn't done: a job that is taken up begins anew, over the records that it has put"
+        ", though a level isn't done: a job that is taken up begins anew, over the records that it has written"
     } else {
         ""
     };
@@ -321,6 +372,7 @@ fn report_failed(rt: &HostRuntime, path: &str, fault: &FileFault) {
         | FileFault::IsPack
         | FileFault::Hindered(_)
         | FileFault::Stream(_)
+        | FileFault::Talk(_)
         | FileFault::InUse => writeln!(
             rt.stderr(),
             "the pack is not saved, and {path} is left alone"

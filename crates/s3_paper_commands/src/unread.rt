@@ -105,7 +105,7 @@ fn push_wrong(text: &mut String, wrong: &WrongCharacters) -> Result<(), AllocErr
     push_character(text, wrong.first)?;
     let more = wrong.more;
     if more > 0 {
-        write!(text, ", nor {more} more after it")?;
+        write!(text, ", or {more} more after it")?;
     }
     if is_typed(wrong.first) {
         Ok(())
@@ -211,7 +211,7 @@ fn push_cure(text: &mut String, file: &str, is_one_file: bool) -> Result<(), All
     let file = Shown(file);
     write!(
         text,
-        "Small letters, tabs and marked letters are punched as cards have them where a file's name ends in .rpg: rename {file} so"
+        "Small letters, tabs and marked letters are punched as cards have them if a file's name ends in .rpg: rename {file} so"
     )?;
     if is_one_file {
         write!(text, ", or make a deck of it with bureau punch {file}")?;

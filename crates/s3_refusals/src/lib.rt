@@ -1,8 +1,8 @@
 //! What a refused command prints in addition to its line: file names that a terminal shows, the system's reason, the process that has a
 //! file, what a number means, and what to do.
 //!
-//! What is proved: which words stand for a failed call (`call_words`) and for each refusal of a pack (`pack_words`), and the exit status
-//! of a refusal (`Refused::tell`). Each call is safe and returns. The sentences around these words are tested.
+//! What is proved: which words stand for a failed call (`call_words`), for each refusal of a pack (`pack_words`) and for a file that
+//! doesn't begin as a pack does (`beginning_words`), and the exit status of a refusal (`Refused::tell`). Each call is safe and returns. The sentences around these words are tested.
 
 #![tactic(auto)]
 
@@ -12,7 +12,7 @@ mod reasons;
 mod refused;
 
 pub use holder::holder_of;
-pub use packs::{begins_as_pack, pack_words};
+pub use packs::{beginning_words, begins_as_pack, pack_words};
 pub use reasons::{Holder, Reason, call_words};
 pub use refused::{FileWork, Refused, Work};
 pub use s3_decks::{Shown, is_shown};

@@ -16,7 +16,7 @@ pub fn call_words(kind: ErrorKind) -> &'static str
             "permission is denied; have its owner allow it, or use another file"
         }
         ErrorKind::IsADirectory => "it is a folder; give the name of a file",
-        ErrorKind::NotADirectory => "where a folder is wanted there is a file; check the name",
+        ErrorKind::NotADirectory => "there is a file in place of a folder; check the name",
         ErrorKind::ReadOnlyFilesystem => "its disk is read-only; use another one",
         ErrorKind::StorageFull => "its disk is full; make space there, and try again",
         ErrorKind::QuotaExceeded =>

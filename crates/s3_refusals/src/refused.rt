@@ -41,6 +41,8 @@ pub enum FileWork {
     Hindered(Hindrance),
     /// The file is this standard stream as well.
     Stream(StandardStream),
+    /// No pack is saved there: it is this standard stream, which is a pipe or a terminal.
+    Talk(StandardStream),
     /// The pack is saved, but its folder couldn't be brought to the disk.
     Unsynced(io::Error),
     /// The file is in use, by a process that may be known.
@@ -121,6 +123,13 @@ fn explain_file<W: Write>(writer: &mut W, name: &str, work: FileWork) -> io::Res
             writeln!(writer, "The pack isn't saved: {name} {words}.")
         }
         FileWork::Stream(stream) => explain_stream(writer, name, stream),
+        FileWork::Talk(stream) => {
+            let stream = stream.name();
+            writeln!(
+                writer,
+                "The pack isn't saved: {name} is {stream}. Nothing was done. Give --save the name of a file."
+            )
+        }
         FileWork::Unsynced(error) => explain_unsynced(writer, name, error),
         FileWork::InUse(process) => {
             let holder = Holder(process);

@@ -1,4 +1,4 @@
--- How a new pack gets the name of a locked file, and which files it may replace.
+-- How a new pack gets the name of a locked file, which files it may replace, and which files are leftovers of killed saves.
 use Rattle.std.specs.Prelude.{ℕ, Bool, true, false, ◌||◌, List, codes, Result, Ok, Err}
 use Rattle.std.specs.List.{starts_with}
 use Rattle.std.specs.Prelude.{nat_eq}
@@ -6,6 +6,8 @@ use Rattle.s3_host_files.specs.declared.naming.AtName.{AtName}
 use Rattle.s3_host_files.specs.declared.naming.AtName.TheVariants.{Nothing, Locked, Other}
 use Rattle.s3_host_files.specs.declared.naming.Naming.{Naming}
 use Rattle.s3_host_files.specs.declared.naming.Naming.TheVariants.{Replaces, IsFirst}
+use Rattle.s3_host_files.specs.declared.naming.Claim.{Claim}
+use Rattle.s3_host_files.specs.declared.naming.Claim.TheVariants.{Read, SecondName, Locked as LockedFile, Free}
 use Rattle.s3_host_files.specs.declared.naming.Hindrance.{Hindrance}
 use Rattle.s3_host_files.specs.declared.naming.Hindrance.TheVariants.{Moved, Protected, Changed}
 
@@ -16,6 +18,13 @@ naming_of Other _ _ = Err Moved
 naming_of Locked false _ = Err Protected
 naming_of Locked true false = Err Changed
 naming_of Locked true true = Ok Replaces
+
+-- who has the file; whether it is empty or begins as a pack
+abbrev pub is_leftover : Claim → Bool → Bool
+is_leftover Read _ = false
+is_leftover SecondName _ = true
+is_leftover LockedFile _ = false
+is_leftover Free begins = begins
 
 -- why the file isn't replaced: the end of a sentence that begins with its name
 abbrev pub words_of_hindrance : Hindrance → List ℕ

@@ -8,7 +8,7 @@ abbrev pub words_of_call : ErrorKind → List ℕ
 words_of_call NotFound = codes "there is no such file or folder; check the name"
 words_of_call PermissionDenied = codes "permission is denied; have its owner allow it, or use another file"
 words_of_call IsADirectory = codes "it is a folder; give the name of a file"
-words_of_call NotADirectory = codes "where a folder is wanted there is a file; check the name"
+words_of_call NotADirectory = codes "there is a file in place of a folder; check the name"
 words_of_call ReadOnlyFilesystem = codes "its disk is read-only; use another one"
 words_of_call StorageFull = codes "its disk is full; make space there, and try again"
 words_of_call QuotaExceeded = codes "your share of its disk is full; make space there, and try again"

@@ -2,8 +2,8 @@ use Rattle.std.proofs.Common.{◌≡◌, length, take, length-take-le, ◌∙◌
 use Rattle.s3_keyed.proofs.KeyNumbers.{compared, bytes_from_index, bytes_taken}
 use Rattle.s3_keyed.proofs.index_sector.compare_first.Goals as goal
 
-pub returns : goal.returns
-returns c =
+pub returns-in_default : goal.returns-in_default
+returns-in_default c =
     let n = c.args.count in
     let one = c.args.one.now in
     let other = c.args.other.now in

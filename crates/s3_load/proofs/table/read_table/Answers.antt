@@ -2,7 +2,6 @@ use Rattle.std.proofs.Common.{◌≡◌, ◌∷◌, [], arith, subst, true}
 use Rattle.std.specs.Prelude.{Some}
 use Rattle.csv.specs.Reading.{ReadRecord}
 use Rattle.csv.specs.Records.{fields_of}
-use Rattle.s3_load.specs.Inner.Columns.{IsHeading}
 use Rattle.s3_load.specs.Inner.Tables.{IsReading}
 use Rattle.s3_load.proofs.TableLemmas.{reads_more}
 use Rattle.s3_load.proofs.table.read_table.Goals as goal
@@ -20,7 +19,7 @@ returns g c = λ text source.
     record {
       heading = heading;
       columns = c.in_ok-columns.columns;
-      named = subst (λ fs. IsHeading fs order.fills heading c.in_ok-columns.columns) c.deref.ensures.value c.in_ok-columns.ensures;
+      named = c.in_ok-columns.ensures;
       made = c.in_ok-rows.rows.items;
       are_rows = c.in_ok-rows.ensures.rows (c.in_ok-sort_by_key.ensures.before none) text heading begun;
       same = c.in_ok-sort_by_key.ensures.same;

@@ -1,0 +1,116 @@
+-- The members of an object in a line of the log, found by their names.
+use Rattle.std.specs.Prelude.{ℕ, ◌^◌, nat_lt, nat_le, nat_eq, Bool, ◌&&◌, List, [], ◌∷◌, ◌++◌, length, map, Option, Some, None, option_map, option_and_then, codes, find, if◌then◌else◌}
+use Rattle.std.specs.Str.{bytes_eq}
+use Rattle.std.specs.List.{list_all}
+use Rattle.std.specs.Char.{digit_value}
+use Rattle.std.specs.Str.Parse.{digits_value, without_leading_plus}
+use Rattle.json.specs.Json.{Json, Items, no_items, item, Members, no_members, member}
+use Rattle.json.specs.Find.{as_str, as_number, as_array, as_object, is_null}
+use Rattle.s3_cards.specs.declared.levels.LevelId.{LevelId}
+use Rattle.s3_cards.specs.declared.levels.LevelId.TheVariants.{One, Two}
+use Rattle.s3_operator.specs.declared.halt_code.HaltCode.{HaltCode}
+use Rattle.s3_operator.specs.declared.halt_code.HaltCode.TheVariants.{HaltIndicator, UnidentifiedRecord, ZeroDivisor, BadDigit, NoRecordFound, DuplicateKey, OutOfSequence, KeyChanged, NothingToUpdate, FileFull, KeyNotAscending, FaultyJob, NoProgram, FaultySource, NoLabel, DamagedLabel, MasterForUpdate, NoSpace, RetainedFile, DuplicateLabel, LabelMismatch, BadIndex}
+use Rattle.s3_operator.specs.Inner.Codes.{has_letters}
+
+-- the values of all members of a name, in their order
+abbrev pub values_of : (name : List ℕ) → Members → List Json
+values_of name no_members = []
+values_of name (member key json rest) = if bytes_eq key name then json ∷ values_of name rest else values_of name rest
+
+abbrev pub only : List Json → Option Json
+only [] = None
+only (json ∷ []) = Some json
+only (json ∷ other ∷ rest) = None
+
+abbrev pub only_or_none : List Json → Option (Option Json)
+only_or_none [] = Some None
+only_or_none (json ∷ []) = if is_null json then Some None else Some (Some json)
+only_or_none (json ∷ other ∷ rest) = None
+
+-- the value of the one member of a name; none where there is no such member or more than one
+abbrev pub value_in : (name : List ℕ) → Members → Option Json
+value_in name members = only (values_of name members)
+
+-- .., or where there is no such member, or it is null, that there is none
+abbrev pub optional_in : (name : List ℕ) → Members → Option (Option Json)
+optional_in name members = only_or_none (values_of name members)
+
+-- ---- what a value is
+abbrev pub is_decimal_digit : ℕ → Bool
+is_decimal_digit byte = nat_lt (digit_value byte) 10
+
+abbrev pub is_numeral : List ℕ → Bool
+is_numeral digits = nat_lt 0 (length digits) && list_all is_decimal_digit digits
+
+abbrev pub below : (bound : ℕ) → List ℕ → Option ℕ
+below bound digits = if is_numeral digits && nat_lt (digits_value 10 digits) bound then Some (digits_value 10 digits) else None
+
+-- a whole number below 2 to the power 64: digits alone
+abbrev pub whole_number : Json → Option ℕ
+whole_number json = option_and_then (λ text. below (2 ^ 64) (without_leading_plus text)) (as_number json)
+
+abbrev pub up_to : (most : ℕ) → ℕ → Option ℕ
+up_to most n = if nat_le n most then Some n else None
+
+-- .. of at most this
+abbrev pub number_up_to : (most : ℕ) → Json → Option ℕ
+number_up_to most json = option_and_then (up_to most) (whole_number json)
+
+-- a level, by its number
+abbrev pub level_of : ℕ → Option LevelId
+level_of n = if nat_eq n 1 then Some One else if nat_eq n 2 then Some Two else None
+
+-- the halts that a level can show
+abbrev pub shown_halts : List HaltCode
+shown_halts =
+    map HaltIndicator (1 ∷ 2 ∷ 3 ∷ 4 ∷ 5 ∷ 6 ∷ 7 ∷ 8 ∷ 9 ∷ [])
+    ++ UnidentifiedRecord ∷ ZeroDivisor ∷ BadDigit ∷ NoRecordFound ∷ DuplicateKey ∷ OutOfSequence ∷ KeyChanged ∷ NothingToUpdate ∷ FileFull ∷ KeyNotAscending
+    ∷ FaultyJob ∷ NoProgram ∷ FaultySource ∷ NoLabel ∷ DamagedLabel ∷ MasterForUpdate ∷ NoSpace ∷ RetainedFile ∷ DuplicateLabel ∷ LabelMismatch ∷ BadIndex ∷ []
+
+-- a halt, by its two letters
+abbrev pub halt_of : List ℕ → Option HaltCode
+halt_of [] = None
+halt_of (first ∷ []) = None
+halt_of (first ∷ second ∷ []) = find (has_letters (first ∷ second ∷ [])) shown_halts
+halt_of (first ∷ second ∷ third ∷ rest) = None
+
+-- ---- the value of a name as what it is to be
+abbrev pub text_in : (name : List ℕ) → Members → Option (List ℕ)
+text_in name members = option_and_then as_str (value_in name members)
+
+abbrev pub whole_in : (name : List ℕ) → Members → Option ℕ
+whole_in name members = option_and_then whole_number (value_in name members)
+
+abbrev pub number_in : (name : List ℕ) → (most : ℕ) → Members → Option ℕ
+number_in name most members = option_and_then (up_to most) (whole_in name members)
+
+abbrev pub object_in : (name : List ℕ) → Members → Option Members
+object_in name members = option_and_then as_object (value_in name members)
+
+abbrev pub list_in : (name : List ℕ) → Members → Option Items
+list_in name members = option_and_then as_array (value_in name members)
+
+abbrev pub level_in : Members → Option LevelId
+level_in members = option_and_then level_of (whole_in (codes "level") members)
+
+abbrev pub halt_in : Members → Option HaltCode
+halt_in members = option_and_then halt_of (text_in (codes "code") members)
+
+-- what there is, read by `read`; what can't be read is no member
+abbrev pub or_none : {X : Type 0} → (read : Json → Option X) → Option Json → Option (Option X)
+or_none read None = Some None
+or_none read (Some json) = option_map Some (read json)
+
+abbrev pub optional_text_in : (name : List ℕ) → Members → Option (Option (List ℕ))
+optional_text_in name members = option_and_then (or_none as_str) (optional_in name members)
+
+abbrev pub optional_number_in : (name : List ℕ) → (most : ℕ) → Members → Option (Option ℕ)
+optional_number_in name most members = option_and_then (or_none (number_up_to most)) (optional_in name members)
+
+abbrev pub optional_object_in : (name : List ℕ) → Members → Option (Option Members)
+optional_object_in name members = option_and_then (or_none as_object) (optional_in name members)
+
+-- each item, read by `read`; none where one can't be read
+abbrev pub read_each : {X : Type 0} → (read : Json → Option X) → Items → Option (List X)
+read_each read no_items = Some []
+read_each read (item json rest) = option_and_then (λ first. option_map (λ more. first ∷ more) (read_each read rest)) (read json)

@@ -1,0 +1,2 @@
+pub mod AnyLine
+pub mod Once

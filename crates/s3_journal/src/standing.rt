@@ -1,0 +1,134 @@
+//! Which day of a journal a pack is of, and whether decks are posted.
+ghost use Rattle.std.specs.Prelude.{◌≡◌, find};
+ghost use Rattle.std.specs.List.{list_any};
+ghost use Rattle.std.specs.Option.{option_copied, option_map};
+ghost use Rattle.std.specs.Str.{bytes_eq};
+ghost use Rattle.std.specs.String.{string_bytes};
+ghost use Rattle.s3_journal.specs.Inner.Posted.{decks_of, has_pack as has_pack_spec, line_of, lines_of, posted_in, same_decks, standing_of as standing_spec, start_of as start_spec};
+
+use crate::day::PostedDay;
+
+/// Which day of a journal a pack is of.
+#[derive(Clone, Copy)]
+pub(crate) enum Standing {
+    /// The journal has no line.
+    First,
+    /// The pack is the one that the last day left.
+    Current,
+    /// The pack is the one on which the last day began: its new pack was never saved.
+    NotPosted,
+    /// The pack is an old copy: an earlier day left it or began on it.
+    OldCopy,
+    /// No line has the pack.
+    Unknown,
+}
+
+/// What the start of a day is to do.
+#[derive(Clone, Copy)]
+pub enum Start {
+    /// To do the day.
+    Do,
+    /// Nothing: the decks are posted.
+    IsPosted,
+    /// To refuse: the pack is an old copy.
+    IsOld,
+    /// To refuse: no line has the pack.
+    IsUnknown,
+}
+
+/// What is going to be posted: the checksums of both decks.
+#[derive(Clone, Copy)]
+pub struct Posting<'a> {
+    /// The checksum of level 1's deck.
+    pub one: &'a str,
+    /// The checksum of level 2's deck.
+    pub two: &'a str,
+}
+
+/// Whether two texts are the same.
+fn is_same(one: &str, other: &str) -> bool
+    ensures { result ≡ bytes_eq one.now other.now }
+{
+    one == other
+}
+
+/// Whether the pack was there before or after a day.
+fn has_pack(day: &PostedDay, pack: &str) -> bool
+    ensures { result ≡ has_pack_spec pack.now (line_of day.now) }
+{
+    is_same(day.after.as_str(), pack) || is_same(day.before.as_str(), pack)
+}
+
+/// Whether a day had these decks.
+fn has_decks(day: &PostedDay, decks: Posting<'_>) -> bool
+    ensures { result ≡ same_decks (line_of day.now).decks (decks_of decks.entry) }
+{
+    is_same(day.deck1.as_str(), decks.one) && is_same(day.deck2.as_str(), decks.two)
+}
+
+/// Which day a pack is of, given the days of its journal, the last one first, and the checksum of the pack.
+#[tactic(auto, using(crate::proofs::AnyLine::any_line))]
+fn standing_of(days: &[PostedDay], pack: &str) -> Standing
+    ensures { result ≡ standing_spec pack.now (lines_of days.now) }
+{
+    let Some((last, older)) = days.split_first() else {
+        return Standing::First;
+    };
+    if is_same(last.after.as_str(), pack) {
+        Standing::Current
+    } else if is_same(last.before.as_str(), pack) {
+        Standing::NotPosted
+    } else if any_has_pack(older, pack) {
+        Standing::OldCopy
+    } else {
+        Standing::Unknown
+    }
+}
+
+/// Whether the pack was there before or after one of these days.
+fn any_has_pack(days: &[PostedDay], pack: &str) -> bool
+    ensures { result ≡ list_any (λ day. has_pack_spec pack.now (line_of day)) days.now }
+{
+    days.iter().any(|day| has_pack(day, pack))
+}
+
+/// The last of these days before or after which the pack was there.
+pub fn day_with<'a>(days: &'a [PostedDay], pack: &str) -> Option<&'a PostedDay>
+    ensures { option_copied result ≡ find (λ day. has_pack_spec pack.now (line_of day)) days.now }
+{
+    days.iter().find(|day| has_pack(day, pack))
+}
+
+/// The last day with these decks among those that made a pack, given the days of its journal, the last one first, and the checksum of
+/// the pack.
+pub fn posted_day<'a>(
+    days: &'a [PostedDay],
+    pack: &str,
+    decks: Posting<'_>,
+) -> Option<&'a PostedDay>
+    ensures { option_map line_of (option_copied result) ≡ posted_in (decks_of decks.entry) pack.now (lines_of days.now) }
+{
+    let mut made = pack;
+    for day in days {
+        if is_same(day.after.as_str(), made) {
+            if has_decks(day, decks) {
+                return Some(day);
+            }
+            made = day.before.as_str();
+        }
+    }
+    None
+}
+
+/// What a day's start is to do, given the days of the journal, the last one first, the checksum of the pack and the decks.
+pub fn start_of(days: &[PostedDay], pack: &str, decks: Posting<'_>) -> Start
+    ensures { result ≡ start_spec (decks_of decks.entry) pack.now (lines_of days.now) }
+{
+    let is_posted = posted_day(days, pack, decks).is_some();
+    match standing_of(days, pack) {
+        Standing::OldCopy => Start::IsOld,
+        Standing::Unknown => Start::IsUnknown,
+        Standing::First | Standing::Current | Standing::NotPosted if is_posted => Start::IsPosted,
+        Standing::First | Standing::Current | Standing::NotPosted => Start::Do,
+    }
+}
