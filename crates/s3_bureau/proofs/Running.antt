@@ -30,6 +30,7 @@ use Rattle.s3_level.specs.Inner.Holds.{Around, Holds, HoldsAtWork, open_files}
 use Rattle.s3_solo.specs.Solo.{solo, closed}
 use Rattle.s3_bureau.specs.declared.entry.Entry.{Entry}
 use Rattle.s3_bureau.specs.declared.outcome.Outcome.{Outcome}
+use Rattle.s3_bureau.specs.declared.outcome.RunLines.{RunLines}
 use Rattle.s3_bureau.specs.declared.unwritten.Unwritten.{Unwritten}
 use Rattle.s3_bureau.specs.declared.run_fault.RunFault.{RunFault}
 use Rattle.s3_bureau.specs.declared.run_fault.RunFault.TheVariants.{Script, Mount, Device as DeviceFault, NoMemory}
@@ -39,8 +40,8 @@ use Rattle.s3_bureau.specs.Sharing.{IsCommon, IsOwn}
 use Rattle.s3_bureau.specs.Script.{entries_of}
 use Rattle.s3_bureau.specs.Runs.{AreSectors, HasFiles, HasSlots, LeavesPack, LeavesSo, RunTexts, Runs, outcome_texts, cards_of, texts_of, run_alone, run_texts, level_texts, entries_texts, texts_after, texts_over}
 use Rattle.s3_bureau.specs.Texts.{halt_text_of, report_of}
-use Rattle.s3_bureau.specs.Inner.Unwritten.{GivesOver, RunsUnwritten, SavesAs, UnwrittenOver, texts_at, texts_with, unwritten_texts}
-use Rattle.s3_bureau.specs.Inner.Underway.{HaveFiles, HaveSlots, KeepSaying, LeavesSectors, ReadsDeck, Performs, RunsOver, HasTexts, drained_texts}
+use Rattle.s3_bureau.specs.Inner.Unwritten.{GivesOver, LinesOver, RunsLines, RunsUnwritten, SavesAs, UnwrittenOver, lines_texts, texts_at, texts_with, unwritten_texts}
+use Rattle.s3_bureau.specs.Inner.Underway.{HaveFiles, HaveSlots, KeepSaying, LeavesSectors, ReadsDeck, Performs, HasTexts, drained_texts}
 
 -- all lines of a closed world were drained
 drained_closed : (refusal : Option (ℕ × ℕ)) (w : World) → drained_texts refusal (closed w) ≡ texts_of refusal (closed w)
@@ -121,12 +122,12 @@ take_front [] ys = refl
 take_front (x ∷ xs) ys = ap (λ l. x ∷ l) (take_front xs ys)
 
 -- the lines that a level has drained are those of each world that is held for it
-drained_at : (level : LevelId) (bureau : State) (w : World) → HoldsFor level bureau w → lines_at level bureau ≡ drained_lines w.lines
+pub drained_at : (level : LevelId) (bureau : State) (w : World) → HoldsFor level bureau w → lines_at level bureau ≡ drained_lines w.lines
 drained_at level bureau w held =
     let lines = held.world.parts.lines in
     sym (ap₂ (λ n printed. take n printed) lines.drained_lines lines.printed ∙ take_front (lines_at level bureau) _)
 
-halts_shown : (level : LevelId) (bureau : State) (refusal : Option (ℕ × ℕ)) (halts : List ℕ) → ((w : World) → HoldsFor level bureau w → halts ≡ halt_text_of refusal w.halts)
+pub halts_shown : (level : LevelId) (bureau : State) (refusal : Option (ℕ × ℕ)) (halts : List ℕ) → ((w : World) → HoldsFor level bureau w → halts ≡ halt_text_of refusal w.halts)
     → (w : World) → HoldsFor level bureau w → texts_with level bureau halts ≡ drained_texts refusal w
 halts_shown level bureau refusal halts are w held = ap₂ (λ lines text. record { report = report_of lines; halts = text }) (drained_at level bureau w held) (are w held)
 
@@ -244,14 +245,14 @@ given_by pack deck1 deck2 script entries texts sectors entries_are given = (
         (sym (take_all 65535 (sectors_of saved) (few saved rest.count)))
         (subst (λ (e : List Entry). LeavesSo header deck1 deck2 e (contents_of pack) (sectors_of saved)) are rest, whole)
 
-pub runs_by : (pack deck1 deck2 script : List ℕ) (entries : List Entry) (contents : List (List ℕ)) (result : Result Outcome RunFault) → contents ≡ contents_of pack → entries_of script ≡ Ok entries
-    → RunsOver contents deck1 deck2 entries result → Runs pack deck1 deck2 script result
-runs_by pack deck1 deck2 script entries contents result contents_are entries_are given = by result (subst (λ (c : List (List ℕ)). RunsOver c deck1 deck2 entries result) contents_are given)
+pub lines_by : (pack deck1 deck2 script : List ℕ) (entries : List Entry) (contents : List (List ℕ)) (result : Result RunLines RunFault) → contents ≡ contents_of pack → entries_of script ≡ Ok entries
+    → LinesOver contents deck1 deck2 entries result → RunsLines pack deck1 deck2 script result
+lines_by pack deck1 deck2 script entries contents result contents_are entries_are given = by result (subst (λ (c : List (List ℕ)). LinesOver c deck1 deck2 entries result) contents_are given)
   where
-    by : (result : Result Outcome RunFault) → RunsOver (contents_of pack) deck1 deck2 entries result → Runs pack deck1 deck2 script result
-    by (Ok outcome) given =
-        let gives = given_by pack deck1 deck2 script entries (outcome_texts outcome) (sectors_of outcome.pack.items) entries_are (given.0, given.1.0) in
-        (gives.0, gives.1 outcome.pack.items refl given.1.1)
+    by : (result : Result RunLines RunFault) → LinesOver (contents_of pack) deck1 deck2 entries result → RunsLines pack deck1 deck2 script result
+    by (Ok run) given =
+        let gives = given_by pack deck1 deck2 script entries (lines_texts run) (sectors_of run.pack.items) entries_are given.0 in
+        (gives.0, gives.1 run.pack.items refl given.1)
     by (Err NoMemory) given = tt
     by (Err DeviceFault) given = given
     by (Err (Script line)) given = absurd given
@@ -308,25 +309,6 @@ given_over contents deck1 deck2 cards1 cards2 refusal1 refusal2 entries first la
       said slots files flushed saved,
 )
 
-pub outcome_over : (contents : List (List ℕ)) (deck1 deck2 : List ℕ) (cards1 cards2 : List (List ℕ)) (refusal1 refusal2 : Option (ℕ × ℕ)) (entries : List Entry) (first last : State) (outcome : Outcome)
-    → mounted contents ≡ Ok (header_of first) → first.beside.state.contents ≡ contents
-    → HoldsFor One first (at_start One (header_of first) contents cards1) → HoldsFor Two first (at_start Two (header_of first) contents cards2)
-    → ((level : LevelId) → rests level first)
-    → ReadsDeck deck1 cards1 refusal1 → ReadsDeck deck2 cards2 refusal2
-    → ((level : LevelId) → IsUntangled (header_of first).format (region_of level (header_of first)) (area_of level) contents → IsSaid level first)
-    → HasTexts refusal1 refusal2 entries (held_by first) (outcome_texts outcome)
-    → HaveSlots entries first last.beside.state.contents
-    → HaveFiles entries (held_by first) last.beside.state.contents
-    → last.beside.state.stored ≡ last.beside.state.contents
-    → LeavesSectors entries first last
-    → sectors_of outcome.pack.items ≡ last.beside.state.stored
-    → outcome.pack.items ≡ concat (sectors_of outcome.pack.items)
-    → RunsOver contents deck1 deck2 entries (Ok outcome)
-outcome_over contents deck1 deck2 cards1 cards2 refusal1 refusal2 entries first last outcome mount contents_are held1 held2 rest reads1 reads2 said texts slots files flushed leaves saved whole =
-    let gives = given_over contents deck1 deck2 cards1 cards2 refusal1 refusal2 entries first last (outcome_texts outcome) (sectors_of outcome.pack.items) mount contents_are held1 held2 rest reads1 reads2 said texts slots files flushed leaves saved in
-    (gives.0, (gives.1, whole))
-
--- where the lines stand in the bureau
 pub unwritten_over : (contents : List (List ℕ)) (deck1 deck2 : List ℕ) (cards1 cards2 : List (List ℕ)) (refusal1 refusal2 : Option (ℕ × ℕ)) (entries : List Entry) (first : State) (run : Unwritten)
     → mounted contents ≡ Ok (header_of first) → first.beside.state.contents ≡ contents
     → HoldsFor One first (at_start One (header_of first) contents cards1) → HoldsFor Two first (at_start Two (header_of first) contents cards2)
@@ -341,3 +323,12 @@ pub unwritten_over : (contents : List (List ℕ)) (deck1 deck2 : List ℕ) (card
     → UnwrittenOver contents deck1 deck2 entries (Ok run)
 unwritten_over contents deck1 deck2 cards1 cards2 refusal1 refusal2 entries first run mount contents_are held1 held2 rest reads1 reads2 said texts slots files flushed leaves =
     given_over contents deck1 deck2 cards1 cards2 refusal1 refusal2 entries first run.bureau (unwritten_texts run) run.bureau.beside.state.stored mount contents_are held1 held2 rest reads1 reads2 said texts slots files flushed leaves refl
+
+-- and where its lines and its pack are handed out
+pub lines_over : (contents : List (List ℕ)) (deck1 deck2 : List ℕ) (entries : List Entry) (run : Unwritten) (lines : RunLines) → lines_texts lines ≡ unwritten_texts run → SavesAs run lines.pack.items
+    → UnwrittenOver contents deck1 deck2 entries (Ok run) → LinesOver contents deck1 deck2 entries (Ok lines)
+lines_over contents deck1 deck2 entries run lines texts saves given = (
+  subst (λ (t : RunTexts). GivesOver contents deck1 deck2 entries t (sectors_of lines.pack.items)) (sym texts)
+      (subst (λ (left : List (List ℕ)). GivesOver contents deck1 deck2 entries (unwritten_texts run) left) (sym saves.sectors) given),
+  saves.whole,
+)

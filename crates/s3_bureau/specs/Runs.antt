@@ -1,5 +1,5 @@
 -- What a run makes of a pack, two decks and a script: the texts of both levels and what it leaves of the pack, or its refusal.
-use Rattle.std.specs.Prelude.{◌≡◌, ℕ, List, [], length, slice_get, Option, None, Result, Ok, Err}
+use Rattle.std.specs.Prelude.{◌≡◌, ◌++◌, ◌∷◌, ℕ, List, [], codes, length, slice_get, Option, None, Result, Ok, Err}
 use Rattle.std.specs.List.{concat}
 use Rattle.s3_cards.specs.declared.levels.LevelId.{LevelId}
 use Rattle.s3_cards.specs.declared.levels.LevelId.TheVariants.{One, Two}
@@ -37,6 +37,15 @@ pub record Texts : Type 0 where
 pub record RunTexts : Type 0 where
   pub one : Texts
   pub two : Texts
+
+-- the reports and the halt texts, each under its heading
+abbrev pub line : List ℕ → List ℕ
+line text = text ++ 10 ∷ []
+
+abbrev pub output_of : RunTexts → List ℕ
+output_of texts =
+    line (codes ":report1") ++ texts.one.report ++ line (codes ":halts1") ++ texts.one.halts
+    ++ line (codes ":report2") ++ texts.two.report ++ line (codes ":halts2") ++ texts.two.halts
 
 -- the cards of a deck; one that was refused counts as empty
 abbrev pub cards_of : Result (List (List ℕ)) DeckFault → List (List ℕ)

@@ -524,4 +524,21 @@ impl<S: PackStore> Bureau<S> {
         } = self;
         store_of(pack)
     }
+
+    /// The store, as `into_store` gives it, and the lines that were drained from the queues of level 1 and of level 2, in order.
+    pub fn into_lines(self) -> (S, Vec<PrintLine>, Vec<PrintLine>)
+        ensures contents { S.contents result.0 ≡ self.beside.state.stored }
+        ensures failures { S.failures result.0 ≡ self.beside.state.failures }
+        ensures one { result.1.items ≡ lines_at LevelId.One self }
+        ensures two { result.2.items ≡ lines_at LevelId.Two self }
+    {
+        let Bureau {
+            pack,
+            spool: _,
+            one,
+            two,
+            phase: _,
+        } = self;
+        (store_of(pack), one.into_lines(), two.into_lines())
+    }
 }

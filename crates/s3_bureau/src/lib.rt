@@ -23,7 +23,7 @@
 //! - `level` lends a level, which holds what the bureau holds for it, for what is asked of it; `queued` is how many of its printed
 //!   lines are queued (`world`); `areas` are the judged slots; `read_sector` gives the bytes of a sector as the pack now has them, and
 //!   keeps each world that is held;
-//! - `finish_texts` finishes a bureau and gives the texts of both levels: those of each closed world, and all else as for `finish`;
+//! - `finish_halts` finishes a bureau and gives the halt texts of both levels: those of each closed world, and all else as for `finish`;
 //! - after a stop or `finish` every call answers `Stopped` and changes nothing (`stopped`); `into_store` gives the store;
 //! - after any steps that answered `Ok`, in whatever order, each world that was held for a level has taken that level's own entries,
 //!   with the answers of the solo run (`each_level_takes_its_own_entries`; each call of `step` is one of these, by
@@ -65,10 +65,10 @@ pub use laws::{
     each_level_takes_its_own_entries, halt_texts_are_written, no_level_learns_of_the_other,
     other_entries_make_no_difference, reports_are_written, scripts_are_read,
 };
-pub use outcome::{LevelTexts, Outcome};
+pub use outcome::{LevelLines, LevelTexts, Outcome, RunLines};
 pub use report::{REPORT_ROOM, ReportTables};
 pub use run_fault::{RunFault, mount_number};
-pub use runs::{fault_of, fault_of_refusal, finish_texts, read_deck, run, run_unwritten};
+pub use runs::{fault_of, fault_of_refusal, finish_halts, read_deck, run, run_unwritten};
 pub use s3_labels::{Refusal, RefusedStore};
 pub use s3_level::{Action, Did, Halt, HaltCode, Taken};
 pub use stop::Stop;

@@ -1,5 +1,7 @@
 //! What a run hands out.
 
+use s3_cards::PrintLine;
+
 /// A level's report and its halt text.
 #[derive(Drop)]
 pub struct LevelTexts {
@@ -17,6 +19,26 @@ pub struct Outcome {
     pub one: LevelTexts,
     /// The report and the halt text of level 2.
     pub two: LevelTexts,
+    /// The bytes of the pack as the run leaves it.
+    pub pack: Vec<u8>,
+}
+
+/// A level's printed lines and its halt text.
+#[derive(Drop)]
+pub struct LevelLines {
+    /// The printed lines, in order: the report has a line for each.
+    pub lines: Vec<PrintLine>,
+    /// The halt text, as in `LevelTexts`.
+    pub halts: Vec<u8>,
+}
+
+/// What a run leaves, with its reports as printed lines.
+#[derive(Drop)]
+pub struct RunLines {
+    /// The lines and the halt text of level 1.
+    pub one: LevelLines,
+    /// The lines and the halt text of level 2.
+    pub two: LevelLines,
     /// The bytes of the pack as the run leaves it.
     pub pack: Vec<u8>,
 }

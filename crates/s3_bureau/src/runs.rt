@@ -6,12 +6,11 @@ ghost use Rattle.s3_bureau.specs.Script.{entries_by};
 ghost use Rattle.s3_bureau.specs.declared.stop.Stop.TheVariants.{Stopped};
 ghost use Rattle.s3_bureau.specs.Inner.Stops.{failed_stop};
 ghost use Rattle.s3_bureau.specs.Inner.Held.{HoldsFor, IsSaid, header_of, held_by, is_open, rests};
-ghost use Rattle.s3_bureau.specs.Runs.{Runs, texts_in};
+ghost use Rattle.s3_bureau.specs.Runs.{Runs};
 ghost use Rattle.s3_bureau.specs.Sharing.{IsCommon, IsOwn};
-ghost use Rattle.s3_bureau.specs.Texts.{halt_text_of, report_of};
-ghost use Rattle.s3_bureau.specs.Inner.Underway.{HasTexts, HaveFiles, HaveSlots, KeepSaying, Leaves, LeavesSectors, Performs, ReadsDeck, drained_texts, left_after};
+ghost use Rattle.s3_bureau.specs.Texts.{halt_text_of};
+ghost use Rattle.s3_bureau.specs.Inner.Underway.{HasTexts, HaveFiles, HaveSlots, KeepSaying, Leaves, LeavesSectors, Performs, ReadsDeck, left_after};
 ghost use Rattle.s3_bureau.specs.Inner.Unwritten.{RunsUnwritten, UnwrittenOver, texts_at};
-ghost use Rattle.s3_solo.specs.Inner.Lines.{drained_lines};
 ghost use Rattle.s3_cards.specs.declared.levels.LevelId.{LevelId};
 ghost use Rattle.s3_store.specs.Inner.State.{KeepsInStep};
 ghost use Rattle.s3_slots.specs.Header.{region_of};
@@ -24,8 +23,7 @@ ghost use Rattle.s3_solo.specs.World.{World};
 use crate::bureau::Bureau;
 use crate::entry::Entry;
 use crate::halts::halt_text;
-use crate::outcome::{LevelTexts, Outcome};
-use crate::report::report_text;
+use crate::outcome::Outcome;
 use crate::run_fault::RunFault;
 use crate::script::{Command, read_script};
 use crate::stop::Stop;
@@ -149,7 +147,7 @@ fn served<S: PackStore>(
 }
 
 /// Finishes a bureau, and gives the halt texts of both levels, where each level's deck was refused or not.
-fn finish_halts<S: PackStore>(
+pub fn finish_halts<S: PackStore>(
     alloc: Global,
     bureau: &mut Bureau<S>,
     refusal1: Option<(u16, u8)>,
@@ -170,34 +168,6 @@ fn finish_halts<S: PackStore>(
     bureau.finish()?;
     let one = level_halts(alloc, bureau, LevelId::One, refusal1)?;
     let two = level_halts(alloc, bureau, LevelId::Two, refusal2)?;
-    Ok((one, two))
-}
-
-/// Finishes a bureau, and gives the texts of both levels, where each level's deck was refused or not.
-pub fn finish_texts<S: PackStore>(
-    alloc: Global,
-    bureau: &mut Bureau<S>,
-    refusal1: Option<(u16, u8)>,
-    refusal2: Option<(u16, u8)>,
-) -> Result<(LevelTexts, LevelTexts), Stop>
-    // Each world is closed, and the texts are those of it.
-    ensures closes { OnOk result ((level : LevelId) (w : World) → HoldsFor level bureau.old w → HoldsFor level bureau.new (closed w)) }
-    ensures one { IfOk result (λ texts. (w : World) → HoldsFor LevelId.One bureau.new w → texts_in texts.0 ≡ drained_texts refusal1 w) }
-    ensures two { IfOk result (λ texts. (w : World) → HoldsFor LevelId.Two bureau.new w → texts_in texts.1 ≡ drained_texts refusal2 w) }
-
-    // What is in the store, and how it is refused, is as `Bureau::finish` says.
-    ensures flushed { OnOk result (bureau.new.beside.state.stored ≡ bureau.new.beside.state.contents) }
-    ensures mounts { OnOk result ((level : LevelId) (w : World) → IsSaid level bureau.old → HoldsFor level bureau.new w → slots_of (header_of bureau.new).format (region_of level (header_of bureau.new)) (area_of level) bureau.new.beside.state.contents ≡ w.pack.own.slots) }
-    ensures untangled { OnOk result ((level : LevelId) → IsSaid level bureau.old → IsUntangled (header_of bureau.new).format (region_of level (header_of bureau.new)) (area_of level) bureau.new.beside.state.contents) }
-    ensures unchanged { KeepsInStep (IsCommon (header_of bureau.old)) bureau.old.beside.state bureau.new.beside.state }
-    ensures rest { (level : LevelId) → rests level bureau.old → KeepsInStep (IsOwn level (header_of bureau.old)) bureau.old.beside.state bureau.new.beside.state }
-    ensures header { header_of bureau.new ≡ header_of bureau.old }
-    ensures failures { bureau.new.beside.state.failures ≡ bureau.old.beside.state.failures + failed_stop result }
-    ensures not_stopped { is_open bureau.old ≡ true → result ≢ Err Stopped }
-{
-    let (halts1, halts2) = finish_halts(alloc, bureau, refusal1, refusal2)?;
-    let one = level_texts(alloc, bureau, LevelId::One, halts1)?;
-    let two = level_texts(alloc, bureau, LevelId::Two, halts2)?;
     Ok((one, two))
 }
 
@@ -261,21 +231,6 @@ fn left_behind(taken: Taken, left: u16) -> u16
         Did::Acted => left - taken.times,
         Did::Idle | Did::Refused(_) => 0,
     }
-}
-
-/// A level's texts, with this halt text.
-fn level_texts<S: PackStore>(
-    alloc: Global,
-    bureau: &Bureau<S>,
-    level: LevelId,
-    halts: Vec<u8>,
-) -> Result<LevelTexts, AllocError>
-    ensures { IfOk result (λ texts. (w : World) → HoldsFor level bureau.now w → texts_in texts ≡ record { report = report_of (drained_lines w.lines); halts = halts.items }) }
-{
-    Ok(LevelTexts {
-        report: report_text(alloc, bureau.lines(level))?,
-        halts,
-    })
 }
 
 /// A level's halt text.

@@ -1,22 +1,12 @@
 -- What a session writes, which pack it hands out, and when it refuses.
-use Rattle.std.specs.Prelude.{◌≡◌, ◌⊎◌, ℕ, ◌<◌, ◌≤◌, List, [], ◌∷◌, ◌++◌, length, Option, Some, None, Result, Ok, Err, codes}
+use Rattle.std.specs.Prelude.{◌≡◌, ◌⊎◌, ℕ, ◌<◌, ◌≤◌, List, length, Option, Some, None, Result, Ok, Err}
 use Rattle.std.specs.Io.KnownBytes.{Appends}
 use Rattle.s3_bureau.specs.declared.run_fault.RunFault.{RunFault}
 use Rattle.s3_bureau.specs.declared.run_fault.RunFault.TheVariants.{Script, Mount, Device, NoMemory}
-use Rattle.s3_bureau.specs.Runs.{LeavesPack, RunTexts, run_texts}
+use Rattle.s3_bureau.specs.Runs.{LeavesPack, RunTexts, output_of, run_texts}
 use Rattle.s3_cli.specs.Parts.{Parts, parts_of}
 use Rattle.s3_cli.specs.declared.fault.SessionFault.{SessionFault}
 use Rattle.s3_cli.specs.declared.fault.SessionFault.TheVariants.{Run, Input, File}
-
--- a line
-abbrev pub line : List ℕ → List ℕ
-line text = text ++ 10 ∷ []
-
--- the reports and the halt texts, each under its heading
-abbrev pub output_of : RunTexts → List ℕ
-output_of texts =
-    line (codes ":report1") ++ texts.one.report ++ line (codes ":halts1") ++ texts.one.halts
-    ++ line (codes ":report2") ++ texts.two.report ++ line (codes ":halts2") ++ texts.two.halts
 
 -- the texts of a run over a pack and the parts of an input
 abbrev pub texts_of : (pack : List ℕ) → Parts → Result RunTexts RunFault

@@ -5,7 +5,7 @@ ghost use Rattle.std.specs.Io.KnownBytes.{Appends};
 ghost use Rattle.s3_bureau.specs.Texts.{report_of};
 ghost use Rattle.s3_bureau.specs.Inner.Underway.{AreTables};
 ghost use Rattle.s3_bureau.specs.Inner.Unwritten.{unwritten_texts};
-ghost use Rattle.s3_cli.specs.Session.{output_of};
+ghost use Rattle.s3_bureau.specs.Runs.{output_of};
 
 use crate::watched::Sink;
 use s3_bureau::{REPORT_ROOM, ReportTables, Unwritten};

@@ -1,5 +1,5 @@
 -- Small days, computed by the definitions.
-use Rattle.std.proofs.Common.{◌≡◌, ◌≢◌, ℕ, List, [], ◌∷◌, ◌++◌, map, Some, None, refl, ap}
+use Rattle.std.proofs.Common.{◌≡◌, ◌≢◌, ℕ, false, List, [], ◌∷◌, ◌++◌, map, Some, None, refl, ap}
 use Rattle.s3_cards.specs.declared.levels.LevelId.{LevelId}
 use Rattle.s3_cards.specs.declared.levels.LevelId.TheVariants.{One, Two}
 use Rattle.s3_operator.specs.declared.halt_code.HaltCode.{HaltCode}
@@ -21,7 +21,7 @@ halt code = record { job = 1; code = code; details = []; reply = None }
 
 -- a level halts, is answered and goes on
 abbrev good : List Moment
-good = Turned One ∷ Met (Followed One) ∷ Met (Shown One (halt ZeroDivisor)) ∷ Met (Asked One (halt ZeroDivisor) (Some 2)) ∷ Turned One ∷ []
+good = Turned One ∷ Met (Followed One [] [] false (turn One ∷ [])) ∷ Met (Shown One (halt ZeroDivisor)) ∷ Met (Asked One (halt ZeroDivisor) (Some 2)) ∷ Turned One ∷ []
 
 pub good_entries : performed_in good ≡ turn One ∷ reply One 2 ∷ turn One ∷ []
 good_entries = refl

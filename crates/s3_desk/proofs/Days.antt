@@ -1,5 +1,5 @@
 -- A day over a pack: what comes of a bureau that was opened, operated and finished.
-use Rattle.std.proofs.Common.{◌≡◌, ℕ, List, [], true, false, inl, Option, Some, None, Result, Ok, refl, sym, subst}
+use Rattle.std.proofs.Common.{◌≡◌, ℕ, List, [], true, false, inl, Option, Some, None, Result, Ok, refl, sym, ap, ◌∙◌, subst}
 use Rattle.s3_cards.specs.declared.levels.LevelId.{LevelId}
 use Rattle.s3_cards.specs.declared.levels.LevelId.TheVariants.{One, Two}
 use Rattle.s3_operator.specs.Halts.{ShownHalt}
@@ -8,18 +8,21 @@ use Rattle.s3_store.proofs.Frames.{step_refl, step_trans}
 use Rattle.s3_slots.specs.Header.{mounted}
 use Rattle.s3_slots.specs.declared.header.Header.{Header}
 use Rattle.s3_slots.specs.declared.header.MountFault.{MountFault}
-use Rattle.s3_solo.specs.Solo.{solo}
+use Rattle.s3_solo.specs.Solo.{closed, solo}
 use Rattle.s3_solo.specs.World.{JobAtWork, World, at_start}
 use Rattle.s3_level.specs.declared.job.OpenJob.{OpenJob}
 use Rattle.s3_level.specs.Inner.Holds.{HoldsAtWork}
 use Rattle.s3_bureau.specs.declared.entry.Entry.{Entry}
 use Rattle.s3_bureau.specs.Entries.{own}
 use Rattle.s3_bureau.specs.Sharing.{IsCommon, IsOwn}
-use Rattle.s3_bureau.specs.Inner.Held.{HoldsFor, State, header_of, held_by, is_open, level_of, rests}
+use Rattle.s3_bureau.specs.Inner.Held.{HoldsFor, State, header_of, held_by, is_open, level_of, lines_at, rests}
+use Rattle.s3_bureau.specs.declared.outcome.RunLines.{RunLines}
+use Rattle.s3_bureau.specs.Texts.{halt_text_of}
+use Rattle.s3_bureau.proofs.Running.{drained_at}
 use Rattle.s3_bureau.specs.Inner.Underway.{LeavesSectors, Performs, ReadsDeck}
 use Rattle.s3_desk.specs.declared.ends.Bounds.{Bounds}
 use Rattle.s3_desk.specs.declared.ends.Ends.{Ends}
-use Rattle.s3_desk.specs.Inner.Days.{EndSo, IsAnswered, starts_in}
+use Rattle.s3_desk.specs.Inner.Days.{EndSo, HasPrinted, IsAnswered, LeavesLines, starts_in}
 use Rattle.s3_desk.specs.Inner.Desk.{EndsAs, HasReached}
 use Rattle.s3_desk.specs.Inner.Events.{Event}
 use Rattle.s3_desk.specs.Inner.Rounds.{Shows, Sits, SitsFrom}
@@ -119,3 +122,22 @@ sectors_of_day first last entries header contents deck1 deck2 held common idle =
 pub ends_of_day : (first : State) (entries : List Entry) (ends : Ends) (starts : LevelId → World) → ((level : LevelId) → HoldsFor level first (starts level))
     → ((w : World) → HoldsFor One first w → EndsAs ends.one (solo w (own One entries))) → ((w : World) → HoldsFor Two first w → EndsAs ends.two (solo w (own Two entries))) → EndSo starts entries ends
 ends_of_day first entries ends starts held one two = record { one = one (starts One) (held One); two = two (starts Two) (held Two) }
+
+-- ---- what is printed
+pub lines_left : (refusal : Option (ℕ × ℕ)) (entries : List Entry) (first middle last : State) (halts : List ℕ) → Performs entries (held_by first) (held_by middle)
+    → ((level : LevelId) (w : World) → HoldsFor level middle w → HoldsFor level last (closed w)) → ((w : World) → HoldsFor One last w → halts ≡ halt_text_of refusal w.halts)
+    → LeavesLines refusal entries first last halts
+lines_left refusal entries first middle last halts performs closes are = record {
+  one = λ w held. drained_at One last (closed (solo w (own One entries))) (closes One (solo w (own One entries)) (performs One w held));
+  two = λ w held. drained_at Two last (closed (solo w (own Two entries))) (closes Two (solo w (own Two entries)) (performs Two w held));
+  text = λ w held. are (closed (solo w (own One entries))) (closes One (solo w (own One entries)) (performs One w held));
+}
+
+pub day_printed : (starts : LevelId → World) (refusal given : Option (ℕ × ℕ)) (entries : List Entry) (first last : State) (halts : List ℕ) (run : RunLines) → ((level : LevelId) → HoldsFor level first (starts level))
+    → refusal ≡ given → LeavesLines refusal entries first last halts → run.one.lines.items ≡ lines_at One last → run.two.lines.items ≡ lines_at Two last → run.one.halts.items ≡ halts
+    → HasPrinted starts given entries run
+day_printed starts refusal given entries first last halts run held same leaves one two text = record {
+  one = one ∙ leaves.one (starts One) (held One);
+  two = two ∙ leaves.two (starts Two) (held Two);
+  halts = text ∙ (leaves.text (starts One) (held One) ∙ ap (λ (r : Option (ℕ × ℕ)). halt_text_of r (closed (solo (starts One) (own One entries))).halts) same);
+}

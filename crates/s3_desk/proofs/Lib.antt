@@ -1,3 +1,6 @@
+mod Growing
+mod Over
+mod Reporting
 pub mod Asking
 pub mod Cases
 pub mod Days

@@ -64,7 +64,7 @@ solo-append : (w : World) (xs ys : List Action) → solo w (xs ++ ys) ≡ solo (
 solo-append w [] ys = refl
 solo-append w (action ∷ xs) ys = solo-append (step_of w action).world xs ys
 
-after_more : (starts : LevelId → World) (day more : List Moment) (level : LevelId) → world_after starts (day ++ more) level ≡ solo (world_after starts day level) (own level (performed_in more))
+pub after_more : (starts : LevelId → World) (day more : List Moment) (level : LevelId) → world_after starts (day ++ more) level ≡ solo (world_after starts day level) (own level (performed_in more))
 after_more starts day more level =
     ap (λ es. solo (starts level) (own level es)) (performed_joined day more)
     ∙ (ap (solo (starts level)) (own-append level (performed_in day) (performed_in more)) ∙ solo-append (starts level) (own level (performed_in day)) (own level (performed_in more)))

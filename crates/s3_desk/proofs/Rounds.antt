@@ -80,12 +80,19 @@ module _ {M : Type 0} (holds : M → LevelId → World → Type 0) where
       pub mine : own level (performed_in part.day) ≡ []
       pub mine_halts : shown_in level part.day ≡ []
 
-    followed_part : (level : LevelId) (before : List Moment) (is : List Entry) (from to : O) → is ≡ performed_in before → MayFollow meets level from to → Silent level before is from to
-    followed_part level before is from to whole (inl same) = record { part = no_part level before is from to whole same; mine = refl; mine_halts = refl }
-    followed_part level before is from to whole (inr met) = record {
+    followed_part : (level : LevelId) (before : List Moment) (is : List Entry) (now : M) (from to : O) → is ≡ performed_in before → ((level : LevelId) → holds now level (world_after starts before level))
+        → MayFollow holds meets level is now from to → Silent level before is from to
+    followed_part level before is now from to whole held (inl same) = record { part = no_part level before is from to whole same; mine = refl; mine_halts = refl }
+    followed_part level before is now from to whole held (inr follows) = record {
       part = record {
-        day = Met (Followed level) ∷ [];
-        passes = passes_met meets (InTime starts IsCut) before (Followed level) is is from to whole (sym (append-nil is)) met tt;
+        day = Met (Followed level follows.one follows.two follows.is_one_over is) ∷ [];
+        passes = passes_met meets (InTime starts IsCut) before (Followed level follows.one follows.two follows.is_one_over is) is is from to whole (sym (append-nil is)) follows.met
+            (record {
+              one_printed = follows.one_drained (world_after starts before One) (held One);
+              two_printed = follows.two_drained (world_after starts before Two) (held Two);
+              one_over = λ is_over. follows.one_over is_over (world_after starts before One) (held One);
+              performed = whole;
+            });
         his = refl;
         his_halts = refl;
       };
@@ -134,7 +141,9 @@ module _ {M : Type 0} (holds : M → LevelId → World → Type 0) where
     served level first before was is old new from to was_shown is_shown goes serves begun shows =
         let one : Part meets (InTime starts IsCut) level before is from from = work_part level before was is old new from goes begun.whole in
         let one_shows : Halts was_shown level (before ++ one.day) = shows_worked starts before goes.more level was_shown goes.are shows in
-        let two : Silent level (before ++ one.day) is from serves.half = followed_part level (before ++ one.day) is from serves.half one.passes.whole serves.followed in
+        let begun_one : Begun holds first starts (before ++ one.day) is serves.middle = begun_then first starts before (before ++ one.day) was is old serves.middle begun serves.goes one.passes.whole in
+        let two : Silent level (before ++ one.day) is from serves.half =
+        followed_part level (before ++ one.day) is serves.middle from serves.half one.passes.whole (now_held first starts (before ++ one.day) is serves.middle begun_one) serves.followed in
         let two_shows : Halts was_shown level ((before ++ one.day) ++ two.part.day) = shows_kept starts (before ++ one.day) two.part.day level two.mine two.mine_halts was_shown one_shows in
         let begun_two : Begun holds first starts ((before ++ one.day) ++ two.part.day) is serves.middle =
         begun_then first starts before ((before ++ one.day) ++ two.part.day) was is old serves.middle begun serves.goes two.part.passes.whole in
@@ -472,7 +481,7 @@ module _ {M : Type 0} (holds : M → LevelId → World → Type 0) where
         → InTime starts IsCut day moment → InTime starts Others day moment
     cut_so starts IsCut Others go day (Turned level) fits = tt
     cut_so starts IsCut Others go day (Drained level) fits = tt
-    cut_so starts IsCut Others go day (Met (Followed level)) fits = tt
+    cut_so starts IsCut Others go day (Met (Followed level one two is_one_over entries)) fits = record { one_printed = fits.one_printed; two_printed = fits.two_printed; one_over = fits.one_over; performed = fits.performed }
     cut_so starts IsCut Others go day (Met (Shown level halt)) fits = fits
     cut_so starts IsCut Others go day (Met (Asked level halt reply)) fits = record { waits = fits.waits; shown = fits.shown; rests = fits.rests; other_rests = by fits.other_rests }
       where

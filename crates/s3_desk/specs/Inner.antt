@@ -5,4 +5,5 @@ pub mod Desk
 pub mod Events
 pub mod Moments
 pub mod Operated
+pub mod Printing
 pub mod Rounds

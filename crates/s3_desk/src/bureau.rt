@@ -1,12 +1,29 @@
 //! A bureau is operated.
+ghost use Rattle.std.specs.Prelude.{◌≡◌, true};
+ghost use Rattle.s3_solo.specs.World.{World};
+ghost use Rattle.s3_bureau.specs.Inner.Held.{HoldsFor};
+ghost use Rattle.s3_desk.specs.Inner.Desk.{IsOver};
 
 use crate::machine::Machine;
 use s3_bureau::{Bureau, Did, Entry, Halt, Stop, Taken};
-use s3_cards::LevelId;
+use s3_cards::{LevelId, PrintLine};
 use s3_evidence::{Evidence, look};
 use s3_store::PackStore;
 use std::alloc::Global;
 use std::num::NonZeroU16;
+
+/// Whether a level of a bureau has no job left and no line queued, and has shown no halt.
+fn is_over<S: PackStore>(bureau: &Bureau<S>, level: LevelId) -> bool
+    ensures { result ≡ true → (w : World) → HoldsFor level bureau.now w → IsOver w }
+{
+    if bureau.level(level).has_work() {
+        return false;
+    }
+    if bureau.queued(level) > 0 {
+        return false;
+    }
+    bureau.halts(level).is_empty()
+}
 
 impl<S: PackStore> Machine for Bureau<S> {
     ghost use Rattle.s3_bureau.specs.Inner.Held.{HoldsFor};
@@ -28,6 +45,14 @@ impl<S: PackStore> Machine for Bureau<S> {
 
     fn repeat(&mut self, entry: Entry, most: NonZeroU16) -> Result<Taken, Stop> {
         self.repeat(entry, most)
+    }
+
+    fn lines(&self, level: LevelId) -> &[PrintLine] {
+        self.lines(level)
+    }
+
+    fn is_over(&self, level: LevelId) -> bool {
+        is_over(self, level)
     }
 
     fn halts(&self, level: LevelId) -> &[Halt] {

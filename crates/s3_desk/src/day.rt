@@ -1,5 +1,6 @@
-//! A day, from a pack and two decks to the texts of both levels and the pack.
+//! A day, from a pack and two decks to what both levels print and the pack.
 ghost use Rattle.std.specs.Prelude.{◌≡◌, ◌≢◌, ◌+◌, ℕ, [], List, true, false, None, Some, Ok, Err, IfOk, OnOk};
+ghost use Rattle.s3_cards.specs.Deck.{deck_of};
 ghost use Rattle.s3_cards.specs.declared.levels.LevelId.{LevelId};
 ghost use Rattle.s3_store.specs.Inner.State.{KeepsInStep};
 ghost use Rattle.s3_slots.specs.Header.{mounted};
@@ -9,22 +10,25 @@ ghost use Rattle.s3_solo.specs.Solo.{solo};
 ghost use Rattle.s3_solo.specs.World.{World};
 ghost use Rattle.s3_bureau.specs.declared.stop.Stop.TheVariants.{Stopped};
 ghost use Rattle.s3_bureau.specs.Entries.{own};
-ghost use Rattle.s3_bureau.specs.Runs.{Runs, texts_in};
+ghost use Rattle.s3_bureau.specs.Runs.{refusal_of};
 ghost use Rattle.s3_bureau.specs.Script.{entries_of};
 ghost use Rattle.s3_bureau.specs.Sharing.{IsCommon, IsOwn};
 ghost use Rattle.s3_bureau.specs.Inner.Held.{HoldsFor, State, header_of, held_by, is_open};
 ghost use Rattle.s3_bureau.specs.Inner.Stops.{failed_stop};
-ghost use Rattle.s3_bureau.specs.Inner.Underway.{HasTexts, HaveFiles, HaveSlots, RunsOver};
+ghost use Rattle.s3_bureau.specs.Inner.Underway.{HasTexts, HaveFiles, HaveSlots};
+ghost use Rattle.s3_bureau.specs.Inner.Unwritten.{LinesOver, RunsLines, texts_at};
 ghost use Rattle.s3_desk.specs.declared.ends.End.TheVariants.{Cut, OutOfReplies};
-ghost use Rattle.s3_desk.specs.Inner.Days.{EndSo, IsAnswered, outcome_of, starts_in};
+ghost use Rattle.s3_desk.specs.Inner.Days.{EndSo, HasPrinted, IsAnswered, LeavesLines, run_of, starts_in};
 ghost use Rattle.s3_desk.specs.Inner.Desk.{EndsAs, HasReached, HasReplied};
+ghost use Rattle.s3_desk.specs.Inner.Printing.{Goes};
 ghost use Rattle.s3_desk.specs.Inner.Rounds.{SitsFrom};
 
 use crate::desk::operate;
 use crate::ends::{Bounds, Ends};
 use crate::operator::Operator;
+use crate::printing::Printing;
 use s3_bureau::{
-    Bureau, LevelTexts, Outcome, RunFault, Stop, fault_of, fault_of_refusal, finish_texts,
+    Bureau, RunFault, RunLines, Stop, Unwritten, fault_of, fault_of_refusal, finish_halts,
     read_deck,
 };
 use s3_cards::LevelId;
@@ -32,18 +36,19 @@ use s3_labels::RefusedStore;
 use s3_replay::Performed;
 use s3_store::{MemoryStore, PackStore};
 use std::alloc::Global;
+use std::io::Write;
 
 /// What came of a day.
 #[derive(Drop)]
 pub struct Day {
-    /// The texts of both levels, and the pack that they leave.
-    pub outcome: Outcome,
+    /// What both levels have printed, and the pack that they leave.
+    pub run: RunLines,
     /// Where both levels were left.
     pub ends: Ends,
 }
 
-/// A day at the desk over a pack, each level over its own deck: the run of a script of the entries that were performed. What was
-/// performed before is forgotten.
+/// A day at the desk over a pack, each level over its own deck: the run of a script of the entries that were performed. It keeps its
+/// printed lines, and no report is made of them. What was performed before is forgotten.
 ///
 /// A pack that isn't mounted is refused. A deck that can't be read counts as empty, and its level's halt text begins with its fault, as
 /// of job 000. Where memory runs out, the pack is lost.
@@ -57,7 +62,10 @@ pub fn operate_day<O: Operator<Bureau<MemoryStore>>>(
     performed: &mut Performed,
 ) -> Result<Day, RunFault>
     // It is the run of each script that asks for what was performed.
-    ensures runs { (script : List ℕ) → entries_of script ≡ Ok performed.new → Runs pack.items deck1.now deck2.now script (outcome_of result) }
+    ensures runs { (script : List ℕ) → entries_of script ≡ Ok performed.new → RunsLines pack.items deck1.now deck2.now script (run_of result) }
+
+    // It has printed what each level's own world has, once it is closed.
+    ensures printed { IfOk result (λ day. (header : Header) → mounted (contents_of pack.items) ≡ Ok header → HasPrinted (starts_in header (contents_of pack.items) deck1.now deck2.now) (refusal_of (deck_of deck1.now)) performed.new day.run) }
 
     // Each level was left so; one that was cut has taken as many turns as it may, or as many lines were drained.
     ensures ends { IfOk result (λ day. (header : Header) → mounted (contents_of pack.items) ≡ Ok header → EndSo (starts_in header (contents_of pack.items) deck1.now deck2.now) performed.new day.ends) }
@@ -76,6 +84,41 @@ pub fn operate_day<O: Operator<Bureau<MemoryStore>>>(
     day_over(alloc, store, deck1, deck2, operator, bounds, performed)
 }
 
+/// A day at the desk, as `operate_day` has it, whose reports are written as lines are printed.
+pub fn operate_printing<O: Operator<Bureau<MemoryStore>> + Drop, W: Write + Drop>(
+    alloc: Global,
+    pack: Vec<u8>,
+    deck1: &[u8],
+    deck2: &[u8],
+    printing: &mut Printing<O, W>,
+    bounds: Bounds,
+    performed: &mut Performed,
+) -> Result<Day, RunFault>
+    // It is the run of each script that asks for what was performed.
+    ensures runs { (script : List ℕ) → entries_of script ≡ Ok performed.new → RunsLines pack.items deck1.now deck2.now script (run_of result) }
+
+    // It has printed what each level's own world has, once it is closed.
+    ensures printed { IfOk result (λ day. (header : Header) → mounted (contents_of pack.items) ≡ Ok header → HasPrinted (starts_in header (contents_of pack.items) deck1.now deck2.now) (refusal_of (deck_of deck1.now)) performed.new day.run) }
+
+    // Each level was left so; one that was cut has taken as many turns as it may, or as many lines were drained.
+    ensures ends { IfOk result (λ day. (header : Header) → mounted (contents_of pack.items) ≡ Ok header → EndSo (starts_in header (contents_of pack.items) deck1.now deck2.now) performed.new day.ends) }
+    ensures one_cut { IfOk result (λ day. day.ends.one ≡ Cut → HasReached LevelId.One [] performed.new bounds) }
+    ensures two_cut { IfOk result (λ day. day.ends.two ≡ Cut → HasReached LevelId.Two [] performed.new bounds) }
+
+    ensures one_out { IfOk result (λ day. day.ends.one ≡ OutOfReplies → HasReplied LevelId.One [] performed.new) }
+    ensures two_out { IfOk result (λ day. day.ends.two ≡ OutOfReplies → HasReplied LevelId.Two [] performed.new) }
+
+    // The day is a list of moments: each halt is shown as it comes, and asked about at rest; what is performed are turns, drains, and
+    // each reply at its own question.
+    ensures answered { IfOk result (λ day. (header : Header) → mounted (contents_of pack.items) ≡ Ok header → IsAnswered O.meets (starts_in header (contents_of pack.items) deck1.now deck2.now) bounds performed.new day.ends printing.old.operator printing.new.operator) }
+
+    // What was written of the reports is what it has printed, as far as they have come.
+    ensures written { IfOk result (λ day. (header : Header) → mounted (contents_of pack.items) ≡ Ok header → (printing.old.is_one_read ≡ true → refusal_of (deck_of deck1.now) ≡ None)
+        → Goes (record { contents = W.contents printing.old.reports.output.writer; has_failed = printing.old.reports.output.has_failed; place = printing.old.reports.place }) (record { contents = W.contents printing.new.reports.output.writer; has_failed = printing.new.reports.output.has_failed; place = printing.new.reports.place }) day.run.one.lines.items day.run.two.lines.items day.run.one.halts.items) }
+{
+    operate_day(alloc, pack, deck1, deck2, printing, bounds, performed)
+}
+
 /// A day over a store in memory.
 fn day_over<O: Operator<Bureau<MemoryStore>>>(
     alloc: Global,
@@ -87,7 +130,8 @@ fn day_over<O: Operator<Bureau<MemoryStore>>>(
     performed: &mut Performed,
 ) -> Result<Day, RunFault>
     requires { performed.old ≡ [] }
-    ensures runs { RunsOver store deck1.now deck2.now performed.new (outcome_of result) }
+    ensures runs { LinesOver store deck1.now deck2.now performed.new (run_of result) }
+    ensures printed { IfOk result (λ day. (header : Header) → mounted store ≡ Ok header → HasPrinted (starts_in header store deck1.now deck2.now) (refusal_of (deck_of deck1.now)) performed.new day.run) }
     ensures ends { IfOk result (λ day. (header : Header) → mounted store ≡ Ok header → EndSo (starts_in header store deck1.now deck2.now) performed.new day.ends) }
     ensures one_cut { IfOk result (λ day. day.ends.one ≡ Cut → HasReached LevelId.One [] performed.new bounds) }
     ensures two_cut { IfOk result (λ day. day.ends.two ≡ Cut → HasReached LevelId.Two [] performed.new bounds) }
@@ -110,17 +154,24 @@ fn day_over<O: Operator<Bureau<MemoryStore>>>(
         refusal1,
         refusal2,
     );
-    let pack = bureau.into_store().into_bytes();
     match day {
-        Ok((ends, (one, two))) => Ok(Day {
-            outcome: Outcome { one, two, pack },
-            ends,
-        }),
-        Err(stop) => Err(fault_of(stop)),
+        Ok((ends, (halts1, halts2))) => {
+            let unwritten = Unwritten {
+                bureau,
+                halts1,
+                halts2,
+            };
+            let run = unwritten.into_lines();
+            Ok(Day { run, ends })
+        }
+        Err(stop) => {
+            let _store = bureau.into_store();
+            Err(fault_of(stop))
+        }
     }
 }
 
-/// Where both levels were left, and their texts, where each level's deck was refused or not.
+/// Where both levels were left, and their halt texts, where each level's deck was refused or not.
 fn operate_to_end<S: PackStore, O: Operator<Bureau<S>>>(
     alloc: Global,
     bureau: &mut Bureau<S>,
@@ -129,10 +180,11 @@ fn operate_to_end<S: PackStore, O: Operator<Bureau<S>>>(
     performed: &mut Performed,
     refusal1: Option<(u16, u8)>,
     refusal2: Option<(u16, u8)>,
-) -> Result<(Ends, (LevelTexts, LevelTexts)), Stop>
+) -> Result<(Ends, (Vec<u8>, Vec<u8>)), Stop>
     requires takes_more { is_open bureau.old ≡ true }
     requires none { performed.old ≡ [] }
-    ensures texts { IfOk result (λ day. HasTexts refusal1 refusal2 performed.new (held_by bureau.old) (record { one = texts_in day.1.0; two = texts_in day.1.1 })) }
+    ensures texts { IfOk result (λ day. HasTexts refusal1 refusal2 performed.new (held_by bureau.old) (texts_at bureau.new day.1.0.items day.1.1.items)) }
+    ensures lines { IfOk result (λ day. LeavesLines refusal1 performed.new bureau.old bureau.new day.1.0.items) }
     ensures files { OnOk result (HaveFiles performed.new (held_by bureau.old) bureau.new.beside.state.contents) }
     ensures slots { OnOk result (HaveSlots performed.new bureau.old bureau.new.beside.state.contents) }
     ensures flushed { OnOk result (bureau.new.beside.state.stored ≡ bureau.new.beside.state.contents) }
@@ -149,6 +201,6 @@ fn operate_to_end<S: PackStore, O: Operator<Bureau<S>>>(
     ensures not_stopped { result ≢ Err Stopped }
 {
     let ends = operate(alloc, bureau, operator, bounds, performed)?;
-    let texts = finish_texts(alloc, bureau, refusal1, refusal2)?;
-    Ok((ends, texts))
+    let halts = finish_halts(alloc, bureau, refusal1, refusal2)?;
+    Ok((ends, halts))
 }

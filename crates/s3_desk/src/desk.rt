@@ -13,16 +13,16 @@ ghost use Rattle.s3_desk.specs.declared.desk.Went.TheVariants.{On, Rests};
 ghost use Rattle.s3_desk.specs.declared.ends.Bounds.{Bounds};
 ghost use Rattle.s3_desk.specs.declared.ends.End.TheVariants.{Cut as CutOff, Halted, OutOfReplies};
 ghost use Rattle.s3_desk.specs.Inner.Calls.{GoesAfter, KeepsFrom, NeverStopped};
-ghost use Rattle.s3_desk.specs.Inner.Desk.{AsksLevel, Counts, DayEnds, DrainsQueue, EndsAs, GivesReply, HasReached, HasReplied, IsLeft, IsSpent, Keeps, LevelGoesOn, MayFollow, RoundEnds, Spends, TakesTurns, Uses, replies_left, work_left};
+ghost use Rattle.s3_desk.specs.Inner.Desk.{AsksLevel, Counts, DayEnds, DrainsQueue, EndsAs, Follows, GivesReply, HasReached, HasReplied, IsLeft, IsSpent, Keeps, LevelGoesOn, MayFollow, RoundEnds, Spends, TakesTurns, Uses, replies_left, work_left};
 ghost use Rattle.s3_desk.specs.Inner.Rounds.{Asks, Serves, ShowsHalt, SitsFrom, at_level};
 
 use crate::ends::{Bounds, End, Ends};
 use crate::machine::Machine;
-use crate::operator::Operator;
+use crate::operator::{Operator, Papers};
 use s3_bureau::{Action, Did, Entry, Halt, Stop};
 use s3_cards::LevelId;
 use s3_replay::Performed;
-use std::alloc::Global;
+use std::alloc::{AllocError, Global};
 use std::num::NonZeroU16;
 
 /// The most turns that a level takes before the other one has its own: both show their first halts early so.
@@ -227,6 +227,23 @@ fn show<M: Machine, O: Operator<M>>(
     Ok(())
 }
 
+/// Gives the operator what both levels have printed, and what was performed, when a level has gone on.
+fn hand_over<M: Machine, O: Operator<M>>(
+    bureau: &M,
+    level: LevelId,
+    operator: &mut O,
+    performed: &Performed,
+) -> Result<(), AllocError>
+    ensures { OnOk result (Follows M.holds O.meets level performed.now bureau.now operator.old operator.new) }
+{
+    let papers = Papers {
+        one: bureau.lines(LevelId::One),
+        two: bureau.lines(LevelId::Two),
+        is_one_over: bureau.is_over(LevelId::One),
+    };
+    operator.follow(bureau, level, papers, performed)
+}
+
 /// Has the operator follow a level, unless that rests.
 fn follow<M: Machine, O: Operator<M>>(
     bureau: &M,
@@ -236,7 +253,7 @@ fn follow<M: Machine, O: Operator<M>>(
     operator: &mut O,
     performed: &Performed,
 ) -> Result<(), Stop>
-    ensures met { OnOk result (MayFollow O.meets level operator.old operator.new) }
+    ensures met { OnOk result (MayFollow M.holds O.meets level performed.now bureau.now operator.old operator.new) }
     ensures same_left { seat.new.left ≡ seat.old.left }
     ensures same_shown { seat.new.is_shown ≡ seat.old.is_shown }
     ensures fewer { seat.new.answers ≤ seat.old.answers }
@@ -247,11 +264,11 @@ fn follow<M: Machine, O: Operator<M>>(
     match went {
         Went::On => {
             seat.answers = 0;
-            operator.follow(bureau, level, performed)?;
+            hand_over(bureau, level, operator, performed)?;
             Ok(())
         }
         Went::Cut => {
-            operator.follow(bureau, level, performed)?;
+            hand_over(bureau, level, operator, performed)?;
             Ok(())
         }
         Went::Rests => Ok(()),

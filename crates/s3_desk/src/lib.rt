@@ -23,10 +23,12 @@ mod desk;
 mod ends;
 mod machine;
 mod operator;
+mod printing;
 
-pub use day::{Day, operate_day};
+pub use day::{Day, operate_day, operate_printing};
 pub use desk::operate;
 pub use ends::{Bounds, End, Ends};
 pub use machine::Machine;
-pub use operator::Operator;
+pub use operator::{Operator, Papers};
+pub use printing::Printing;
 pub use s3_evidence::Evidence;

@@ -10,9 +10,10 @@ ghost use Rattle.s3_level.specs.Inner.Holds.{IsUpTo, Repeats, Steps};
 ghost use Rattle.s3_bureau.specs.declared.entry.Entry.{Entry};
 ghost use Rattle.s3_bureau.specs.Inner.Stops.{failed_stop};
 ghost use Rattle.s3_desk.specs.Inner.Calls.{GoesAfter, KeepsFrom, NeverStopped};
+ghost use Rattle.s3_desk.specs.Inner.Desk.{HasDrained, TellsOver};
 
 use s3_bureau::{Did, Entry, Halt, Stop, Taken};
-use s3_cards::LevelId;
+use s3_cards::{LevelId, PrintLine};
 use std::alloc::Global;
 use std::num::NonZeroU16;
 
@@ -53,6 +54,14 @@ pub trait Machine {
         ensures not_stopped { (was : List Entry) → NeverStopped after was self.old result }
         ensures kept { KeepsFrom keeps self.old self.new }
         ensures failed { failures self.new ≡ failures self.old + failed_stop result };
+
+    /// The lines that a level has printed and that were drained, in order.
+    fn lines(&self, level: LevelId) -> &[PrintLine]
+        ensures world { HasDrained holds level self.now result.now };
+
+    /// Whether a level has no job left and no line queued, and has shown no halt.
+    fn is_over(&self, level: LevelId) -> bool
+        ensures world { TellsOver holds level self.now result };
 
     /// The halts that a level has shown, in order.
     fn halts(&self, level: LevelId) -> &[Halt]

@@ -1,27 +1,41 @@
 //! Who sits at the desk.
+ghost use Rattle.std.specs.Prelude.{OnOk};
 ghost use Rattle.s3_operator.specs.Inner.Halts.{halt_of};
 ghost use Rattle.s3_desk.specs.Inner.Events.{Asked, Event, Followed, Shown};
 
 use crate::machine::Machine;
 use s3_bureau::Halt;
-use s3_cards::LevelId;
+use s3_cards::{LevelId, PrintLine};
 use s3_replay::Performed;
 use std::alloc::AllocError;
+
+/// What both levels have printed by the time that one of them has gone on.
+#[derive(Clone, Copy)]
+pub struct Papers<'a> {
+    /// The lines of level 1, in order: all that were drained.
+    pub one: &'a [PrintLine],
+    /// The lines of level 2.
+    pub two: &'a [PrintLine],
+    /// Level 1 has no job left and no line queued, and has shown no halt: it prints and shows nothing more.
+    pub is_one_over: bool,
+}
 
 /// Who sits at the desk. No call changes what is operated.
 pub trait Operator<M: Machine> {
     /// By this it may come from one state to the other.
     ghost meets: { Self → Event → Self → Type 0 };
 
-    /// A level has gone on, by turns or by drained lines: for what is told of the work, and for what is written of it as it goes. Each
-    /// job that ended is followed before the next one of its level takes more than its first turn.
+    /// A level has gone on, by turns or by drained lines. The operator gets all lines that both levels have printed by then, and all
+    /// entries that were performed by then: those of the calls before, and more after them. Each job that ended is followed before the
+    /// next one of its level takes more than its first turn.
     fn follow(
         &mut self,
         machine: &M,
         level: LevelId,
+        papers: Papers<'_>,
         performed: &Performed,
     ) -> Result<(), AllocError>
-        ensures { meets self.old (Followed level) self.new };
+        ensures { OnOk result (meets self.old (Followed level papers.entry.one.now papers.entry.two.now papers.entry.is_one_over performed.now) self.new) };
 
     /// A halt now waits in a level: it is shown once, as it comes.
     fn show(

@@ -255,6 +255,13 @@ impl Level {
         &self.lines
     }
 
+    /// The lines that were drained from the level's queue, in order. Nothing else of the level is kept.
+    pub fn into_lines(self) -> Vec<PrintLine>
+        ensures { result.items ≡ self.lines.items }
+    {
+        self.lines
+    }
+
     /// The halts that the level has shown, in order.
     pub fn halts(&self) -> &[Halt]
         ensures value { map halt_of result.now ≡ self.now.halts }

@@ -2,22 +2,23 @@
 
 use crate::pages::{Making, write_paper};
 use crate::saving::{Place, end_day, end_unwritten};
-use crate::streams::Stream;
+use s3_bureau::read_deck;
 use s3_cli::{CliFault, SessionFault};
 use s3_command_line::{FILE, OUT_OF_MEMORY};
 use s3_day_files::{
     DayFault, DayJournal, KeptOutputs, Order, Output, Outputs, Watch, remove_made, write_deck,
 };
 use s3_day_log::{Begun, DayLog};
-use s3_desk::{Day, operate_day};
+use s3_desk::{Day, Printing, operate_printing};
 use s3_host_files::StandardOutput;
-use s3_operating::{Closing, Desk, Journal, Questioned, Reports, Seat, Settings, Tape, Verdict};
+use s3_operating::{Closing, Desk, Journal, Questioned, Seat, Settings, Tape, Verdict};
 use s3_refusals::Reason;
 use s3_replay::Performed;
 use s3_replies::Rules;
+use s3_reports::Reports;
 use std::alloc::{AllocError, Global};
 use std::io;
-use std::io::{IsTerminal, Stdin, Write};
+use std::io::{IsTerminal, Stderr, Stdin, Write};
 
 /// The most bytes that `run` reads.
 const RUN_LIMIT: u64 = 4_194_304;
@@ -45,7 +46,10 @@ const REPLIES_TYPED: &'static str =
     "replies are read from this terminal, one a line, as halts are asked; control-D ends them\n";
 
 /// The desk of the command.
-pub type OwnDesk<'a> = Desk<'a, Stdin, Stream<'a>, Output, Watch<'a>>;
+pub type OwnDesk<'a> = Desk<'a, Stdin, Stderr, Output, Watch<'a>>;
+
+/// The desk with the reports, which go to standard output.
+type PrintingDesk<'a> = Printing<OwnDesk<'a>, StandardOutput<'a>>;
 
 /// The texts of both decks.
 #[derive(Clone, Copy)]
@@ -98,24 +102,28 @@ pub fn operate_prepared<'n, 'a>(
         one: day.one.text(),
         two: day.two.text(),
     };
-    let mut desk = desk_of(rt, order, day, script, log)?;
+    let (_cards, refusal) = read_deck(rt.alloc(), texts.one)?;
+    let reports = Reports::new(rt.alloc(), StandardOutput::new(rt))?;
+    let desk = desk_of(rt, order, day, script, log)?;
+    let mut printing = Printing::new(desk, reports, refusal.is_none());
     if matches!(order.questioned, Questioned::Lines) && rt.stdin().is_terminal() {
-        desk.tell(REPLIES_TYPED);
+        printing.operator.tell(REPLIES_TYPED);
     }
-    match operated(rt.alloc(), order, pack, texts, &mut desk) {
+    match operated(rt.alloc(), order, pack, texts, &mut printing) {
         Ok(over) => {
             let written = match write_decks(rt, order, texts, deck1, deck2) {
-                Ok(()) => write_reports(rt, order, &mut desk, texts, &over, &kept),
+                Ok(()) => write_reports(rt, order, &mut printing, texts, &over, &kept),
                 Err(fault) => Err(fault),
             };
+            let desk = &mut printing.operator;
             match written {
-                Ok(()) => end_day(rt, order, &mut desk, &kept, &over, place),
-                Err(fault) => Err(end_unwritten(rt, order, &mut desk, &kept, fault)),
+                Ok(()) => end_day(rt, order, desk, &kept, &over, place),
+                Err(fault) => Err(end_unwritten(rt, order, desk, &kept, fault)),
             }
         }
         Err(fault) => {
             // if a deck is refused nothing is written, so what was made by trying goes again
-            if desk.refused().is_some() {
+            if printing.operator.refused().is_some() {
                 remove_made(rt, &made);
             }
             Err(fault)
@@ -159,15 +167,13 @@ fn desk_of<'a>(
         wants_decks: order.save.is_some(),
         saves_unfinished: order.saves_unfinished,
     };
-    let reports = Reports::new(rt.alloc(), Stream::Reports(StandardOutput::new(rt)))?;
     Ok(Desk::new(
         rt.alloc(),
         settings,
         one,
         two,
         rt.stdin(),
-        Stream::Messages(rt.stderr()),
-        reports,
+        rt.stderr(),
         Tape::new(script),
         Journal::new(log),
         begun,
@@ -181,18 +187,19 @@ fn operated<'n>(
     order: &Order<'n>,
     pack: Vec<u8>,
     texts: Texts<'_>,
-    desk: &mut OwnDesk<'_>,
+    printing: &mut PrintingDesk<'_>,
 ) -> Result<Over, DayFault<'n>> {
     let mut performed = Performed::new(alloc);
-    let done = operate_day(
+    let done = operate_printing(
         alloc,
         pack,
         texts.one,
         texts.two,
-        desk,
+        printing,
         order.bounds,
         &mut performed,
     );
+    let desk = &mut printing.operator;
     if desk.refused().is_some() {
         return Err(refusal_of(order, desk));
     }
@@ -220,12 +227,13 @@ fn closed<'n>(
 fn write_reports<'n>(
     rt: &HostRuntime,
     order: &Order<'n>,
-    desk: &mut OwnDesk<'_>,
+    printing: &mut PrintingDesk<'_>,
     texts: Texts<'_>,
     over: &Over,
     kept: &KeptOutputs,
 ) -> Result<(), DayFault<'n>> {
-    let is_written = desk.finish_reports(&over.day.outcome);
+    let is_written = printing.reports.finish(&over.day.run);
+    let desk = &mut printing.operator;
     if over.is_reported(order) {
         desk.tell("\n");
         desk.tell(over.closing.summary.as_str());
@@ -234,12 +242,12 @@ fn write_reports<'n>(
         tell_size(rt, texts, desk.script_len());
     }
     test_outputs(order, desk)?;
-    if desk.reports_to().has_lost_reader() {
+    if printing.reports.writer().has_lost_reader() {
         desk.tell(
             "the reader of standard output ended before the reports did; everything else was done\n",
         );
     } else if !is_written {
-        report_output_failure(rt, desk.reports_to().failure());
+        report_output_failure(rt, printing.reports.writer().failure());
         return Err(DayFault::Cli(FILE));
     }
     match order.paper {
@@ -249,7 +257,7 @@ fn write_reports<'n>(
                 limit: kept.limit,
                 is_reported: over.is_reported(order),
             };
-            write_paper(rt, paper, making, desk, &over.day.outcome)
+            write_paper(rt, paper, making, desk, &over.day.run)
         }
         None => Ok(()),
     }

@@ -14,7 +14,6 @@ mod inherited_words;
 mod noted;
 mod pages;
 mod saving;
-mod streams;
 
 use clap::ArgMatches;
 use day::{Prepared, operate_prepared};

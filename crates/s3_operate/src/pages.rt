@@ -2,7 +2,7 @@
 
 use crate::day::OwnDesk;
 use crate::noted::Noted;
-use s3_bureau::Outcome;
+use s3_bureau::RunLines;
 use s3_cards::ebcdic::DIGIT_0;
 use s3_cards::{LevelId, Name, PrintLine};
 use s3_day_files::{DayFault, Form, Paper, unwritten};
@@ -11,7 +11,6 @@ use s3_host_files::{Limit, create_anew};
 use s3_operating::PrintedJob;
 use s3_pages::{PaperFault, parts, write_pdf, write_text};
 use s3_refusals::Shown;
-use s3_report_lines::lines_of_report;
 use std::alloc::{AllocError, Global};
 use std::fs::File;
 use std::io;
@@ -34,10 +33,10 @@ pub fn write_paper<'n>(
     paper: Paper<'n>,
     making: Making,
     desk: &OwnDesk<'_>,
-    outcome: &Outcome,
+    run: &RunLines,
 ) -> Result<(), DayFault<'n>> {
-    let one = write_level(rt, paper, making, desk, LevelId::One, &outcome.one.report)?;
-    let two = write_level(rt, paper, making, desk, LevelId::Two, &outcome.two.report)?;
+    let one = write_level(rt, paper, making, desk, LevelId::One, &run.one.lines)?;
+    let two = write_level(rt, paper, making, desk, LevelId::Two, &run.two.lines)?;
     if making.is_reported {
         report_paper(rt, paper.folder, one.saturating_add(two));
     }
@@ -54,20 +53,17 @@ fn report_paper(rt: &HostRuntime, folder: &str, jobs: usize) {
     };
 }
 
-/// Writes the pages of the jobs of a level, given its report. It returns the number of jobs with pages.
+/// Writes the pages of the jobs of a level, given the lines that it has printed. It returns the number of jobs with pages.
 fn write_level<'n>(
     rt: &HostRuntime,
     paper: Paper<'n>,
     making: Making,
     desk: &OwnDesk<'_>,
     level: LevelId,
-    report: &[u8],
+    lines: &[PrintLine],
 ) -> Result<usize, DayFault<'n>> {
     let jobs = desk.printed_jobs(level)?;
-    let Some(lines) = lines_of_report(rt.alloc(), report)? else {
-        return Err(DayFault::File(paper.folder));
-    };
-    write_jobs(rt, paper, making, level, &jobs, &lines)
+    write_jobs(rt, paper, making, level, &jobs, lines)
 }
 
 /// Writes the pages of some jobs, given the lines of all of them. It returns the number of jobs with pages.

@@ -73,7 +73,7 @@ pub fn end_day<'n>(
         Wish::Leave => return end_declined(rt, order, desk, kept, path, ANSWERED_NO),
         Wish::LeaveByLog => return end_declined(rt, order, desk, kept, path, LOGGED_NO),
     }
-    let sum = checksum(rt.alloc(), &over.day.outcome.pack)?;
+    let sum = checksum(rt.alloc(), &over.day.run.pack)?;
     let saving = Saving {
         path,
         sum: sum.as_str(),
@@ -104,7 +104,7 @@ fn save<'n>(
     // what comes after the save must not need memory for the name of the pack
     let pack = saved_file(rt.alloc(), saving)?;
     let path = saving.path;
-    match saved(rt, order, path, locked, kept.limit, &over.day.outcome.pack) {
+    match saved(rt, order, path, locked, kept.limit, &over.day.run.pack) {
         Ok(()) => end_saved(rt, order, desk, kept, over, path, pack),
         Err(FileFault::Unsynced(error)) => end_unsynced(rt, order, desk, kept, path, pack, &error),
         Err(fault) => end_failed(rt, order, desk, kept, path, &fault),

@@ -6,8 +6,7 @@ use crate::levels::Levels;
 use crate::message::Message;
 use crate::progress::{push_job_at, push_job_number, push_last_job};
 use crate::seat::Seat;
-use memchr::memchr_iter;
-use s3_bureau::{LevelTexts, Outcome};
+use s3_bureau::LevelLines;
 use s3_cards::LevelId;
 use s3_day_log::{BegunJob, Event, Ledger, LevelEnd, Purpose, Verdict, became};
 use s3_desk::{Day, End};
@@ -47,14 +46,9 @@ impl<'a, R: Read + Drop, W: Write + Drop, F: Write + Drop, C: Clock + Drop> Desk
     pub fn close(&mut self, day: &Day, performed: &Performed) -> Result<Closing, AllocError> {
         self.take_all(performed)?;
         self.tell_counted()?;
-        let one = self.close_level(LevelId::One, day.ends.one, &day.outcome.one)?;
-        let two = self.close_level(LevelId::Two, day.ends.two, &day.outcome.two)?;
+        let one = self.close_level(LevelId::One, day.ends.one, &day.run.one)?;
+        let two = self.close_level(LevelId::Two, day.ends.two, &day.run.two)?;
         self.levels.closing(one, two)
-    }
-
-    /// Writes what isn't written of the reports and the halts. Returns whether all of it is written.
-    pub fn finish_reports(&mut self, outcome: &Outcome) -> bool {
-        self.reports.finish(outcome)
     }
 
     /// Closes a level, and logs what came of it.
@@ -62,9 +56,9 @@ impl<'a, R: Read + Drop, W: Write + Drop, F: Write + Drop, C: Clock + Drop> Desk
         &mut self,
         level: LevelId,
         end: End,
-        texts: &LevelTexts,
+        printed: &LevelLines,
     ) -> Result<Ended, AllocError> {
-        let ended = self.levels.close(level, end, texts, self.is_stopped);
+        let ended = self.levels.close(level, end, printed, self.is_stopped);
         self.log_level(level)?;
         if !ended.is_done() {
             self.levels.find_places(level)?;
@@ -78,10 +72,10 @@ impl<'a, R: Read + Drop, W: Write + Drop, F: Write + Drop, C: Clock + Drop> Desk
 
 impl<'a> Levels<'a> {
     /// Closes a level's jobs.
-    fn close(&mut self, level: LevelId, end: End, texts: &LevelTexts, is_stopped: bool) -> Ended {
+    fn close(&mut self, level: LevelId, end: End, printed: &LevelLines, is_stopped: bool) -> Ended {
         let ended = Ended {
             end: self.end_of(level, end, is_stopped),
-            lines: self.lines_of(level, end, texts),
+            lines: self.lines_of(level, end, printed),
         };
         self.seat_mut(level)
             .ledger
@@ -90,9 +84,9 @@ impl<'a> Levels<'a> {
     }
 
     /// How many lines a level has printed: those that were drained, and of one that was cut also those that were queued.
-    fn lines_of(&self, level: LevelId, end: End, texts: &LevelTexts) -> usize {
+    fn lines_of(&self, level: LevelId, end: End, printed: &LevelLines) -> usize {
         match end {
-            End::Cut => memchr_iter(b'\n', &texts.report).count(),
+            End::Cut => printed.lines.len(),
             End::Done | End::Halted | End::OutOfReplies => {
                 usize::try_from(self.tally.of(level).lines).unwrap_or(usize::MAX)
             }

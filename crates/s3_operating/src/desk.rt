@@ -6,12 +6,11 @@ use crate::clock::Clock;
 use crate::journal::Journal;
 use crate::levels::{Levels, Said};
 use crate::message::Message;
-use crate::reports::Reports;
 use crate::seat::Seat;
 use s3_bureau::{Bureau, Halt};
 use s3_cards::LevelId;
 use s3_day_log::{Begun, DayLog, Event};
-use s3_desk::{Bounds, Evidence, Operator};
+use s3_desk::{Bounds, Evidence, Operator, Papers};
 use s3_operator::HaltCode;
 use s3_replay::{Performed, Tape};
 use s3_replies::{Listed, Rules, Typed, next_listed};
@@ -97,7 +96,6 @@ pub struct Desk<'a, R: Read + Drop, W: Write + Drop, F: Write + Drop, C: Clock +
     refused: Option<LevelId>,
     reader: R,
     messages: W,
-    pub(crate) reports: Reports<W>,
     pub(crate) clock: C,
     /// When progress was reported last, or the work was continued.
     told_at: u64,
@@ -119,7 +117,6 @@ impl<'a, R: Read + Drop, W: Write + Drop, F: Write + Drop, C: Clock + Drop> Desk
         two: Seat<'a>,
         reader: R,
         messages: W,
-        reports: Reports<W>,
         tape: Tape<F>,
         journal: Journal<F>,
         opening: Begun,
@@ -134,7 +131,6 @@ impl<'a, R: Read + Drop, W: Write + Drop, F: Write + Drop, C: Clock + Drop> Desk
             refused: None,
             reader,
             messages,
-            reports,
             clock,
             told_at: 0,
             turns_then: 0,
@@ -170,11 +166,6 @@ impl<'a, R: Read + Drop, W: Write + Drop, F: Write + Drop, C: Clock + Drop> Desk
     /// How many bytes the script has, once the desk is closed.
     pub fn script_len(&self) -> u64 {
         self.tape.bytes()
-    }
-
-    /// What the reports are written to.
-    pub fn reports_to(&self) -> &W {
-        self.reports.writer()
     }
 
     /// Whether a script is written.
@@ -596,6 +587,7 @@ impl<'a, S: PackStore, R: Read + Drop, W: Write + Drop, F: Write + Drop, C: Cloc
         &mut self,
         machine: &Bureau<S>,
         level: LevelId,
+        _papers: Papers<'_>,
         performed: &Performed,
     ) -> Result<(), AllocError> {
         self.begin(machine)?;
@@ -604,9 +596,6 @@ impl<'a, S: PackStore, R: Read + Drop, W: Write + Drop, F: Write + Drop, C: Cloc
         self.tape
             .follow(self.levels.alloc, performed.parts(), is_halted)?;
         self.note_jobs(machine, level)?;
-        let is_one_read = self.levels.one.unread.is_none();
-        self.reports
-            .follow(self.levels.alloc, machine, is_one_read)?;
         self.tell_progress(machine)
     }
 

@@ -1,6 +1,5 @@
 //! The operator of `bureau operate`, over any bureau, readers, writers and clock: replies by rules, by a log, by lines and by a
-//! person at a terminal; what is printed meanwhile; the reports, the script and the log as they are written; and the summary of a
-//! day.
+//! person at a terminal; what is printed meanwhile; the script and the log as they are written; and the summary of a day.
 //! docs/OPERATING.md has all of it.
 //!
 //! What is proved here: each call is safe and returns. What is printed and written is tested. The proved parts of the operator are in
@@ -8,6 +7,7 @@
 //!
 //! - what a line or a list of replies says, and which rule answers a halt: `s3_replies`;
 //! - the script that is written: `Tape` of `s3_replay`;
+//! - the reports that are written while lines are printed: `Reports` of `s3_reports`, and `Printing` of `s3_desk`;
 //! - how the jobs of a day ended: `s3_day_log`;
 //! - what a day gives, for this operator as for any: `s3_desk`.
 
@@ -27,7 +27,6 @@ mod levels;
 mod message;
 mod printed;
 mod progress;
-mod reports;
 mod seat;
 mod tally;
 mod unread;
@@ -38,7 +37,6 @@ pub use day_deck::{DayDeck, JoinedFiles};
 pub use desk::{Desk, Questioned, Settings, Wish};
 pub use journal::Journal;
 pub use printed::PrintedJob;
-pub use reports::Reports;
 pub use s3_day_log::Verdict;
 pub use s3_replay::Tape;
 pub use seat::Seat;

@@ -1,19 +1,16 @@
 -- What is known in the middle of a run. These words serve the contracts of private functions and the law on lists of steps: what a run
 -- gives is said in Runs.
-use Rattle.std.specs.Prelude.{◌≡◌, ◌+◌, ◌-◌, ◌/◌, ◌%◌, ◌<◌, ◌++◌, ℕ, List, [], ◌∷◌, Option, Result, Ok, Err, length, slice_index, take, ⊤}
+use Rattle.std.specs.Prelude.{◌≡◌, ◌+◌, ◌-◌, ◌/◌, ◌%◌, ◌<◌, ◌++◌, ℕ, List, [], ◌∷◌, Option, length, slice_index, take}
 use Rattle.std.specs.Int.{from_le_bytes, to_le_bytes, w16}
-use Rattle.std.specs.List.{concat}
 use Rattle.s3_cards.specs.declared.levels.LevelId.{LevelId}
 use Rattle.s3_cards.specs.declared.levels.LevelId.TheVariants.{One, Two}
 use Rattle.s3_cards.specs.Deck.{deck_of}
 use Rattle.s3_cards.specs.Codes.{shown_byte}
-use Rattle.s3_store.specs.Contents.{sectors_of}
 use Rattle.s3_store.specs.Inner.State.{KeepsInStep}
-use Rattle.s3_slots.specs.Header.{mounted, region_of}
+use Rattle.s3_slots.specs.Header.{region_of}
 use Rattle.s3_slots.specs.Slots.{slots_of}
 use Rattle.s3_labels.specs.Areas.{area_of}
 use Rattle.s3_labels.specs.Untangled.{IsUntangled}
-use Rattle.s3_slots.specs.declared.header.Header.{Header}
 use Rattle.s3_solo.specs.Inner.Lines.{drained_lines}
 use Rattle.s3_solo.specs.declared.action.Did.{Did}
 use Rattle.s3_solo.specs.declared.action.Did.TheVariants.{Acted, Idle, Refused}
@@ -24,10 +21,7 @@ use Rattle.s3_bureau.specs.declared.entry.Entry.{Entry}
 use Rattle.s3_bureau.specs.Entries.{own}
 use Rattle.s3_bureau.specs.Inner.Held.{HoldsFor, IsSaid, State, header_of, level_of, rests}
 use Rattle.s3_bureau.specs.Sharing.{IsCommon, IsOwn}
-use Rattle.s3_bureau.specs.declared.outcome.Outcome.{Outcome}
-use Rattle.s3_bureau.specs.declared.run_fault.RunFault.{RunFault}
-use Rattle.s3_bureau.specs.declared.run_fault.RunFault.TheVariants.{Script, Mount, Device, NoMemory}
-use Rattle.s3_bureau.specs.Runs.{HasFiles, LeavesSo, Texts, RunTexts, cards_of, outcome_texts, refusal_of, texts_over}
+use Rattle.s3_bureau.specs.Runs.{HasFiles, Texts, RunTexts, cards_of, refusal_of}
 use Rattle.s3_bureau.specs.Texts.{report_of, halt_text_of}
 use Rattle.s3_bureau.specs.declared.report.ReportTables.{ReportTables}
 
@@ -87,17 +81,6 @@ drained_texts refusal w = record { report = report_of (drained_lines w.lines); h
 pub record HasTexts (refusal1 refusal2 : Option (ℕ × ℕ)) (entries : List Entry) (held : LevelId → World → Type 0) (texts : RunTexts) : Type 0 where
   pub one : (w : World) → held One w → texts.one ≡ drained_texts refusal1 (closed (solo w (own One entries)))
   pub two : (w : World) → held Two w → texts.two ≡ drained_texts refusal2 (closed (solo w (own Two entries)))
-
--- what a run over a store in memory, of these sectors, gives
-abbrev pub RunsOver : (contents : List (List ℕ)) → (deck1 deck2 : List ℕ) → List Entry → Result Outcome RunFault → Type 0
-RunsOver contents deck1 deck2 entries (Ok outcome) =
-    (texts_over (mounted contents) contents deck1 deck2 entries ≡ Ok (outcome_texts outcome))
-    × (((header : Header) → mounted contents ≡ Ok header → LeavesSo header deck1 deck2 entries contents (sectors_of outcome.pack.items))
-    × (outcome.pack.items ≡ concat (sectors_of outcome.pack.items)))
-RunsOver contents deck1 deck2 entries (Err NoMemory) = ⊤
-RunsOver contents deck1 deck2 entries (Err Device) = ⊥
-RunsOver contents deck1 deck2 entries (Err (Script line)) = ⊥
-RunsOver contents deck1 deck2 entries (Err (Mount fault)) = texts_over (mounted contents) contents deck1 deck2 entries ≡ Err (Mount fault)
 
 -- the table has the byte that shows each code
 abbrev pub ShowsCodes : List ℕ → Type 0

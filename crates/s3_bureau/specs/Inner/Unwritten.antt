@@ -7,6 +7,8 @@ use Rattle.s3_store.specs.Contents.{sectors_of}
 use Rattle.s3_slots.specs.Header.{mounted}
 use Rattle.s3_slots.specs.declared.header.Header.{Header}
 use Rattle.s3_bureau.specs.declared.entry.Entry.{Entry}
+use Rattle.s3_bureau.specs.declared.outcome.LevelLines.{LevelLines}
+use Rattle.s3_bureau.specs.declared.outcome.RunLines.{RunLines}
 use Rattle.s3_bureau.specs.declared.unwritten.Unwritten.{Unwritten}
 use Rattle.s3_bureau.specs.declared.run_fault.RunFault.{RunFault}
 use Rattle.s3_bureau.specs.declared.run_fault.RunFault.TheVariants.{Script, Mount, Device, NoMemory}
@@ -23,6 +25,13 @@ texts_at bureau halts1 halts2 = record { one = texts_with One bureau halts1; two
 
 abbrev pub unwritten_texts : Unwritten → RunTexts
 unwritten_texts run = texts_at run.bureau run.halts1.items run.halts2.items
+
+-- the texts of a level's printed lines and its halt text, and those of both levels
+abbrev pub texts_on : LevelLines → Texts
+texts_on level = record { report = report_of level.lines.items; halts = level.halts.items }
+
+abbrev pub lines_texts : RunLines → RunTexts
+lines_texts run = record { one = texts_on run.one; two = texts_on run.two }
 
 -- these are the bytes of the sectors in its store
 pub record SavesAs (run : Unwritten) (saved : List ℕ) : Type 0 where
@@ -49,3 +58,19 @@ RunsUnwritten pack deck1 deck2 script (Err NoMemory) = Unit {0}
 RunsUnwritten pack deck1 deck2 script (Err Device) = ⊥
 RunsUnwritten pack deck1 deck2 script (Err (Script line)) = run_texts pack deck1 deck2 script ≡ Err (Script line)
 RunsUnwritten pack deck1 deck2 script (Err (Mount fault)) = run_texts pack deck1 deck2 script ≡ Err (Mount fault)
+
+-- so it is said of a run whose reports stand as printed lines beside the pack
+abbrev pub RunsLines : (pack deck1 deck2 script : List ℕ) → Result RunLines RunFault → Type 0
+RunsLines pack deck1 deck2 script (Ok run) = (run_texts pack deck1 deck2 script ≡ Ok (lines_texts run)) × LeavesPack pack deck1 deck2 script run.pack.items
+RunsLines pack deck1 deck2 script (Err NoMemory) = Unit {0}
+RunsLines pack deck1 deck2 script (Err Device) = ⊥
+RunsLines pack deck1 deck2 script (Err (Script line)) = run_texts pack deck1 deck2 script ≡ Err (Script line)
+RunsLines pack deck1 deck2 script (Err (Mount fault)) = run_texts pack deck1 deck2 script ≡ Err (Mount fault)
+
+-- and over a store in memory, of these sectors
+abbrev pub LinesOver : (contents : List (List ℕ)) → (deck1 deck2 : List ℕ) → List Entry → Result RunLines RunFault → Type 0
+LinesOver contents deck1 deck2 entries (Ok run) = GivesOver contents deck1 deck2 entries (lines_texts run) (sectors_of run.pack.items) × (run.pack.items ≡ concat (sectors_of run.pack.items))
+LinesOver contents deck1 deck2 entries (Err NoMemory) = ⊤
+LinesOver contents deck1 deck2 entries (Err Device) = ⊥
+LinesOver contents deck1 deck2 entries (Err (Script line)) = ⊥
+LinesOver contents deck1 deck2 entries (Err (Mount fault)) = texts_over (mounted contents) contents deck1 deck2 entries ≡ Err (Mount fault)

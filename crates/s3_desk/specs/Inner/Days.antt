@@ -1,16 +1,19 @@
 -- What comes of a day at the desk over a pack.
-use Rattle.std.specs.Prelude.{◌≡◌, ℕ, List, [], Result, Ok, Err}
+use Rattle.std.specs.Prelude.{◌≡◌, ℕ, List, [], Option, Result, Ok, Err}
 use Rattle.s3_cards.specs.Deck.{deck_of}
 use Rattle.s3_cards.specs.declared.levels.LevelId.{LevelId}
 use Rattle.s3_cards.specs.declared.levels.LevelId.TheVariants.{One, Two}
 use Rattle.s3_slots.specs.declared.header.Header.{Header}
-use Rattle.s3_solo.specs.Solo.{solo}
+use Rattle.s3_solo.specs.Inner.Lines.{drained_lines}
+use Rattle.s3_solo.specs.Solo.{closed, solo}
 use Rattle.s3_solo.specs.World.{World, at_start}
 use Rattle.s3_bureau.specs.declared.entry.Entry.{Entry}
-use Rattle.s3_bureau.specs.declared.outcome.Outcome.{Outcome}
+use Rattle.s3_bureau.specs.declared.outcome.RunLines.{RunLines}
 use Rattle.s3_bureau.specs.declared.run_fault.RunFault.{RunFault}
 use Rattle.s3_bureau.specs.Entries.{own}
+use Rattle.s3_bureau.specs.Inner.Held.{HoldsFor, State, lines_at}
 use Rattle.s3_bureau.specs.Runs.{cards_of}
+use Rattle.s3_bureau.specs.Texts.{halt_text_of}
 use Rattle.s3_desk.specs.declared.day.Day.{Day}
 use Rattle.s3_desk.specs.declared.ends.Bounds.{Bounds}
 use Rattle.s3_desk.specs.declared.ends.End.TheVariants.{Halted}
@@ -19,15 +22,28 @@ use Rattle.s3_desk.specs.Inner.Desk.{AreMet, EndsAs, HasReached}
 use Rattle.s3_desk.specs.Inner.Events.{Event}
 use Rattle.s3_desk.specs.Inner.Moments.{AllShown, AskedInVain, EachFits, InTime, Moment, events_in, performed_in}
 
--- what a day has as a run has it
-abbrev pub outcome_of : Result Day RunFault → Result Outcome RunFault
-outcome_of (Ok day) = Ok day.outcome
-outcome_of (Err fault) = Err fault
+-- what a day leaves, as a run leaves it
+abbrev pub run_of : Result Day RunFault → Result RunLines RunFault
+run_of (Ok day) = Ok day.run
+run_of (Err fault) = Err fault
 
 -- the world of each level before its first entry, over a mounted pack and its own deck
 abbrev pub starts_in : Header → (contents : List (List ℕ)) → (deck1 deck2 : List ℕ) → LevelId → World
 starts_in header contents deck1 deck2 One = at_start One header contents (cards_of (deck_of deck1))
 starts_in header contents deck1 deck2 Two = at_start Two header contents (cards_of (deck_of deck2))
+
+-- A day has printed what each level's world has after its own entries, closed; and level 1's halt text is that of its world, after the
+-- line of a deck that was refused.
+pub record HasPrinted (starts : LevelId → World) (refusal : Option (ℕ × ℕ)) (entries : List Entry) (run : RunLines) : Type 0 where
+  pub one : run.one.lines.items ≡ drained_lines (closed (solo (starts One) (own One entries))).lines
+  pub two : run.two.lines.items ≡ drained_lines (closed (solo (starts Two) (own Two entries))).lines
+  pub halts : run.one.halts.items ≡ halt_text_of refusal (closed (solo (starts One) (own One entries))).halts
+
+-- so it is in a bureau that was finished
+pub record LeavesLines (refusal : Option (ℕ × ℕ)) (entries : List Entry) (old new : State) (halts : List ℕ) : Type 0 where
+  pub one : (w : World) → HoldsFor One old w → lines_at One new ≡ drained_lines (closed (solo w (own One entries))).lines
+  pub two : (w : World) → HoldsFor Two old w → lines_at Two new ≡ drained_lines (closed (solo w (own Two entries))).lines
+  pub text : (w : World) → HoldsFor One old w → halts ≡ halt_text_of refusal (closed (solo w (own One entries))).halts
 
 -- by its own entries each level comes from its world at the start to where it was left
 pub record EndSo (starts : LevelId → World) (entries : List Entry) (ends : Ends) : Type 0 where

@@ -1,16 +1,19 @@
 -- What is done at a desk.
 use Rattle.std.specs.Prelude.{◌≡◌, ◌≢◌, ◌⊎◌, ◌+◌, ◌*◌, ◌-◌, ◌≤◌, ◌<◌, ℕ, Bool, true, false, List, [], ◌∷◌, ◌++◌, length, filter, Option, Some, None, Result, Ok, Err}
 use Rattle.s3_cards.specs.Inner.Levels.{other}
+use Rattle.s3_cards.specs.Printed.{Printed}
 use Rattle.s3_cards.specs.declared.levels.LevelId.{LevelId}
 use Rattle.s3_cards.specs.declared.levels.LevelId.TheVariants.{One, Two}
 use Rattle.s3_operator.specs.Halts.{is_waiting}
 use Rattle.s3_solo.specs.declared.action.Action.{Action}
 use Rattle.s3_solo.specs.declared.action.Action.TheVariants.{Turn, Reply, Drain}
 use Rattle.s3_solo.specs.declared.action.Did.TheVariants.{Acted}
+use Rattle.s3_solo.specs.Inner.Lines.{drained_lines}
 use Rattle.s3_solo.specs.Lines.{is_queued}
 use Rattle.s3_solo.specs.Solo.{solo, step_of}
 use Rattle.s3_solo.specs.World.{World}
 use Rattle.s3_time.specs.Inner.Moves.{IsAtRest}
+use Rattle.s3_level.specs.Inner.Queries.{has_work}
 use Rattle.s3_bureau.specs.declared.entry.Entry.{Entry}
 use Rattle.s3_bureau.specs.declared.stop.Stop.{Stop}
 use Rattle.s3_bureau.specs.Entries.{own}
@@ -37,10 +40,6 @@ replies_in entries = filter (λ entry. is_reply entry.action) entries
 abbrev pub AreMet : {O : Type 0} → (O → Event → O → Type 0) → O → List Event → O → Type 0
 AreMet meets old [] new = new ≡ old
 AreMet {O} meets old (event ∷ events) new = (middle : O) × (meets old event middle × AreMet meets middle events new)
-
--- it may have followed a level that has gone on
-abbrev pub MayFollow : {O : Type 0} → (O → Event → O → Type 0) → LevelId → O → O → Type 0
-MayFollow meets level old new = (new ≡ old) ⊎ meets old (Followed level) new
 
 -- ---- what a level takes of what is left to it
 abbrev pub is_turn : Action → Bool
@@ -116,8 +115,36 @@ EndsAs Halted w = IsLeft w × (is_waiting w.halts ≡ true)
 EndsAs OutOfReplies w = IsLeft w × (is_waiting w.halts ≡ true)
 EndsAs CutOff w = Unit {0}
 
+-- a world that goes on no more: no job is at work or left, no line is queued, and no halt was shown
+pub record IsOver (w : World) : Type 0 where
+  pub no_work : has_work w ≡ false
+  pub empty : is_queued w.lines ≡ false
+  pub no_halts : w.halts ≡ []
+
 -- ---- a level that goes on, over what holds worlds
 module _ {M : Type 0} (holds : M → LevelId → World → Type 0) where
+  -- these lines are those that a level has printed, in each world that is held for it
+  abbrev pub HasDrained : LevelId → M → List Printed → Type 0
+  HasDrained level now lines = (w : World) → holds now level w → lines ≡ drained_lines w.lines
+
+  -- a level that was reported as over is so
+  abbrev pub TellsOver : LevelId → M → Bool → Type 0
+  TellsOver level now is_over = is_over ≡ true → (w : World) → holds now level w → IsOver w
+
+  -- an operator followed a level: it was given what both levels have printed, and what was performed
+  pub record Follows {O : Type 0} (meets : O → Event → O → Type 0) (level : LevelId) (is : List Entry) (now : M) (from to : O) : Type 0 where
+    pub one : List Printed
+    pub two : List Printed
+    pub is_one_over : Bool
+    pub met : meets from (Followed level one two is_one_over is) to
+    pub one_drained : HasDrained One now one
+    pub two_drained : HasDrained Two now two
+    pub one_over : TellsOver One now is_one_over
+
+  -- it may have followed a level
+  abbrev pub MayFollow : {O : Type 0} → (O → Event → O → Type 0) → LevelId → List Entry → M → O → O → Type 0
+  MayFollow meets level is now old new = (new ≡ old) ⊎ Follows meets level is now old new
+
   -- whatever was performed before, these entries have been performed now
   abbrev pub GoesOn : (was is : List Entry) → (old new : M) → Type 0
   GoesOn was is old new = (first : M) → Performs was (holds first) (holds old) → Performs is (holds first) (holds new)

@@ -1,18 +1,20 @@
 -- A day at the desk as one list: what was performed and what the operator met, in order.
-use Rattle.std.specs.Prelude.{◌≡◌, ◌⊎◌, ℕ, List, [], ◌∷◌, ◌++◌, map, Option, Some, None, if◌then◌else◌}
+use Rattle.std.specs.Prelude.{◌≡◌, ◌⊎◌, ℕ, Bool, true, List, [], ◌∷◌, ◌++◌, map, Option, Some, None, if◌then◌else◌}
 use Rattle.std.specs.List.{flat_map}
 use Rattle.s3_cards.specs.Inner.Levels.{other}
+use Rattle.s3_cards.specs.Printed.{Printed}
 use Rattle.s3_cards.specs.declared.levels.LevelId.{LevelId}
 use Rattle.s3_cards.specs.declared.levels.LevelId.TheVariants.{One, Two}
 use Rattle.s3_operator.specs.declared.halt_code.HaltCode.{HaltCode}
 use Rattle.s3_operator.specs.Halts.{ShownHalt, last_halt}
 use Rattle.s3_operator.specs.Replies.{is_allowed}
 use Rattle.s3_solo.specs.declared.action.Action.TheVariants.{Turn, Reply, Drain}
+use Rattle.s3_solo.specs.Inner.Lines.{drained_lines}
 use Rattle.s3_solo.specs.Solo.{solo}
 use Rattle.s3_solo.specs.World.{World}
 use Rattle.s3_bureau.specs.declared.entry.Entry.{Entry}
 use Rattle.s3_bureau.specs.Entries.{own}
-use Rattle.s3_desk.specs.Inner.Desk.{IsLeft}
+use Rattle.s3_desk.specs.Inner.Desk.{IsLeft, IsOver}
 use Rattle.s3_desk.specs.Inner.Events.{Asked, Event, Followed, Shown}
 
 pub data Moment : Type 0 where
@@ -30,7 +32,7 @@ reply_to level code None = []
 reply_to level code (Some digit) = if is_allowed code digit then (record { level = level; action = Reply digit }) ∷ [] else []
 
 abbrev pub performed_by : Event → List Entry
-performed_by (Followed level) = []
+performed_by (Followed level one two is_one_over entries) = []
 performed_by (Shown level halt) = []
 performed_by (Asked level halt reply) = reply_to level halt.code reply
 
@@ -60,7 +62,7 @@ of_level One Two halt = []
 of_level Two One halt = []
 
 abbrev pub shown_by : LevelId → Event → List ShownHalt
-shown_by level (Followed from) = []
+shown_by level (Followed from one two is_one_over entries) = []
 shown_by level (Shown from halt) = of_level level from halt
 shown_by level (Asked from halt reply) = []
 
@@ -103,6 +105,13 @@ module _ (starts : LevelId → World) where
   abbrev pub AllShown : List Moment → LevelId → Type 0
   AllShown day level = as_shown (world_after day level).halts ≡ shown_in level day
 
+  -- the operator is given what each level has printed by then, in the level's own world, and all that was performed
+  pub record FollowedInTime (before : List Moment) (one two : List Printed) (is_one_over : Bool) (entries : List Entry) : Type 0 where
+    pub one_printed : one ≡ drained_lines (world_after before One).lines
+    pub two_printed : two ≡ drained_lines (world_after before Two).lines
+    pub one_over : is_one_over ≡ true → IsOver (world_after before One)
+    pub performed : entries ≡ performed_in before
+
   -- `IsCut` says that a level has come to a limit by these entries
   module _ (IsCut : LevelId → List Entry → Type 0) where
     -- a reply is asked for when the halt waits and was shown, its level is at rest, and the other level is at rest or at a limit
@@ -113,7 +122,7 @@ module _ (starts : LevelId → World) where
       pub other_rests : IsLeft (world_after before (other level)) ⊎ IsCut (other level) (performed_in before)
 
     abbrev pub MetInTime : List Moment → Event → Type 0
-    MetInTime before (Followed level) = Unit {0}
+    MetInTime before (Followed level one two is_one_over entries) = FollowedInTime before one two is_one_over entries
     MetInTime before (Shown level halt) = IsNew (world_after before level).halts (shown_in level before) halt
     MetInTime before (Asked level halt reply) = AskedInTime before level halt
 

@@ -89,7 +89,7 @@ module _ {M : Type 0} (holds : M → LevelId → World → Type 0) where
       pub half : O
       pub goes : GoesOn holds was is old middle
       pub keeps : Keeps holds middle new
-      pub followed : MayFollow meets level from half
+      pub followed : MayFollow holds meets level is middle from half
       pub shows : ShowsHalt level middle half to was_shown is_shown
 
     -- ---- a halt is asked about

@@ -2,7 +2,7 @@ use Rattle.std.proofs.Common.{ℕ, List, ◌++◌, Option, codes, sym, subst, ap
 use Rattle.std.specs.Io.KnownBytes.{Appends}
 use Rattle.std.proofs.KnownBytes.{Appends-trans}
 use Rattle.s3_bureau.specs.Texts.{report_of}
-use Rattle.s3_cli.specs.Session.{line}
+use Rattle.s3_bureau.specs.Runs.{line}
 use Rattle.s3_cli.proofs.output.write_lines.Goals as goal
 
 section_behind : (a b c : Option (List ℕ)) (front heading section : List ℕ) → Appends a b front → Appends b c (heading ++ section) → Appends a c ((front ++ heading) ++ section)

@@ -1,0 +1,2 @@
+mod Reaching
+mod Writing
