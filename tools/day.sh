@@ -25,6 +25,12 @@ operate_day() {
         status=0
         wait "$day" || status=$?
     done
+    # a wait that a signal interrupts has the signal's status; 127 says that the day's own was had
+    if [ -n "$signal" ]; then
+        own=0
+        wait "$day" 2> /dev/null || own=$?
+        [ $own -eq 127 ] || status=$own
+    fi
     [ $status -le 128 ] || tell_stopped "$@"
     exit $status
 }
