@@ -1,13 +1,14 @@
 //! The command line, and what its options ask for.
 ghost use Rattle.std.specs.Prelude.{◌≤◌, ◌≡◌};
 
+use crate::journaled_run::{has_journal, run_journaled};
 use crate::refusal::{fault_of, of_options, of_pack, reading, saving, session_refused};
 use crate::version::write_version;
 use clap::error::ErrorKind;
 use clap::{ArgMatches, Error};
-use s3_cli::{CliFault, Watched, image_with, list, migrate, session_on, write_table};
+use s3_cli::{CliFault, SessionFault, Watched, image_with, list, migrate, session_on, write_table};
 use s3_command_line::{
-    OUT_OF_MEMORY, command, names_standard_error, new_pack, option_without_name,
+    OUT_OF_MEMORY, command, command_of, names_standard_error, new_pack, option_without_name,
 };
 use s3_data_commands::check_pack::check;
 use s3_data_commands::copy::copy;
@@ -15,15 +16,19 @@ use s3_data_commands::delete::delete;
 use s3_data_commands::load::load;
 use s3_data_commands::sort::sort;
 use s3_data_commands::unload::unload;
-use s3_day_files::list_journals;
+use s3_day_files::perform_journal;
 use s3_host_files::{
     FileFault, Limit, LockedPack, StandardOutput, is_input_standard_error, is_standard_error,
     keep_save_apart, read_pack, read_to_save, save_new_pack, save_pack,
 };
+use s3_manual::{Manual, help_notes, is_manual, manual_of, manual_parser};
 use s3_operate::operate;
+use s3_pack_commands::amend::amend_file;
+use s3_pack_commands::check::check_in_json;
+use s3_pack_commands::dump::{dump_pack, restore_pack};
 use s3_paper_commands::status::{DONE, FILE_FAILED, REFUSED, WRONG_WORDS};
-use s3_paper_commands::words::value_of;
-use s3_paper_commands::{compile_files, punch_files};
+use s3_paper_commands::words::{CommandWords, value_of};
+use s3_paper_commands::{compile_files, list_entries, punch_files};
 use s3_refusals::{Refused, Shown};
 use std::io::{IsTerminal, Write};
 use std::{env, fs, io};
@@ -50,6 +55,9 @@ pub fn execute(rt: &HostRuntime) -> u8
         Ok(words) => words,
         Err(_) => return refuse(rt, &OUT_OF_MEMORY),
     };
+    if is_manual(&words) {
+        return print_manual(rt, &words);
+    }
     let command = match command(alloc) {
         Ok(command) => command,
         Err(_) => return refuse(rt, &OUT_OF_MEMORY),
@@ -60,8 +68,49 @@ pub fn execute(rt: &HostRuntime) -> u8
     }
 }
 
+/// Prints a page of the manual, or completions.
+fn print_manual(rt: &HostRuntime, words: &[String]) -> u8
+    ensures { result ≤ 5 }
+{
+    let parser = match manual_parser(rt.alloc()) {
+        Ok(parser) => parser,
+        Err(_) => return refuse(rt, &OUT_OF_MEMORY),
+    };
+    match parser.try_get_matches_from(words) {
+        Ok(matches) => print_asked(rt, &matches),
+        Err(error) => explain(rt, &error, words),
+    }
+}
+
+/// Prints what a command line asks for, given what the manual's parser found.
+fn print_asked(rt: &HostRuntime, matches: &ArgMatches<'_>) -> u8
+    ensures { result ≤ 5 }
+{
+    let text = match manual_of(rt.alloc(), matches) {
+        Ok(Manual::Text(text)) => text,
+        Ok(Manual::NoPage(page)) => return misuse_page(rt, page),
+        Err(_) => return refuse(rt, &OUT_OF_MEMORY),
+    };
+    match StandardOutput::new(rt).write_all(text.as_str().as_bytes()) {
+        Ok(()) => DONE,
+        Err(error) => refuse(rt, &fault_of(&error)),
+    }
+}
+
+/// Reports that the manual has no page of a name.
+fn misuse_page(rt: &HostRuntime, page: &str) -> u8
+    ensures { result ≡ 2 }
+{
+    let page = Shown(page);
+    let _ = writeln!(
+        rt.stderr(),
+        "error: the manual has no page {page}; bureau help man --list prints the names of its pages"
+    );
+    WRONG_WORDS
+}
+
 /// Reports why options can't be followed.
-fn misuse(rt: &HostRuntime, reason: &str) -> u8
+pub fn misuse(rt: &HostRuntime, reason: &str) -> u8
     ensures { result ≡ 2 }
 {
     let _ = writeln!(rt.stderr(), "error: {reason}");
@@ -93,7 +142,7 @@ fn refuse(rt: &HostRuntime, fault: &CliFault) -> u8
 }
 
 /// Reports a refusal, at a terminal in words as well, and gives its exit status.
-fn tell_refused(rt: &HostRuntime, refused: &Refused<'_>) -> u8
+pub fn tell_refused(rt: &HostRuntime, refused: &Refused<'_>) -> u8
     ensures { result ≤ 5 }
 {
     refused.tell(&mut rt.stderr(), rt.stderr().is_terminal())
@@ -111,10 +160,10 @@ fn explain(rt: &HostRuntime, error: &Error, words: &[String]) -> u8
     if error.kind() == ErrorKind::OutOfMemory {
         return refuse(rt, &OUT_OF_MEMORY);
     }
-    let shown = if error.kind() == ErrorKind::DisplayVersion {
-        write_version(rt)
-    } else {
-        error.print(rt)
+    let shown = match error.kind() {
+        ErrorKind::DisplayVersion => write_version(rt),
+        ErrorKind::DisplayHelp => print_help(rt, error, words),
+        _ => error.print(rt),
     };
     if error.use_stderr() {
         return WRONG_WORDS;
@@ -123,6 +172,27 @@ fn explain(rt: &HostRuntime, error: &Error, words: &[String]) -> u8
         Ok(()) => DONE,
         Err(error) => refuse(rt, &fault_of(&error)),
     }
+}
+
+/// Prints the help that a command line asks for: what its parser has, and then the exit statuses and the examples of the command.
+fn print_help(rt: &HostRuntime, error: &Error, words: &[String]) -> io::Result<()> {
+    error.print(rt)?;
+    let Some(command) = helped(words) else {
+        return Ok(());
+    };
+    match help_notes(rt.alloc(), &command) {
+        Ok(text) => StandardOutput::new(rt).write_all(text.as_str().as_bytes()),
+        Err(_) => Err(io::Error::from(io::ErrorKind::OutOfMemory)),
+    }
+}
+
+/// The command whose help a command line asks for, if it is one: the first word, or the second after `help`.
+fn helped(words: &[String]) -> Option<CommandWords> {
+    let first = words.get(1)?;
+    if first.as_str() == "help" {
+        return command_of(words.get(2)?.as_str());
+    }
+    command_of(first.as_str())
 }
 
 /// Whether an argument of a command line that can't be read has the name of the file that standard error is.
@@ -147,7 +217,7 @@ fn is_error_word(rt: &HostRuntime, word: &str) -> bool {
 /// Whether standard error is a file that the command reads or writes.
 fn is_error_used(rt: &HostRuntime, name: &str, matches: &ArgMatches<'_>) -> bool {
     names_standard_error(rt, name, matches)
-        || matches!(name, "run" | "load") && is_input_standard_error(rt)
+        || matches!(name, "run" | "load" | "restore") && is_input_standard_error(rt)
 }
 
 /// Does what the command asks, and gives the exit status. If standard error is a file of the command, it does nothing, and reports
@@ -168,13 +238,27 @@ fn perform<'a>(rt: &'a HostRuntime, matches: &ArgMatches<'a>, words: &[String]) 
         "operate" => operate(rt, matches, words.get(2..).unwrap_or(&[])),
         "punch" => punch_files(rt, matches),
         "compile" => compile_files(rt, matches),
-        "check" => check(rt, matches),
+        "check" if !matches.get_flag("json") => check(rt, matches),
         "copy" => copy(rt, matches),
         "delete" => delete(rt, matches),
         "sort" => sort(rt, matches),
         "unload" => unload(rt, matches),
         "load" => load(rt, matches),
-        "journal" => list_journals(rt, matches),
+        "journal" => perform_journal(rt, matches),
+        "run" if has_journal(matches) => run_journaled(rt, matches),
+        _ => perform_further(rt, name, matches),
+    }
+}
+
+/// Does what a command for packs as text and for single records asks, and gives the exit status.
+fn perform_further(rt: &HostRuntime, name: &str, matches: &ArgMatches<'_>) -> u8
+    ensures { result ≤ 5 }
+{
+    match name {
+        "amend" => amend_file(rt, matches),
+        "check" => check_in_json(rt, matches),
+        "dump" => dump_pack(rt, matches),
+        "restore" => restore_pack(rt, matches),
         _ => perform_plain(rt, name, matches),
     }
 }
@@ -185,6 +269,15 @@ fn perform_plain(rt: &HostRuntime, name: &str, matches: &ArgMatches<'_>) -> u8
 {
     if name == "init" {
         return init(rt, matches);
+    }
+    if name == "entries" {
+        return list_entries(rt, matches);
+    }
+    if name == "list" && matches.get_flag("json") && matches.get_flag("table") {
+        return misuse(
+            rt,
+            "--table and --json are two forms of a list; give one of them",
+        );
     }
     let done = match name {
         "run" => run(rt, matches),
@@ -212,7 +305,7 @@ fn run<'a>(rt: &HostRuntime, matches: &ArgMatches<'a>) -> Result<(), Refused<'a>
 }
 
 /// Reports what a run waits for, if standard input is a terminal.
-fn report_typed(rt: &HostRuntime) {
+pub fn report_typed(rt: &HostRuntime) {
     if rt.stdin().is_terminal() {
         let _ = writeln!(
             rt.stderr(),
@@ -236,7 +329,7 @@ fn session_over<'a>(
 }
 
 /// The pack that a run is given, or a new one.
-fn pack_to_run<'a>(
+pub fn pack_to_run<'a>(
     rt: &HostRuntime,
     matches: &ArgMatches<'a>,
 ) -> Result<(Vec<u8>, Option<LockedPack>), Refused<'a>> {
@@ -269,7 +362,7 @@ fn made_pack<'a>(rt: &HostRuntime) -> Result<Vec<u8>, Refused<'a>> {
 }
 
 /// The most that a new pack lets anyone do: what the pack lets them do that was read, if one was.
-fn limit_of<'a>(rt: &HostRuntime, read: Option<&'a str>) -> Result<Option<Limit>, Refused<'a>> {
+pub fn limit_of<'a>(rt: &HostRuntime, read: Option<&'a str>) -> Result<Option<Limit>, Refused<'a>> {
     match read {
         Some(path) => {
             Limit::of(rt, path).map_err(|error| reading(rt, path, &FileFault::Call(error)))
@@ -368,12 +461,20 @@ fn make_pack<'a>(rt: &HostRuntime, matches: &ArgMatches<'a>) -> Result<NewPack, 
 fn list_files<'a>(rt: &HostRuntime, matches: &ArgMatches<'a>) -> Result<(), Refused<'a>> {
     let path = value_of(matches, "pack");
     let pack = read(rt, path)?;
-    let listed = if matches.get_flag("table") {
+    let listed = if matches.get_flag("json") {
+        list_in_json(rt, &pack)
+    } else if matches.get_flag("table") {
         write_table(rt.alloc(), &pack, &mut StandardOutput::new(rt))
     } else {
         list(rt.alloc(), &pack, &mut StandardOutput::new(rt))
     };
     listed.map_err(|fault| session_refused(fault, false, Some(path)))
+}
+
+/// `bureau list --json`.
+fn list_in_json(rt: &HostRuntime, pack: &[u8]) -> Result<(), SessionFault> {
+    s3_pack_json::write_list(rt.alloc(), pack, &mut StandardOutput::new(rt))?;
+    Ok(())
 }
 
 /// `bureau migrate`.
@@ -413,7 +514,7 @@ fn read_locked<'a>(
     read_to_save(rt, path, save).map_err(|fault| reading(rt, path, &fault))
 }
 
-fn save_to<'a>(
+pub fn save_to<'a>(
     rt: &HostRuntime,
     path: &'a str,
     locked: Option<LockedPack>,

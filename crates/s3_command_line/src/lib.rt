@@ -6,8 +6,10 @@
 
 mod defaults;
 mod faults;
+mod program;
 mod words;
 
 pub use defaults::new_pack;
 pub use faults::{FILE, OUT_OF_MEMORY};
-pub use words::{command, names_standard_error, option_without_name};
+pub use program::{ABOUT, VERSION};
+pub use words::{command, command_of, commands, names_standard_error, option_without_name};

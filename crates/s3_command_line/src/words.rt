@@ -1,6 +1,7 @@
 //! The commands of the program, and their options.
 
 use crate::defaults::{PACK_HELP, TRACKS_TEXT};
+use crate::program::ABOUT;
 use clap::{ArgMatches, Command};
 use s3_data_commands::check_pack::CHECK;
 use s3_data_commands::copy::COPY;
@@ -8,25 +9,151 @@ use s3_data_commands::delete::DELETE;
 use s3_data_commands::load::LOAD;
 use s3_data_commands::sort::SORT;
 use s3_data_commands::unload::UNLOAD;
-use s3_data_commands::words::{PACK, SAVE};
-use s3_host_files::is_standard_error;
-use s3_paper_commands::words::{CommandWords, Takes, Word};
-use s3_paper_commands::{COMPILE, PUNCH};
+use s3_data_commands::words::{AGAIN, JOURNAL as JOURNAL_FILE, JSON, PACK, SAVE};
+use s3_host_files::{is_input_standard_error, is_standard_error};
+use s3_pack_commands::amend::AMEND;
+use s3_pack_commands::dump::{DUMP, RESTORE};
+use s3_paper_commands::status::{
+    DONE, FILE_FAILED, FILE_WRONG, NOTHING_SAVED, OPTIONS_WRONG, PACK_SAVED, PASSED_OVER,
+    PERSON_NEEDED, REFUSED,
+};
+use s3_paper_commands::words::{Choice, CommandWords, Example, Status, Takes, Word};
+use s3_paper_commands::{COMPILE, ENTRIES, PUNCH, STANDARD_INPUT};
 use std::alloc::{AllocError, Global};
 
 /// How many lines of a level may be queued in a new pack, by default.
 const QUOTA: &str = "64";
 
 /// The commands, in the order in which the help lists them.
-const COMMANDS: [CommandWords; 14] = [
-    RUN, OPERATE, JOURNAL, PUNCH, COMPILE, INIT, LIST, CHECK, COPY, DELETE, SORT, UNLOAD, LOAD,
-    MIGRATE,
-];
+pub fn commands() -> [CommandWords; 18] {
+    [
+        run_words(),
+        operate_words(),
+        journal_words(),
+        punch_words(),
+        compile_words(),
+        entries_words(),
+        init_words(),
+        list_words(),
+        check_words(),
+        copy_words(),
+        delete_words(),
+        sort_words(),
+        unload_words(),
+        load_words(),
+        amend_words(),
+        dump_words(),
+        restore_words(),
+        migrate_words(),
+    ]
+}
+
+/// The command of this name.
+pub fn command_of(name: &str) -> Option<CommandWords> {
+    commands().iter().find(|known| known.name == name).copied()
+}
+
+// A proof expands a constant in each function that names it. So each command has one function that does, and the others call it.
+
+fn run_words() -> CommandWords {
+    RUN
+}
+
+fn operate_words() -> CommandWords {
+    OPERATE
+}
+
+fn journal_words() -> CommandWords {
+    JOURNAL
+}
+
+fn punch_words() -> CommandWords {
+    PUNCH
+}
+
+fn compile_words() -> CommandWords {
+    COMPILE
+}
+
+fn entries_words() -> CommandWords {
+    ENTRIES
+}
+
+fn init_words() -> CommandWords {
+    INIT
+}
+
+fn list_words() -> CommandWords {
+    LIST
+}
+
+fn check_words() -> CommandWords {
+    CHECK
+}
+
+fn copy_words() -> CommandWords {
+    COPY
+}
+
+fn delete_words() -> CommandWords {
+    DELETE
+}
+
+fn sort_words() -> CommandWords {
+    SORT
+}
+
+fn unload_words() -> CommandWords {
+    UNLOAD
+}
+
+fn load_words() -> CommandWords {
+    LOAD
+}
+
+fn amend_words() -> CommandWords {
+    AMEND
+}
+
+fn dump_words() -> CommandWords {
+    DUMP
+}
+
+fn restore_words() -> CommandWords {
+    RESTORE
+}
+
+fn migrate_words() -> CommandWords {
+    MIGRATE
+}
 
 /// `bureau run` and its options.
 const RUN: CommandWords = CommandWords {
     name: "run",
     about: "Runs the decks and the script of standard input",
+    aliases: &[],
+    statuses: &[
+        Status {
+            number: DONE,
+            meaning: "the script is performed, even if jobs halted",
+        },
+        Status {
+            number: REFUSED,
+            meaning: "the input, the script or the pack is refused, or memory ran out; nothing is saved",
+        },
+        OPTIONS_WRONG,
+        FILE_WRONG,
+    ],
+    examples: &[
+        Example {
+            line: "bureau run < day.txt > report.txt",
+            purpose: "Performs a script over a new pack",
+        },
+        Example {
+            line: "bureau run --pack shop.pack --save shop.pack < day.txt",
+            purpose: "Performs a script over a pack, and saves the pack",
+        },
+    ],
     words: &[
         Word {
             name: "pack",
@@ -38,13 +165,71 @@ const RUN: CommandWords = CommandWords {
             takes: Takes::Value("FILE"),
             help: "Where the pack is written as the run leaves it",
         },
+        Word {
+            help: "The journal of the pack, which gets a line of this run; needs --save",
+            ..JOURNAL_FILE
+        },
+        Word {
+            help: "Runs even if the journal has the decks, or doesn't have the pack last; needs --journal",
+            ..AGAIN
+        },
     ],
 };
+
+/// The forms in which pages are written.
+const FORMS: &'static [Choice] = &[
+    Choice {
+        name: "text",
+        help: "Plain text, with a form feed before each further page",
+    },
+    Choice {
+        name: "pdf",
+        help: "PDF documents of forms with bars",
+    },
+];
 
 /// `bureau operate` and its options.
 const OPERATE: CommandWords = CommandWords {
     name: "operate",
     about: "Runs the decks of both levels until they are done, and asks for replies as halts come",
+    aliases: &[],
+    statuses: &[
+        Status {
+            number: DONE,
+            meaning: "both levels are done, and each job came to its end",
+        },
+        Status {
+            number: REFUSED,
+            meaning: "the day is refused, or memory ran out; nothing is saved",
+        },
+        OPTIONS_WRONG,
+        Status {
+            number: FILE_FAILED,
+            meaning: "a file failed, or the pack was changed meanwhile; nothing is saved unless a line says so",
+        },
+        Status {
+            number: PERSON_NEEDED,
+            meaning: "a level waits, was stopped or has a deck that can't be read, or the operator answered no",
+        },
+        Status {
+            number: PASSED_OVER,
+            meaning: "both levels are done, and a job was passed over or ended by a reply",
+        },
+    ],
+    examples: &[
+        Example {
+            line: "bureau operate --pack shop.pack --save shop.pack --deck1 billing.deck --deck2 payroll.deck",
+            purpose: "Runs a deck in each level, asks for replies, and saves the pack",
+        },
+        Example {
+            line: "bureau operate --deck1 billing.rpg --jobs",
+            purpose: "Lists the jobs of a deck, and runs none",
+        },
+        Example {
+            line: "bureau operate --pack shop.pack --save shop.pack --deck1 day.deck --replies rules --log day.log --quiet > report.txt",
+            purpose: "Runs a deck at night: rules answer the halts",
+        },
+    ],
     words: &[
         Word {
             name: "pack",
@@ -123,8 +308,8 @@ const OPERATE: CommandWords = CommandWords {
         },
         Word {
             name: "form",
-            takes: Takes::Value("FORM"),
-            help: "How pages are written: text or pdf; text if none is given",
+            takes: Takes::OneOf("FORM", FORMS),
+            help: "How pages are written; text by default; needs --paper",
         },
         Word {
             name: "plain",
@@ -157,6 +342,16 @@ const OPERATE: CommandWords = CommandWords {
             help: "Does nothing, with status 0, if the journal has the decks; needs --journal",
         },
         Word {
+            name: "keep",
+            takes: Takes::U16("N"),
+            help: "Keeps the last N packs that --save replaces, as FILE.1, the newest, to FILE.N; needs --save",
+        },
+        Word {
+            name: "exit-zero",
+            takes: Takes::Value("STATUS"),
+            help: "Ends with status 0 in place of 5, 4, or both as 4,5; log and journal keep the status of the day",
+        },
+        Word {
             name: "overwrite",
             takes: Takes::Nothing,
             help: "Replaces a script, a log, a deck or a pack that exists, and writes into a folder of pages that isn't empty",
@@ -173,6 +368,29 @@ const OPERATE: CommandWords = CommandWords {
 const JOURNAL: CommandWords = CommandWords {
     name: "journal",
     about: "Lists the days of journals",
+    aliases: &[],
+    statuses: &[
+        Status {
+            number: DONE,
+            meaning: "each line of the journals is valid",
+        },
+        Status {
+            number: REFUSED,
+            meaning: "a journal is refused, or memory ran out",
+        },
+        OPTIONS_WRONG,
+        FILE_WRONG,
+    ],
+    examples: &[
+        Example {
+            line: "bureau journal shop.journal",
+            purpose: "Lists the days of a pack",
+        },
+        Example {
+            line: "bureau journal --verify shop.journal",
+            purpose: "Prints how many lines the journal has",
+        },
+    ],
     words: &[
         Word {
             name: "file",
@@ -184,6 +402,26 @@ const JOURNAL: CommandWords = CommandWords {
             takes: Takes::Nothing,
             help: "Prints how many lines a journal has, if each has the checksum of the line before it",
         },
+        Word {
+            name: "json",
+            takes: Takes::Nothing,
+            help: "Prints a JSON object for each line of a journal",
+        },
+        Word {
+            name: "pack",
+            takes: Takes::Value("FILE"),
+            help: "Shows which days' packs are this pack or are kept beside it",
+        },
+        Word {
+            name: "restore",
+            takes: Takes::U32("DAY"),
+            help: "Puts the kept pack back that this day left, 0 the one before day 1; needs --save",
+        },
+        Word {
+            name: "save",
+            takes: Takes::Value("FILE"),
+            help: "The pack that --restore replaces, and keeps",
+        },
     ],
 };
 
@@ -191,6 +429,26 @@ const JOURNAL: CommandWords = CommandWords {
 const INIT: CommandWords = CommandWords {
     name: "init",
     about: "Writes a new pack with free labels",
+    aliases: &[],
+    statuses: &[
+        PACK_SAVED,
+        Status {
+            number: REFUSED,
+            meaning: "refused: the regions are too large, the old pack is damaged, or with --new the file exists",
+        },
+        OPTIONS_WRONG,
+        FILE_WRONG,
+    ],
+    examples: &[
+        Example {
+            line: "bureau init --new --save shop.pack",
+            purpose: "Makes a pack with 10 tracks a region, if the file doesn't exist",
+        },
+        Example {
+            line: "bureau init --new --save next.pack --from shop.pack --level1 20",
+            purpose: "Makes a pack whose masters are the files of level 1 of another",
+        },
+    ],
     words: &[
         SAVE,
         Word {
@@ -235,6 +493,23 @@ const INIT: CommandWords = CommandWords {
 const LIST: CommandWords = CommandWords {
     name: "list",
     about: "Prints a line for each used label slot of a pack",
+    aliases: &[],
+    statuses: &[
+        Status {
+            number: DONE,
+            meaning: "the list is printed",
+        },
+        Status {
+            number: REFUSED,
+            meaning: "the pack is refused, or memory ran out",
+        },
+        OPTIONS_WRONG,
+        FILE_WRONG,
+    ],
+    examples: &[Example {
+        line: "bureau list --pack shop.pack --table",
+        purpose: "Shows files, regions and free space",
+    }],
     words: &[
         PACK,
         Word {
@@ -242,6 +517,7 @@ const LIST: CommandWords = CommandWords {
             takes: Takes::Nothing,
             help: "A table instead, with regions, free space, extents and dates",
         },
+        JSON,
     ],
 };
 
@@ -249,14 +525,25 @@ const LIST: CommandWords = CommandWords {
 const MIGRATE: CommandWords = CommandWords {
     name: "migrate",
     about: "Brings a pack of format 1 into format 2",
+    aliases: &[],
+    statuses: &[PACK_SAVED, NOTHING_SAVED, OPTIONS_WRONG, FILE_WRONG],
+    examples: &[Example {
+        line: "bureau migrate --pack old.pack --save new.pack",
+        purpose: "Writes an old pack in the second format",
+    }],
     words: &[PACK, SAVE],
 };
+
+/// What the help of the program prints at its end.
+const AFTER_HELP: &str =
+    "bureau help man prints the manual, and bureau help completions SHELL the completions of bash, zsh or fish.";
 
 /// The command line of the program. It is refused only if memory runs out.
 pub fn command<'a>(alloc: Global) -> Result<Command<'a>, AllocError> {
     let commands = parsers(alloc)?;
     Command::new(alloc, "bureau")
-        .about("A dual-program RPG II job shop")
+        .about(ABOUT)
+        .after_help(AFTER_HELP)
         // `--version` prints what the executable has, and not the parser
         .version("")
         .subcommand_required(true)
@@ -266,18 +553,15 @@ pub fn command<'a>(alloc: Global) -> Result<Command<'a>, AllocError> {
 /// The parsers of all commands.
 fn parsers<'a>(alloc: Global) -> Result<Vec<Command<'a>>, AllocError> {
     let mut parsers = Vec::new(alloc);
-    for command in &COMMANDS {
+    for command in &commands() {
         parsers.push(command.parser(alloc)?)?;
     }
     Ok(parsers)
 }
 
-/// How the help shows a value that is the name of a file or a folder.
-const FILES: [&str; 3] = ["FILE", "DIR", "LOG"];
-
 /// The option of a command that has an empty file name, if one has; an empty text for a file without an option.
 pub fn option_without_name(command: &str, matches: &ArgMatches<'_>) -> Option<&'static str> {
-    let command = COMMANDS.iter().find(|known| known.name == command)?;
+    let command = command_of(command)?;
     let word = command
         .words
         .iter()
@@ -290,7 +574,7 @@ pub fn option_without_name(command: &str, matches: &ArgMatches<'_>) -> Option<&'
 
 /// Whether an option of a command names the file that standard error is. Nothing may be printed then: it would get into that file.
 pub fn names_standard_error(rt: &HostRuntime, command: &str, matches: &ArgMatches<'_>) -> bool {
-    let Some(command) = COMMANDS.iter().find(|known| known.name == command) else {
+    let Some(command) = command_of(command) else {
         return false;
     };
     command
@@ -302,23 +586,34 @@ pub fn names_standard_error(rt: &HostRuntime, command: &str, matches: &ArgMatche
 /// Whether an option names the file that standard error is.
 fn is_standard_error_of(rt: &HostRuntime, word: Word, matches: &ArgMatches<'_>) -> bool {
     match word.takes {
-        Takes::Value(shown) | Takes::Needed(shown) if FILES.contains(&shown) => {
-            match matches.get_str(word.name) {
-                Some(name) => is_standard_error(rt, name),
-                None => false,
-            }
-        }
         Takes::Files | Takes::FollowingFiles => {
             has_standard_error(rt, matches.get_strs(word.name).unwrap_or(&[]))
         }
-        _ => false,
+        takes => takes.is_file() && is_error_value(rt, matches.get_str(word.name)),
+    }
+}
+
+/// Whether a value, if it is given, leads to the file that standard error is.
+fn is_error_value(rt: &HostRuntime, name: Option<&str>) -> bool {
+    match name {
+        Some(name) => is_error_name(rt, name),
+        None => false,
+    }
+}
+
+/// Whether a name leads to the file that standard error is, or stands for standard input, which is that file.
+fn is_error_name(rt: &HostRuntime, name: &str) -> bool {
+    if name == STANDARD_INPUT {
+        is_input_standard_error(rt)
+    } else {
+        is_standard_error(rt, name)
     }
 }
 
 /// Whether one of these names leads to the file that standard error is.
 fn has_standard_error(rt: &HostRuntime, names: &[&str]) -> bool {
     for name in names {
-        if is_standard_error(rt, *name) {
+        if is_error_name(rt, *name) {
             return true;
         }
     }
@@ -328,13 +623,10 @@ fn has_standard_error(rt: &HostRuntime, names: &[&str]) -> bool {
 /// Whether an option of a command line has an empty file name.
 fn has_empty_name(word: Word, matches: &ArgMatches<'_>) -> bool {
     match word.takes {
-        Takes::Value(shown) | Takes::Needed(shown) if FILES.contains(&shown) => {
-            matches.get_str(word.name) == Some("")
-        }
         Takes::Files | Takes::FollowingFiles => {
             let names = matches.get_strs(word.name).unwrap_or(&[]);
             names.iter().any(|name| name.is_empty())
         }
-        _ => false,
+        takes => takes.is_file() && matches.get_str(word.name) == Some(""),
     }
 }

@@ -1,4 +1,4 @@
-//! How the cells of a table are written, by the words of `unload` and `load`.
+//! How the cells of a table are written, by the options of `unload` and `load`.
 
 use crate::fault::Fault;
 use crate::filled::Words;
@@ -20,7 +20,7 @@ pub struct Reading<'a> {
     pub thousands: Option<&'a str>,
 }
 
-/// The layout with the cells that the words ask for.
+/// The layout with the cells that the options ask for.
 pub fn with_cells(
     rt: &HostRuntime,
     matches: &ArgMatches<'_>,

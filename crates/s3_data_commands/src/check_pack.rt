@@ -5,24 +5,45 @@ use crate::fault::Fault;
 use crate::filled::{Words, push_name};
 use crate::pack_words::{mount_words, pack_of, refused};
 use crate::sentences::output_sentence;
-use crate::words::PACK;
+use crate::words::{JSON, PACK};
 use clap::ArgMatches;
 use s3_host_files::StandardOutput;
 use s3_pack_check::{CheckFault, Wrong, check_pack, push_cause};
-use s3_paper_commands::status::DONE;
-use s3_paper_commands::words::{CommandWords, value_of};
+use s3_paper_commands::status::{DONE, FILE_WRONG, OPTIONS_WRONG, PERSON_NEEDED, REFUSED};
+use s3_paper_commands::words::{CommandWords, Example, Status, value_of};
 use s3_refusals::Shown;
 use std::alloc::{AllocError, Global};
 use std::io::Write;
 
-/// `bureau check` and its words.
+/// `bureau check` and its options.
 pub const CHECK: CommandWords = CommandWords {
     name: "check",
-    about: "Tells all that is wrong with a pack: damaged labels and indexes, each with the reason",
-    words: &[PACK],
+    about: "Prints all that is wrong with a pack: damaged labels and indexes, each with the reason",
+    aliases: &[],
+    statuses: &[
+        Status {
+            number: DONE,
+            meaning: "nothing is wrong with the pack",
+        },
+        Status {
+            number: REFUSED,
+            meaning: "the pack is refused, or memory ran out",
+        },
+        OPTIONS_WRONG,
+        FILE_WRONG,
+        Status {
+            number: PERSON_NEEDED,
+            meaning: "something is wrong: standard output has a line for each label or index",
+        },
+    ],
+    examples: &[Example {
+        line: "bureau check --pack shop.pack",
+        purpose: "Prints what is wrong with a pack",
+    }],
+    words: &[PACK, JSON],
 };
 
-/// Does what the words of `bureau check` ask, and gives the exit status: 0 where nothing is wrong with the pack, 4 where something
+/// Does what the options of `bureau check` ask, and gives the exit status: 0 where nothing is wrong with the pack, 4 where something
 /// is, which standard output tells a line each; else that of the refusal, whose sentence it wrote on standard error.
 pub fn check(rt: &HostRuntime, matches: &ArgMatches<'_>) -> u8
     ensures { result ≤ 4 }
@@ -43,7 +64,7 @@ fn check_file(rt: &HostRuntime, path: &str) -> Result<(), Fault> {
 }
 
 /// All that is wrong with the pack at a path.
-fn wrongs_of(rt: &HostRuntime, path: &str) -> Result<Vec<Wrong>, Fault> {
+pub fn wrongs_of(rt: &HostRuntime, path: &str) -> Result<Vec<Wrong>, Fault> {
     let pack = pack_of(rt, path)?;
     match check_pack(rt.alloc(), &pack) {
         Ok(wrongs) => Ok(wrongs),
@@ -65,7 +86,7 @@ fn write_wrongs(rt: &HostRuntime, wrongs: &[Wrong]) -> Result<(), Fault> {
 }
 
 /// That so many slots of a pack need a person.
-fn waits(alloc: Global, path: &str, count: usize) -> Fault {
+pub fn waits(alloc: Global, path: &str, count: usize) -> Fault {
     match waiting_sentence(alloc, path, count) {
         Ok(sentence) => Fault::Waits(sentence),
         Err(_) => Fault::NoMemory,

@@ -2,35 +2,39 @@
 ghost use Rattle.std.specs.Prelude.{◌≤◌, ◌<◌, IfOk};
 
 use crate::fault::Fault;
+use crate::journaling::journal_for;
 use crate::pack_words::{
-    area_number, care_sentence, keep_input, label_of, no_room_for_copy, pack_of, pack_to_change,
-    refused, saved, tell_done,
+    Save, area_number, care_sentence, keep_input, label_of, no_room_for_copy, pack_of,
+    pack_to_change, refused, saved, tell_done,
 };
-use crate::words::{LABEL, OVERWRITE};
+use crate::words::{AGAIN, AREA, AREAS, JOURNAL, LABEL, OVERWRITE};
 use clap::ArgMatches;
 use s3_cards::Name;
+use s3_journal::{Posting, Work};
 use s3_labels::LabelFault;
 use s3_pack_care::CareFault;
-use s3_paper_commands::status::DONE;
-use s3_paper_commands::words::{CommandWords, Takes, Word, value_of};
+use s3_paper_commands::status::{DONE, FILE_WRONG, NOTHING_SAVED, OPTIONS_WRONG, PACK_SAVED};
+use s3_paper_commands::words::{CommandWords, Example, Takes, Word, value_of};
 use s3_refusals::Shown;
 use std::alloc::{AllocError, Global};
 
-/// `bureau copy` and its words.
+/// `bureau copy` and its options.
 pub const COPY: CommandWords = CommandWords {
     name: "copy",
     about: "Copies a file of a pack, with its index, into an area of another or the same",
+    aliases: &[],
+    statuses: &[PACK_SAVED, NOTHING_SAVED, OPTIONS_WRONG, FILE_WRONG],
+    examples: &[Example {
+        line: "bureau copy --pack shop.pack --area 1 --label CUSTOM --into shop.pack --to-area 0 --save shop.pack",
+        purpose: "Copies a file of level 1 to the masters",
+    }],
     words: &[
         Word {
             name: "pack",
             takes: Takes::Needed("FILE"),
             help: "The pack that has the file",
         },
-        Word {
-            name: "area",
-            takes: Takes::Needed("AREA"),
-            help: "The area of the file: 0 for the masters, 1 or 2 for a level",
-        },
+        AREA,
         LABEL,
         Word {
             name: "into",
@@ -39,7 +43,7 @@ pub const COPY: CommandWords = CommandWords {
         },
         Word {
             name: "to-area",
-            takes: Takes::Needed("AREA"),
+            takes: Takes::NeededOneOf("AREA", AREAS),
             help: "The area that gets it",
         },
         Word {
@@ -52,11 +56,16 @@ pub const COPY: CommandWords = CommandWords {
             takes: Takes::Value("LABEL"),
             help: "The label of the copy, if it is another one",
         },
+        Word {
+            help: "The journal of the pack that gets the copy; it gets a line of this command",
+            ..JOURNAL
+        },
+        AGAIN,
         OVERWRITE,
     ],
 };
 
-/// Does what the words of `bureau copy` ask, and gives the exit status: 0 where it is done, else that of the refusal, whose
+/// Does what the options of `bureau copy` ask, and gives the exit status: 0 where it is done, else that of the refusal, whose
 /// sentence it wrote on standard error; then nothing was saved.
 pub fn copy(rt: &HostRuntime, matches: &ArgMatches<'_>) -> u8
     ensures { result ≤ 4 }
@@ -85,7 +94,7 @@ struct Order<'a> {
 }
 
 impl<'a> Order<'a> {
-    /// What the words ask for.
+    /// What the options ask for.
     fn read(rt: &HostRuntime, matches: &ArgMatches<'a>) -> Result<Order<'a>, Fault>
         ensures area { IfOk result (λ order. order.area < 3) }
         ensures to_area { IfOk result (λ order. order.to_area < 3) }
@@ -116,8 +125,14 @@ fn copy_file(rt: &HostRuntime, matches: &ArgMatches<'_>) -> Result<(), Fault> {
     if locked.is_none() {
         keep_input(rt, order.save, order.path)?;
     }
+    let journal = journal_for(rt, matches, order.into, &into, Posting::Nothing)?;
     let pack = with_copy(rt, order, into)?;
-    let saved = saved(rt, matches, order.save, locked, &pack)?;
+    let save = Save {
+        locked,
+        journal,
+        work: Work::Copy,
+    };
+    let saved = saved(rt, matches, order.save, save, &pack)?;
     tell_done(rt, copied_sentence(rt.alloc(), order), saved)
 }
 

@@ -3,22 +3,37 @@ ghost use Rattle.std.specs.Prelude.{◌≤◌, ◌<◌};
 
 use crate::fault::Fault;
 use crate::filled::push_name;
+use crate::journaling::journal_for;
 use crate::pack_words::{
-    area_number, care_sentence, label_of, pack_to_change, refused, saved, tell_done, wrong_words,
+    Save, area_number, care_sentence, label_of, pack_to_change, refused, saved, tell_done,
+    wrong_words,
 };
-use crate::words::{AREA, LABEL, OVERWRITE, PACK, SAVE};
+use crate::words::{AGAIN, AREA, JOURNAL, LABEL, OVERWRITE, PACK, SAVE};
 use clap::ArgMatches;
+use s3_journal::{Posting, Work};
 use s3_listing::{SlotFile, file_in_slot};
 use s3_pack_care::{CareFault, Chosen};
-use s3_paper_commands::status::DONE;
-use s3_paper_commands::words::{CommandWords, Takes, Word, value_of};
+use s3_paper_commands::status::{DONE, FILE_WRONG, NOTHING_SAVED, OPTIONS_WRONG, PACK_SAVED};
+use s3_paper_commands::words::{CommandWords, Example, Takes, Word, value_of};
 use s3_refusals::Shown;
 use std::alloc::{AllocError, Global};
 
-/// `bureau delete` and its words.
+/// `bureau delete` and its options.
 pub const DELETE: CommandWords = CommandWords {
     name: "delete",
     about: "Deletes a file from a pack, or frees a damaged slot",
+    aliases: &[],
+    statuses: &[PACK_SAVED, NOTHING_SAVED, OPTIONS_WRONG, FILE_WRONG],
+    examples: &[
+        Example {
+            line: "bureau delete --pack shop.pack --save shop.pack --area 1 --label OLDDATA",
+            purpose: "Deletes a file of level 1",
+        },
+        Example {
+            line: "bureau delete --pack shop.pack --save shop.pack --area 1 --slot 3",
+            purpose: "Frees a damaged slot",
+        },
+    ],
     words: &[
         PACK,
         SAVE,
@@ -37,11 +52,13 @@ pub const DELETE: CommandWords = CommandWords {
             takes: Takes::Nothing,
             help: "Deletes the file even if it is permanent",
         },
+        JOURNAL,
+        AGAIN,
         OVERWRITE,
     ],
 };
 
-/// Does what the words of `bureau delete` ask, and gives the exit status: 0 where it is done, else that of the refusal, whose
+/// Does what the options of `bureau delete` ask, and gives the exit status: 0 where it is done, else that of the refusal, whose
 /// sentence it wrote on standard error; then nothing was saved.
 pub fn delete(rt: &HostRuntime, matches: &ArgMatches<'_>) -> u8
     ensures { result ≤ 4 }
@@ -56,10 +73,17 @@ fn delete_file(rt: &HostRuntime, matches: &ArgMatches<'_>) -> Result<(), Fault> 
     let area = area_number(rt, value_of(matches, "area"))?;
     let chosen = chosen_file(rt, matches)?;
     let save = value_of(matches, "save");
-    let (pack, locked) = pack_to_change(rt, matches, value_of(matches, "pack"), save)?;
+    let path = value_of(matches, "pack");
+    let (pack, locked) = pack_to_change(rt, matches, path, save)?;
+    let journal = journal_for(rt, matches, path, &pack, Posting::Nothing)?;
     let freed = freed_file(rt.alloc(), area, chosen, &pack);
     let pack = without(rt.alloc(), matches, area, chosen, pack)?;
-    let saved = saved(rt, matches, save, locked, &pack)?;
+    let how = Save {
+        locked,
+        journal,
+        work: Work::Delete,
+    };
+    let saved = saved(rt, matches, save, how, &pack)?;
     tell_done(
         rt,
         deleted_sentence(rt.alloc(), matches, area, save, freed),
@@ -94,7 +118,7 @@ fn without(
     }
 }
 
-/// The file that the words mean.
+/// The file that the options mean.
 fn chosen_file(rt: &HostRuntime, matches: &ArgMatches<'_>) -> Result<Chosen, Fault> {
     match (matches.get_str("label"), matches.get_one::<u16>("slot")) {
         (Some(label), None) => Ok(Chosen::Label(label_of(rt, label)?)),

@@ -3,6 +3,7 @@ ghost use Rattle.std.specs.Prelude.{◌≤◌};
 
 use crate::filled::push_shown_name;
 use s3_host_files::{FileFault, Hindrance, StandardStream};
+use s3_journal_files::JournalRefusal;
 use s3_paper_commands::status::{FILE_FAILED, PERSON_NEEDED, REFUSED, WRONG_WORDS};
 use s3_refusals::Shown;
 use std::alloc::{AllocError, AllocFailed, Global};
@@ -22,6 +23,10 @@ pub enum Fault {
     Waits(String),
     /// Standard error is a file of the command, so nothing is done, and nothing is written: it would get into that file.
     StandardError,
+    /// The journal doesn't allow it, and its line is written.
+    RefusedByJournal,
+    /// The journal can't be read or written, and its line is written.
+    JournalFailed,
     /// Memory was refused.
     NoMemory,
 }
@@ -40,7 +45,7 @@ impl<T: Drop> From<AllocFailed<T>> for Fault {
 
 impl Fault {
     /// Writes the sentence of a refusal, and gives its exit status: 2 for words, 3 for files, 4 where it is done up to what a
-    /// person has to look at, else 1. Nothing is written if standard error is a file of the command.
+    /// person has to look at, else 1. Nothing is written if standard error is a file of the command, or if the line is written.
     pub fn tell<W: Write>(&self, writer: &mut W) -> u8
         ensures { result ≤ 4 }
     {
@@ -50,7 +55,8 @@ impl Fault {
             Fault::File(sentence) => ("bureau", sentence.as_str(), FILE_FAILED),
             Fault::Waits(sentence) => ("bureau", sentence.as_str(), PERSON_NEEDED),
             Fault::NoMemory => ("bureau", "memory", REFUSED),
-            Fault::StandardError => return FILE_FAILED,
+            Fault::RefusedByJournal => return REFUSED,
+            Fault::StandardError | Fault::JournalFailed => return FILE_FAILED,
         };
         let _ = writeln!(writer, "{start}: {sentence}");
         status
@@ -120,6 +126,18 @@ fn save_cure(kind: ErrorKind) -> &'static str {
         ErrorKind::StorageFull | ErrorKind::QuotaExceeded =>
             "; make space on its disk, or save elsewhere",
         _ => "; see whether its disk is at work, or save elsewhere",
+    }
+}
+
+/// What a refusal by the journal is, whose line is written.
+pub fn of_journal(rt: &HostRuntime, refusal: &JournalRefusal<'_>) -> Fault {
+    if let JournalRefusal::NoMemory = refusal {
+        return Fault::NoMemory;
+    }
+    if refusal.tell(&mut rt.stderr()) == FILE_FAILED {
+        Fault::JournalFailed
+    } else {
+        Fault::RefusedByJournal
     }
 }
 

@@ -1,4 +1,4 @@
-//! What the words of `unload` and `load` give: layouts and delimiters.
+//! What the options of `unload` and `load` give: layouts and delimiters.
 ghost use Rattle.std.specs.Prelude.{◌≤◌, length, IfOk, IfSome};
 
 use crate::fault::{Fault, Use, of_call, of_pack};
@@ -35,7 +35,7 @@ pub fn delimiter_of(rt: &HostRuntime, matches: &ArgMatches<'_>) -> Result<u8, Fa
     }
 }
 
-/// The layout that the words name: of the source in the deck at a path, the file and the type of records that they choose.
+/// The layout that the options name: of the source in the deck at a path, the file and the type of records that they choose.
 pub fn layout_of(
     rt: &HostRuntime,
     matches: &ArgMatches<'_>,
@@ -53,7 +53,7 @@ pub fn layout_of(
     }
 }
 
-/// The layout of a source in a deck. Each diagnostic of its cards is told.
+/// The layout of a source in a deck. Each diagnostic of its cards is reported.
 fn layout_in(
     rt: &HostRuntime,
     path: &str,
@@ -93,7 +93,7 @@ fn tell_cards(rt: &HostRuntime, text: &DeckText<'_>, deck: &Deck, source: CardRa
     }
 }
 
-/// The file and the type of records that the words choose.
+/// The file and the type of records that the options choose.
 fn choice_of(rt: &HostRuntime, matches: &ArgMatches<'_>) -> Result<Choice, Fault> {
     let file = match matches.get_str("file") {
         Some(text) => Some(source_file_of(rt, text)?),
@@ -117,7 +117,7 @@ fn source_file_of(rt: &HostRuntime, text: &str) -> Result<Name, Fault> {
     }
 }
 
-/// The cards of the file at a path, each with its line there. A file of plain text is punched; what is wrong with it is told.
+/// The cards of the file at a path, each with its line there. A file of plain text is punched; what is wrong with it is reported.
 fn text_at<'a>(rt: &HostRuntime, path: &'a str) -> Result<DeckText<'a>, Fault> {
     if let Err(fault) = keep_apart(rt, path) {
         return Err(of_pack(rt, Use::Reads, &fault, path));
@@ -145,7 +145,7 @@ fn text_at<'a>(rt: &HostRuntime, path: &'a str) -> Result<DeckText<'a>, Fault> {
     Ok(text)
 }
 
-/// What is punched of the plain text of a file; what is wrong with it is told.
+/// What is punched of the plain text of a file; what is wrong with it is reported.
 fn sound_punched(rt: &HostRuntime, path: &str, text: &[u8]) -> Result<Punched, Fault> {
     let punched = punched_of(rt, text)?;
     if punched.faults.is_empty() {

@@ -5,40 +5,78 @@ use crate::cells::{Reading, with_cells};
 use crate::fault::Fault;
 use crate::filled::{Words, push_shown_name};
 use crate::inputs::{delimiter_of, layout_of};
+use crate::journaling::{OpenJournal, journal_for};
 use crate::load_sentences::{heading_sentence, load_sentence, value_sentence};
 use crate::pack_words::{
-    keep_input, label_of, level_of, no_room_sentence, number_of, pack_to_change, refused, room_in,
-    saved, tell_done, wrong_words,
+    Save, keep_input, label_of, level_of, no_room_sentence, number_of, pack_to_change, refused,
+    room_in, saved, tell_done, wrong_words,
 };
 use crate::words::{
-    DATE_FIELDS, DECIMAL, DELIMITER, LABEL, LAYOUT, LAYOUT_FILE, LAYOUT_TYPE, LEVEL, OVERWRITE,
-    PACK, SAFE_CELLS, SAVE,
+    AGAIN, DATE_FIELDS, DECIMAL, DELIMITER, JOURNAL, LABEL, LAYOUT, LAYOUT_FILE, LAYOUT_TYPE,
+    LEVEL_ALIAS, LEVEL_AREA, OVERWRITE, PACK, SAFE_CELLS, SAVE,
 };
 use clap::ArgMatches;
 use s3_cards::ebcdic::DIGIT_0;
 use s3_cards::{LevelId, Name, Retention, host_byte};
+use s3_journal::{Appended, Posting, Work, checksum_of};
 use s3_labels::LabelFault;
 use s3_layout::SourceLayout;
 use s3_listing::file_size;
 use s3_load::{HeadingFault, LoadFault, Order, Room, ValueFault};
-use s3_paper_commands::status::DONE;
-use s3_paper_commands::words::{CommandWords, Takes, Word, value_of};
+use s3_paper_commands::status::{DONE, FILE_WRONG, OPTIONS_WRONG, PACK_SAVED, REFUSED};
+use s3_paper_commands::words::{Choice, CommandWords, Example, Status, Takes, Word, value_of};
 use s3_refusals::Shown;
 use s3_unload::{Area, find_file};
 use std::alloc::{AllocError, Global};
-use std::io::{IsTerminal, Write};
+use std::io::{ErrorKind, IsTerminal, Read, Write};
 
-/// How many faults of a table are told.
+/// How many faults of a table are reported.
 const MOST_TOLD: usize = 20;
 
-/// `bureau load` and its words.
+/// How long a file is kept.
+const RETENTIONS: &'static [Choice] = &[
+    Choice {
+        name: "T",
+        help: "Temporary: until a job makes a file of this label",
+    },
+    Choice {
+        name: "S",
+        help: "Scratch: for the job that makes the file",
+    },
+    Choice {
+        name: "P",
+        help: "Permanent: no job makes a file of this label",
+    },
+];
+
+/// `bureau load` and its options.
 pub const LOAD: CommandWords = CommandWords {
     name: "load",
     about: "Loads the table in CSV of standard input into a file of a level",
+    aliases: &[LEVEL_ALIAS],
+    statuses: &[
+        PACK_SAVED,
+        Status {
+            number: REFUSED,
+            meaning: "the table, the layout or the pack is refused, or memory ran out; nothing is saved",
+        },
+        OPTIONS_WRONG,
+        FILE_WRONG,
+    ],
+    examples: &[
+        Example {
+            line: "bureau load --pack shop.pack --save shop.pack --area 1 --label CUSTOM --layout customers.rpg < customers.csv",
+            purpose: "Makes a file of a table, or replaces it",
+        },
+        Example {
+            line: "bureau load --pack shop.pack --save shop.pack --area 1 --label CUSTOM --layout customers.rpg --append < new.csv",
+            purpose: "Adds the records of a table to a file",
+        },
+    ],
     words: &[
         PACK,
         SAVE,
-        LEVEL,
+        LEVEL_AREA,
         LABEL,
         Word {
             takes: Takes::Needed("FILE"),
@@ -58,8 +96,8 @@ pub const LOAD: CommandWords = CommandWords {
         },
         Word {
             name: "retain",
-            takes: Takes::Value("R"),
-            help: "T, S or P; T by default",
+            takes: Takes::OneOf("R", RETENTIONS),
+            help: "How long the file is kept; T by default",
         },
         Word {
             name: "date",
@@ -90,11 +128,16 @@ pub const LOAD: CommandWords = CommandWords {
             help: "Takes small letters in texts as capitals",
         },
         DATE_FIELDS,
+        JOURNAL,
+        Word {
+            help: "Loads even if the journal has the table, or doesn't have the pack last; needs --journal",
+            ..AGAIN
+        },
         OVERWRITE,
     ],
 };
 
-/// Does what the words of `bureau load` ask, and gives the exit status: 0 where it is done, else that of the refusal, whose
+/// Does what the options of `bureau load` ask, and gives the exit status: 0 where it is done, else that of the refusal, whose
 /// sentences it wrote on standard error; then no pack is changed.
 pub fn load(rt: &HostRuntime, matches: &ArgMatches<'_>) -> u8
     ensures { result ≤ 4 }
@@ -105,7 +148,7 @@ pub fn load(rt: &HostRuntime, matches: &ArgMatches<'_>) -> u8
     }
 }
 
-/// What the words ask for, but for the layout.
+/// What the options ask for, except for the layout.
 #[derive(Clone, Copy)]
 struct LoadWords<'a> {
     path: &'a str,
@@ -126,9 +169,9 @@ struct LoadWords<'a> {
 }
 
 impl<'a> LoadWords<'a> {
-    /// What the words ask for.
+    /// What the options ask for.
     fn read(rt: &HostRuntime, matches: &ArgMatches<'a>) -> Result<LoadWords<'a>, Fault> {
-        let level = level_of(rt, value_of(matches, "level"))?;
+        let level = level_of(rt, value_of(matches, "area"))?;
         let label = value_of(matches, "label");
         let name = label_of(rt, label)?;
         test_words(rt, matches)?;
@@ -161,8 +204,13 @@ fn load_table(rt: &HostRuntime, matches: &ArgMatches<'_>) -> Result<(), Fault> {
     let (pack, locked) = pack_to_change(rt, matches, words.path, words.save)?;
     keep_input(rt, words.save, words.source)?;
     let replaced = replaced_file(rt.alloc(), &words, &pack);
-    let loaded = loaded(rt, &words, &layout, &pack)?;
-    let saved = saved(rt, matches, words.save, locked, &loaded)?;
+    let (loaded, journal, work) = load_journaled(rt, matches, &words, &layout, &pack)?;
+    let save = Save {
+        locked,
+        journal,
+        work,
+    };
+    let saved = saved(rt, matches, words.save, save, &loaded)?;
     tell_done(
         rt,
         done_sentence(rt.alloc(), &words, replaced, &loaded),
@@ -170,12 +218,70 @@ fn load_table(rt: &HostRuntime, matches: &ArgMatches<'_>) -> Result<(), Fault> {
     )
 }
 
-/// A pack with the table of standard input in the file that the words name.
-fn loaded(
+/// A pack with the table of standard input in the file that the options name, its journal, if one is named, and what its line has.
+fn load_journaled<'a>(
+    rt: &HostRuntime,
+    matches: &ArgMatches<'a>,
+    words: &LoadWords<'a>,
+    layout: &SourceLayout,
+    pack: &[u8],
+) -> Result<(Vec<u8>, Option<OpenJournal<'a>>, Work), Fault> {
+    tell_waiting(rt);
+    if words.appends && matches.get_str("journal").is_some() {
+        return append_once(rt, matches, words, layout, pack);
+    }
+    let journal = journal_for(rt, matches, words.path, pack, Posting::Nothing)?;
+    let loaded = loaded(rt, words, layout, pack, rt.stdin())?;
+    Ok((loaded, journal, Work::Load))
+}
+
+/// A pack with the table of standard input after the records of the file that the options name. A table that the journal has for this
+/// file is refused, unless `--again` is given.
+fn append_once<'a>(
+    rt: &HostRuntime,
+    matches: &ArgMatches<'a>,
+    words: &LoadWords<'a>,
+    layout: &SourceLayout,
+    pack: &[u8],
+) -> Result<(Vec<u8>, Option<OpenJournal<'a>>, Work), Fault> {
+    let table = table_of(rt, words)?;
+    let added = appended(rt.alloc(), words, &table)?;
+    let posting = Posting::Table {
+        table: added.table.as_str(),
+        file: added.file.as_str(),
+    };
+    let journal = journal_for(rt, matches, words.path, pack, posting)?;
+    let loaded = loaded(rt, words, layout, pack, table.as_slice())?;
+    Ok((loaded, journal, Work::Append(added)))
+}
+
+/// The table of standard input.
+fn table_of(rt: &HostRuntime, words: &LoadWords<'_>) -> Result<Vec<u8>, Fault> {
+    let mut table = Vec::new(rt.alloc());
+    match rt.stdin().read_to_end(&mut table) {
+        Ok(_) => Ok(table),
+        Err(error) if error.kind() == ErrorKind::OutOfMemory => Err(Fault::NoMemory),
+        Err(_) => Err(fault_of(rt, words, &LoadFault::File)),
+    }
+}
+
+/// What the line of a table has that is added to a file.
+fn appended(alloc: Global, words: &LoadWords<'_>, table: &[u8]) -> Result<Appended, AllocError> {
+    let level = number_of(words.level);
+    let label = words.label;
+    Ok(Appended {
+        table: checksum_of(alloc, table)?,
+        file: format!(in alloc; "{level} {label}")?,
+    })
+}
+
+/// A pack with a table in the file that the options name.
+fn loaded<R: Read + Drop>(
     rt: &HostRuntime,
     words: &LoadWords<'_>,
     layout: &SourceLayout,
     pack: &[u8],
+    table: R,
 ) -> Result<Vec<u8>, Fault> {
     let order = Order {
         level: words.level,
@@ -190,8 +296,7 @@ fn loaded(
         fills: words.fills,
         delimiter: words.delimiter,
     };
-    tell_waiting(rt);
-    match s3_load::load(rt.alloc(), pack, &order, rt.stdin()) {
+    match s3_load::load(rt.alloc(), pack, &order, table) {
         Ok(loaded) => Ok(loaded),
         Err(fault) => Err(fault_of(rt, words, &fault)),
     }
@@ -323,7 +428,7 @@ fn loaded_sentence(alloc: Global, words: &LoadWords<'_>, count: u32) -> Result<S
     format!(in alloc; "{label} of level {level} of {save} is loaded: it has {count} {records} now")
 }
 
-/// The room that the words ask for.
+/// The room that the options ask for.
 fn room_of(rt: &HostRuntime, matches: &ArgMatches<'_>) -> Result<Room, Fault> {
     match (
         matches.get_one::<u32>("records"),
@@ -349,7 +454,7 @@ fn retention_of(rt: &HostRuntime, matches: &ArgMatches<'_>) -> Result<Retention,
     }
 }
 
-/// The date that the words give, in EBCDIC.
+/// The date that the options give, in EBCDIC.
 fn date_of(rt: &HostRuntime, matches: &ArgMatches<'_>) -> Result<[u8; 6], Fault> {
     let Some(text) = matches.get_str("date") else {
         return Ok([DIGIT_0; 6]);
@@ -360,7 +465,7 @@ fn date_of(rt: &HostRuntime, matches: &ArgMatches<'_>) -> Result<[u8; 6], Fault>
     }
 }
 
-/// That a text is no date.
+/// Reports that a text is no date.
 fn no_date(alloc: Global, text: &str) -> Fault {
     let text = Shown(text);
     match format!(in alloc;
@@ -397,7 +502,7 @@ fn two_digits(tens: u8, ones: u8) -> u8 {
     (tens % 16).saturating_mul(10).saturating_add(ones % 16)
 }
 
-/// Refuses words for a new file where the records go behind those of one that is there.
+/// Refuses words for a new file where the records go after those of one that is there.
 fn test_words(rt: &HostRuntime, matches: &ArgMatches<'_>) -> Result<(), Fault> {
     let is_new = matches.get_one::<u32>("records").is_some()
         || matches.get_one::<u16>("tracks").is_some()
@@ -412,7 +517,7 @@ fn test_words(rt: &HostRuntime, matches: &ArgMatches<'_>) -> Result<(), Fault> {
     Ok(())
 }
 
-/// What a refusal is to the command; what is wrong with the heading or the rows is told before it, a line each.
+/// What a refusal is to the command; what is wrong with the heading or the rows is reported before it, a line each.
 fn fault_of(rt: &HostRuntime, words: &LoadWords<'_>, fault: &LoadFault) -> Fault {
     if tell_all(rt, words, fault).is_err() {
         return Fault::NoMemory;

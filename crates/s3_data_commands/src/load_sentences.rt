@@ -12,7 +12,7 @@ use s3_record_types::TypeFault;
 use s3_refusals::Shown;
 use std::alloc::{AllocError, Global};
 
-/// The characters that other programs put between the cells of a table, each with what to say where it stands there.
+/// The characters that other programs put between the cells of a table, each with what to say where it is there.
 const DELIMITER_CURES: [(u8, &str); 3] = [
     (
         b'\t',
@@ -53,7 +53,7 @@ fn full_sentence(
     )
 }
 
-/// Why a table isn't loaded, but for what is wrong with its heading and its rows.
+/// Why a table isn't loaded, except for what is wrong with its heading and its rows.
 pub fn load_sentence<'a>(
     alloc: Global,
     path: &'a str,
@@ -146,7 +146,7 @@ fn fields_sentence(
         .fill(alloc, sentence)
 }
 
-/// That no field has the name in a column.
+/// Reports that no field has the name in a column.
 fn unknown_sentence(alloc: Global, column: usize, name: &[u8]) -> Result<String, AllocError> {
     let mut text = String::new(alloc);
     push_unknown(&mut text, column, name)?;
@@ -160,8 +160,8 @@ fn push_unknown(text: &mut String, column: usize, name: &[u8]) -> Result<(), All
     text.push_str(unknown_cure(name))
 }
 
-/// What mends a name in the heading that no field has: where a character that other programs put between cells stands in it, that
-/// character is told as the delimiter that may be meant.
+/// What mends a name in the heading that no field has: where a character that other programs put between cells is in it, that
+/// character is reported as the delimiter that may be meant.
 fn unknown_cure(name: &[u8]) -> &'static str {
     for (delimiter, cure) in DELIMITER_CURES {
         if name.contains(&delimiter) {
@@ -288,7 +288,7 @@ fn push_type(text: &mut String, indicator: Indicator) -> Result<(), AllocError> 
 }
 
 /// What is wrong with a cell, and what mends it.
-fn words_of(fault: CellFault, has_comma: bool) -> &'static str {
+pub fn words_of(fault: CellFault, has_comma: bool) -> &'static str {
     match fault {
         CellFault::NoNumber if has_comma =>
             " is no number; write digits, with a minus before them and a comma if they are needed",
@@ -326,7 +326,7 @@ fn push_key(text: &mut String, key: &[u8]) -> Result<(), AllocError> {
 }
 
 /// Appends the text of a cell in quotes, up to its 40th character.
-fn push_quoted(text: &mut String, cell: &[u8]) -> Result<(), AllocError> {
+pub fn push_quoted(text: &mut String, cell: &[u8]) -> Result<(), AllocError> {
     text.push('"')?;
     push_shown(text, cell)?;
     text.push('"')

@@ -3,12 +3,14 @@ ghost use Rattle.std.specs.Prelude.{◌≤◌, ◌<◌, IfOk};
 
 use crate::fault::{Fault, Use, of_call, of_pack};
 use crate::filled::Words;
+use crate::journaling::OpenJournal;
 use clap::ArgMatches;
 use s3_cards::{LevelId, Name, is_name, to_ebcdic};
 use s3_host_files::{
     Limit, LockedPack, Target, is_empty_at, is_pack_at, keep_save_apart, read_pack, read_to_save,
     save_new_pack, save_pack,
 };
+use s3_journal::Work;
 use s3_labels::{LabelFault, MountFault};
 use s3_listing::{FreeRoom, file_size, free_room};
 use s3_pack_care::CareFault;
@@ -113,7 +115,7 @@ pub fn pack_of(rt: &HostRuntime, path: &str) -> Result<Vec<u8>, Fault> {
 }
 
 /// Refuses a file that doesn't begin as a pack, as a text or a table that was named in a pack's place.
-fn test_begin(alloc: Global, path: &str, pack: &[u8]) -> Result<(), Fault> {
+pub fn test_begin(alloc: Global, path: &str, pack: &[u8]) -> Result<(), Fault> {
     let words = beginning_words(pack);
     if words.is_empty() {
         return Ok(());
@@ -140,7 +142,7 @@ fn pack_to_save(
     }
 }
 
-/// The bytes of the pack at a path, as `pack_to_save` gives them, for a command whose words may have `--overwrite`: without it
+/// The bytes of the pack at a path, as `pack_to_save` gives them, for a command whose options may have `--overwrite`: without it
 /// another file that is there isn't written over.
 pub fn pack_to_change(
     rt: &HostRuntime,
@@ -156,7 +158,7 @@ pub fn pack_to_change(
 }
 
 /// Refuses a path at which a file is there.
-fn refuse_file_there(rt: &HostRuntime, save: &str) -> Result<(), Fault> {
+pub fn refuse_file_there(rt: &HostRuntime, save: &str) -> Result<(), Fault> {
     match fs::exists(rt, save) {
         Ok(false) => Ok(()),
         Ok(true) => Err(refused(Words::of_path(save).fill(rt.alloc(), there_words(rt, save)))),
@@ -175,7 +177,7 @@ fn there_words(rt: &HostRuntime, save: &str) -> &'static str {
     }
 }
 
-/// Refuses to save over a file that the command reads beside the pack that it changes: whatever else stands in it would be lost.
+/// Refuses to save over a file that the command reads beside the pack that it changes: whatever else is in it would be lost.
 pub fn keep_input(rt: &HostRuntime, save: &str, input: &str) -> Result<(), Fault> {
     if !is_same_file(rt, save, input) {
         return Ok(());
@@ -285,9 +287,40 @@ pub fn refused(sentence: Result<String, AllocError>) -> Fault {
     }
 }
 
-/// Saves a pack, whole or not at all. Without `--overwrite` a file that has appeared by now isn't overwritten. A new file lets nobody
-/// do more than the pack that was read. The packs that were read aren't taken for leftovers of a save.
+/// How the changed pack gets its name.
+#[derive(Drop)]
+pub struct Save<'j> {
+    /// The lock on the file, if the pack was read from it.
+    pub locked: Option<LockedPack>,
+    /// The journal that gets a line, if there is one. It stays locked until the pack is saved.
+    pub journal: Option<OpenJournal<'j>>,
+    /// What the command did, as the line has it.
+    pub work: Work,
+}
+
+/// Saves a pack, whole or not at all, once its journal has the line of the command. Without `--overwrite` a file that has appeared by
+/// now isn't overwritten. A new file lets nobody do more than the pack that was read. The packs that were read aren't taken for leftovers
+/// of a save.
 pub fn saved<'a>(
+    rt: &HostRuntime,
+    matches: &ArgMatches<'_>,
+    path: &'a str,
+    save: Save<'_>,
+    pack: &[u8],
+) -> Result<SavedPack<'a>, Fault> {
+    let Save {
+        locked,
+        mut journal,
+        work,
+    } = save;
+    if let Some(journal) = &mut journal {
+        journal.append(rt, pack, work)?;
+    }
+    save_at(rt, matches, path, locked, pack)
+}
+
+/// Saves a pack, as `saved` does.
+fn save_at<'a>(
     rt: &HostRuntime,
     matches: &ArgMatches<'_>,
     save: &'a str,
@@ -312,7 +345,7 @@ pub fn saved<'a>(
 }
 
 /// What a new file lets anyone do at most: what the pack does that the command changes.
-fn limit_of(rt: &HostRuntime, matches: &ArgMatches<'_>) -> Result<Option<Limit>, Fault> {
+pub fn limit_of(rt: &HostRuntime, matches: &ArgMatches<'_>) -> Result<Option<Limit>, Fault> {
     let Some(read) = matches.get_str("into").or(matches.get_str("pack")) else {
         return Ok(None);
     };

@@ -3,29 +3,37 @@ ghost use Rattle.std.specs.Prelude.{◌≤◌, ◌<◌, IfOk};
 
 use crate::fault::Fault;
 use crate::filled::Words;
+use crate::journaling::journal_for;
 use crate::pack_words::{
-    care_sentence, label_of, label_words, level_of, mount_words, no_room_for_copy, number_of,
+    Save, care_sentence, label_of, label_words, level_of, mount_words, no_room_for_copy, number_of,
     pack_to_change, refused, saved, tell_done,
 };
-use crate::words::{LABEL, LEVEL, OVERWRITE, PACK, SAVE};
+use crate::words::{AGAIN, JOURNAL, LABEL, LEVEL_ALIAS, LEVEL_AREA, OVERWRITE, PACK, SAVE};
 use clap::ArgMatches;
 use s3_cards::Name;
+use s3_journal::{Posting, Work};
 use s3_labels::LabelFault;
 use s3_pack_care::{CareFault, Form, SortFault, SortField};
-use s3_paper_commands::status::DONE;
-use s3_paper_commands::words::{CommandWords, Takes, Word, value_of};
+use s3_paper_commands::status::{DONE, FILE_WRONG, NOTHING_SAVED, OPTIONS_WRONG, PACK_SAVED};
+use s3_paper_commands::words::{CommandWords, Example, Takes, Word, value_of};
 use s3_refusals::Shown;
 use std::alloc::{AllocError, Global};
 use std::io::Write;
 
-/// `bureau sort` and its words.
+/// `bureau sort` and its options.
 pub const SORT: CommandWords = CommandWords {
     name: "sort",
     about: "Sorts the records of a file that has no index and isn't direct",
+    aliases: &[LEVEL_ALIAS],
+    statuses: &[PACK_SAVED, NOTHING_SAVED, OPTIONS_WRONG, FILE_WRONG],
+    examples: &[Example {
+        line: "bureau sort --pack shop.pack --save shop.pack --area 1 --label SALES --by 1-5,12-15P",
+        purpose: "Sorts a file by a text and then by a packed number",
+    }],
     words: &[
         PACK,
         SAVE,
-        LEVEL,
+        LEVEL_AREA,
         LABEL,
         Word {
             name: "by",
@@ -37,11 +45,13 @@ pub const SORT: CommandWords = CommandWords {
             takes: Takes::Value("LABEL"),
             help: "The label of a new file for the sorted records; else the file itself is sorted",
         },
+        JOURNAL,
+        AGAIN,
         OVERWRITE,
     ],
 };
 
-/// Does what the words of `bureau sort` ask, and gives the exit status: 0 where it is done, else that of the refusal, whose
+/// Does what the options of `bureau sort` ask, and gives the exit status: 0 where it is done, else that of the refusal, whose
 /// sentence it wrote on standard error; then nothing was saved.
 pub fn sort(rt: &HostRuntime, matches: &ArgMatches<'_>) -> u8
     ensures { result ≤ 4 }
@@ -71,11 +81,11 @@ struct Order<'a> {
 }
 
 impl<'a> Order<'a> {
-    /// What the words ask for.
+    /// What the options ask for.
     fn read(rt: &HostRuntime, matches: &ArgMatches<'a>) -> Result<Order<'a>, Fault>
         ensures { IfOk result (λ order. order.level < 3) }
     {
-        let level = number_of(level_of(rt, value_of(matches, "level"))?);
+        let level = number_of(level_of(rt, value_of(matches, "area"))?);
         let label = value_of(matches, "label");
         let name = label_of(rt, label)?;
         let by = value_of(matches, "by");
@@ -100,13 +110,19 @@ impl<'a> Order<'a> {
 fn sort_file(rt: &HostRuntime, matches: &ArgMatches<'_>) -> Result<(), Fault> {
     let order = Order::read(rt, matches)?;
     let (pack, locked) = pack_to_change(rt, matches, order.path, order.save)?;
+    let journal = journal_for(rt, matches, order.path, &pack, Posting::Nothing)?;
     let pack = if order.is_copied {
         with_copy(rt, &order, pack)?
     } else {
         pack
     };
     let pack = sorted(rt.alloc(), &order, pack)?;
-    let saved = saved(rt, matches, order.save, locked, &pack)?;
+    let save = Save {
+        locked,
+        journal,
+        work: Work::Sort,
+    };
+    let saved = saved(rt, matches, order.save, save, &pack)?;
     tell_done(rt, sorted_sentence(rt.alloc(), &order), saved)
 }
 
@@ -161,7 +177,7 @@ fn sorted_sentence(alloc: Global, order: &Order<'_>) -> Result<String, AllocErro
     format!(in alloc; "{new_label} of level {level} of {save} is sorted by {by}")
 }
 
-/// The fields that a text names; what is wrong with its parts is told of all of them at once.
+/// The fields that a text names; what is wrong with its parts is reported of all of them at once.
 fn fields_of(alloc: Global, text: &str) -> Result<Vec<SortField>, Fault> {
     let mut fields = Vec::new(alloc);
     let mut wrong = String::new(alloc);
@@ -251,7 +267,7 @@ fn misfit_of(from: u16, to: u16, form: Form) -> &'static str {
     }
 }
 
-/// How the bytes of a field are compared, behind its range.
+/// How the bytes of a field are compared, after its range.
 fn form_of(text: &str) -> (&str, Form) {
     if let Some(range) = text.strip_suffix("Z") {
         return (range, Form::Zoned);

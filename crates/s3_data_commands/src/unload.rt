@@ -13,15 +13,58 @@ use crate::words::{
 use clap::ArgMatches;
 use s3_cards::{LevelId, Name};
 use s3_host_files::StandardOutput;
-use s3_paper_commands::status::DONE;
-use s3_paper_commands::words::{CommandWords, Takes, Word, value_of};
+use s3_paper_commands::status::{DONE, FILE_WRONG, OPTIONS_WRONG, PERSON_NEEDED, REFUSED};
+use s3_paper_commands::words::{Choice, CommandWords, Example, Status, Takes, Word, value_of};
 use s3_unload::{Area, LineForm, UnloadFault};
 use std::alloc::Global;
 
-/// `bureau unload` and its words.
+/// The forms in which records are written.
+const FORMS: &'static [Choice] = &[
+    Choice {
+        name: "csv",
+        help: "A table in CSV; needs --layout",
+    },
+    Choice {
+        name: "text",
+        help: "A line of characters for each record",
+    },
+    Choice {
+        name: "hex",
+        help: "A line of hexadecimal digits for each record",
+    },
+];
+
+/// `bureau unload` and its options.
 pub const UNLOAD: CommandWords = CommandWords {
     name: "unload",
     about: "Writes the records of a file as a table in CSV, as texts or in hexadecimal digits",
+    aliases: &[],
+    statuses: &[
+        Status {
+            number: DONE,
+            meaning: "all records are written",
+        },
+        Status {
+            number: REFUSED,
+            meaning: "the pack, the file or the layout is refused, or memory ran out",
+        },
+        OPTIONS_WRONG,
+        FILE_WRONG,
+        Status {
+            number: PERSON_NEEDED,
+            meaning: "a value can't be shown; the records before it are written",
+        },
+    ],
+    examples: &[
+        Example {
+            line: "bureau unload --pack shop.pack --area 1 --label CUSTOM --layout customers.rpg > customers.csv",
+            purpose: "Writes a file as a table in CSV",
+        },
+        Example {
+            line: "bureau unload --pack shop.pack --area 1 --label CUSTOM --as hex",
+            purpose: "Shows the bytes of each record",
+        },
+    ],
     words: &[
         PACK,
         AREA,
@@ -31,8 +74,8 @@ pub const UNLOAD: CommandWords = CommandWords {
         LAYOUT_TYPE,
         Word {
             name: "as",
-            takes: Takes::Value("FORM"),
-            help: "csv, text or hex; by default csv with a layout, else text",
+            takes: Takes::OneOf("FORM", FORMS),
+            help: "How the records are written; by default csv with a layout, else text",
         },
         DELIMITER,
         SAFE_CELLS,
@@ -41,7 +84,7 @@ pub const UNLOAD: CommandWords = CommandWords {
     ],
 };
 
-/// Does what the words of `bureau unload` ask, and gives the exit status: 0 where it is done, 4 where a value can't be shown and
+/// Does what the options of `bureau unload` ask, and gives the exit status: 0 where it is done, 4 where a value can't be shown and
 /// the rows before it are written; else that of the refusal, whose sentence it wrote on standard error.
 pub fn unload(rt: &HostRuntime, matches: &ArgMatches<'_>) -> u8
     ensures { result ≤ 4 }
@@ -142,7 +185,7 @@ fn area_of(number: u16) -> Area {
     }
 }
 
-/// The form of lines that the words ask for; none for a table.
+/// The form of lines that the options ask for; none for a table.
 fn form_of(rt: &HostRuntime, matches: &ArgMatches<'_>) -> Result<Option<LineForm>, Fault> {
     let default = match matches.get_str("layout") {
         Some(_) => "csv",

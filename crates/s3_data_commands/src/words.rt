@@ -1,12 +1,19 @@
 //! Words that several commands over a pack take.
 
-use s3_paper_commands::words::{Takes, Word};
+use s3_paper_commands::words::{Alias, Choice, Takes, Word};
 
 /// The pack that is read.
 pub const PACK: Word = Word {
     name: "pack",
     takes: Takes::Needed("FILE"),
     help: "The pack",
+};
+
+/// The form for other programs.
+pub const JSON: Word = Word {
+    name: "json",
+    takes: Takes::Nothing,
+    help: "Prints JSON, an object a line, for other programs",
 };
 
 /// Where the pack is written.
@@ -23,18 +30,49 @@ pub const OVERWRITE: Word = Word {
     help: "Writes over a file that is there and isn't the pack's",
 };
 
+/// Level 1 as an area.
+const LEVEL_1: Choice = Choice {
+    name: "1",
+    help: "Level 1",
+};
+
+/// Level 2 as an area.
+const LEVEL_2: Choice = Choice {
+    name: "2",
+    help: "Level 2",
+};
+
+/// The areas of a pack.
+pub const AREAS: &'static [Choice] = &[
+    Choice {
+        name: "0",
+        help: "The masters",
+    },
+    LEVEL_1,
+    LEVEL_2,
+];
+
+/// The areas that are levels.
+pub const LEVELS: &'static [Choice] = &[LEVEL_1, LEVEL_2];
+
 /// The area of a file.
 pub const AREA: Word = Word {
     name: "area",
-    takes: Takes::Needed("AREA"),
-    help: "0 for the masters, 1 or 2 for a level",
+    takes: Takes::NeededOneOf("AREA", AREAS),
+    help: "The area of the file",
 };
 
-/// The level of a file.
-pub const LEVEL: Word = Word {
+/// The area of a file that is of a level.
+pub const LEVEL_AREA: Word = Word {
+    name: "area",
+    takes: Takes::NeededOneOf("AREA", LEVELS),
+    help: "The area of the file, a level",
+};
+
+/// What else `LEVEL_AREA` is called.
+pub const LEVEL_ALIAS: Alias = Alias {
+    word: "area",
     name: "level",
-    takes: Takes::Needed("LEVEL"),
-    help: "The level of the file, 1 or 2",
 };
 
 /// The label of a file.
@@ -65,7 +103,7 @@ pub const LAYOUT_TYPE: Word = Word {
     help: "The record type: unload writes its records alone, load puts its codes in",
 };
 
-/// What stands between the cells of a table.
+/// What is between the cells of a table.
 pub const DELIMITER: Word = Word {
     name: "delimiter",
     takes: Takes::Value("C"),
@@ -91,4 +129,18 @@ pub const DATE_FIELDS: Word = Word {
     name: "date-fields",
     takes: Takes::Value("FIELD:YYYY-MM-DD,.."),
     help: "Fields of six digits MMDDYY that are dates of 1900 to 1999 in the table",
+};
+
+/// The journal of the pack.
+pub const JOURNAL: Word = Word {
+    name: "journal",
+    takes: Takes::Value("FILE"),
+    help: "The journal of the pack, which gets a line of this command",
+};
+
+/// The command is done whatever the journal has.
+pub const AGAIN: Word = Word {
+    name: "again",
+    takes: Takes::Nothing,
+    help: "Does it even if the journal doesn't have the pack last; needs --journal",
 };

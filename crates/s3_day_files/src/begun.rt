@@ -7,8 +7,9 @@ use std::alloc::{AllocError, Global};
 use std::io::Write;
 
 /// The options that name outputs, or the log of another day, which no log has.
-const OUTPUTS: [&str; 8] = [
+const OUTPUTS: [&str; 9] = [
     "--save",
+    "--keep",
     "--script",
     "--log",
     "--redo",

@@ -5,6 +5,7 @@ use s3_cards::LevelId;
 use s3_cli::{CliFault, tell};
 use s3_command_line::OUT_OF_MEMORY;
 use s3_host_files::{FileFault, Hindrance, StandardStream};
+use s3_journal_files::JournalRefusal;
 use s3_paper_commands::status::{FILE_FAILED, REFUSED, WRONG_WORDS};
 use s3_refusals::{Reason, Shown};
 use std::alloc::{AllocError, AllocFailed};
@@ -21,10 +22,6 @@ const NO_PACK: &str =
 
 /// The refusal of what can't have a pack.
 const DEVICE: &str = "is no pack: it is a device or a pipe; give the file of a pack";
-
-/// The refusal of what can't have a journal.
-const NO_JOURNAL: &str =
-    "is no journal: it is a folder, a device or a pipe; give --journal the name of a file";
 
 /// The refusal of a file of `--save` in a folder that may not be written.
 const FOLDER_CLOSED: &str =
@@ -95,20 +92,18 @@ pub enum DayFault<'a> {
     Within(&'a str),
     /// This folder of the pages isn't empty.
     NotEmpty(&'a str),
+    /// This folder of the pages has a pack.
+    HasPack(&'a str),
+    /// The pack that the save replaces can't be kept.
+    Keep(&'a str),
+    /// No earlier pack is put back in the place of this one.
+    Restore(&'a str),
     /// The day can't be taken up at that line.
     NoTakingUp,
     /// The day isn't that of the log.
     Redo,
-    /// This pack is an old copy.
-    Old(&'a str),
-    /// No line of the journal has this pack.
-    Changed(&'a str),
-    /// The decks are posted.
-    Posted,
-    /// The journal can't be read.
-    Journal,
-    /// This is a folder, a device or a pipe, in the place of a journal.
-    NoJournal(&'a str),
+    /// The journal doesn't let the day begin, or didn't get its line.
+    Journal(JournalRefusal<'a>),
 }
 
 impl<'a> From<AllocError> for DayFault<'a> {
@@ -120,6 +115,15 @@ impl<'a> From<AllocError> for DayFault<'a> {
 impl<'a, T: Drop> From<AllocFailed<T>> for DayFault<'a> {
     fn from(_error: AllocFailed<T>) -> DayFault<'a> {
         DayFault::Cli(OUT_OF_MEMORY)
+    }
+}
+
+impl<'a> From<JournalRefusal<'a>> for DayFault<'a> {
+    fn from(refusal: JournalRefusal<'a>) -> DayFault<'a> {
+        match refusal {
+            JournalRefusal::NoMemory => DayFault::Cli(OUT_OF_MEMORY),
+            refusal => DayFault::Journal(refusal),
+        }
     }
 }
 
@@ -159,11 +163,11 @@ impl<'a> DayFault<'a> {
             | DayFault::TooLarge(_)
             | DayFault::NoPack(_)
             | DayFault::Device(_)
-            | DayFault::NoJournal(_)
             | DayFault::FolderClosed(_)
             | DayFault::Hindered(_, _)
             | DayFault::Stream(_, StandardStream::Error)
             | DayFault::Unsynced(_) => FILE_FAILED,
+            DayFault::Journal(refusal) => refusal.status(),
             _ => REFUSED,
         }
     }
@@ -172,11 +176,14 @@ impl<'a> DayFault<'a> {
     pub fn tell<W: Write>(&self, writer: &mut W) -> u8
         ensures { result ≤ 3 }
     {
-        if let DayFault::Cli(fault) = self {
-            return tell(writer, fault);
+        match self {
+            DayFault::Cli(fault) => tell(writer, fault),
+            DayFault::Journal(refusal) => refusal.tell(writer),
+            _ => {
+                let _ = self.write_line(writer);
+                self.status()
+            }
         }
-        let _ = self.write_line(writer);
-        self.status()
     }
 
     /// Writes the line of a refusal that isn't one of `run`.
@@ -188,10 +195,8 @@ impl<'a> DayFault<'a> {
             DayFault::Deck(LevelId::Two) => writeln!(writer, "bureau: deck2"),
             DayFault::NoTakingUp => writeln!(writer, "bureau: from"),
             DayFault::Redo => writeln!(writer, "bureau: redo"),
-            DayFault::Old(name) => write_pack(writer, "old", *name),
-            DayFault::Changed(name) => write_pack(writer, "changed", *name),
-            DayFault::Posted => writeln!(writer, "bureau: posted"),
-            DayFault::Journal => writeln!(writer, "bureau: journal"),
+            DayFault::Keep(name) => write_pack(writer, "keep", *name),
+            DayFault::Restore(name) => write_pack(writer, "restore", *name),
             DayFault::Call(name, error) => write_call(writer, *name, *error),
             DayFault::Hindered(name, hindrance) => write_file(writer, *name, hindrance.words()),
             // A line would get into the file.
@@ -212,7 +217,6 @@ impl<'a> DayFault<'a> {
             DayFault::NoPack(name) => Some((*name, NO_PACK)),
             DayFault::IsPack(name) => Some((*name, "is a pack; name another file")),
             DayFault::Device(name) => Some((*name, DEVICE)),
-            DayFault::NoJournal(name) => Some((*name, NO_JOURNAL)),
             DayFault::FolderClosed(name) => Some((*name, FOLDER_CLOSED)),
             DayFault::NewOverPack(name) => Some((*name, NEW_OVER_PACK)),
             DayFault::Unsynced(name) => {
@@ -232,6 +236,10 @@ impl<'a> DayFault<'a> {
             DayFault::NotEmpty(name) => Some((
                 *name,
                 "isn't empty; give --paper another folder, or --overwrite to write into it",
+            )),
+            DayFault::HasPack(name) => Some((
+                *name,
+                "has a pack in it; give --paper another folder, or move the pack to another one",
             )),
             _ => None,
         }

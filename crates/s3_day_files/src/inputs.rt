@@ -4,7 +4,7 @@ use crate::begun::{named_file, words_kept};
 use crate::fault::DayFault;
 use crate::level_deck::LevelDeck;
 use crate::order::Order;
-use crate::strays::are_strays_accepted;
+use crate::strays::{Looked, look_for_strays};
 use crate::taking_up::take_up;
 use s3_cards::LevelId;
 use s3_command_line::new_pack;
@@ -149,9 +149,10 @@ impl<'a> Decks<'a> {
         take_up(rt, order, LevelId::Two, &mut self.two)
     }
 
-    /// Reports jobs that go on over statements of the next ones. Whether the day is begun all the same.
-    pub fn are_accepted(&self, rt: &HostRuntime, order: &Order<'a>) -> Result<bool, DayFault<'a>> {
-        are_strays_accepted(rt, order, &self.one, &self.two)
+    /// Reports jobs that go on over statements of the next ones. Whether the day is begun all the same, and whether level 1's deck can
+    /// be read.
+    pub fn look(&self, rt: &HostRuntime, order: &Order<'a>) -> Result<Looked, DayFault<'a>> {
+        look_for_strays(rt, order, &self.one, &self.two)
     }
 }
 

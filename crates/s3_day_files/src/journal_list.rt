@@ -1,64 +1,125 @@
-//! `bureau journal`: the days of journals, listed.
+//! `bureau journal`: the days of journals, listed, or the pack of a day, put back.
 ghost use Rattle.std.specs.Prelude.{◌≤◌};
 
 use crate::fault::DayFault;
-use crate::journal::read_journal;
+use crate::journal_json::json_line;
+use crate::keeping::place_of;
+use crate::kept_packs::{KeptPack, kept_packs, kept_with, pack_itself};
+use crate::restoring::{Restoring, restore};
 use clap::ArgMatches;
 use s3_cards::LevelId;
 use s3_command_line::FILE;
 use s3_host_files::StandardOutput;
-use s3_journal::{LevelCount, PostedDay};
+use s3_journal::{LevelCount, PostedDay, Work};
+use s3_journal_files::read_journal;
 use s3_paper_commands::status::DONE;
 use s3_refusals::Shown;
 use std::alloc::AllocError;
 use std::io::Write;
 
-/// `bureau journal`: lists the days of journals, and gives the exit status.
-pub fn list_journals(rt: &HostRuntime, matches: &ArgMatches<'_>) -> u8
+/// How a journal is listed.
+#[derive(Clone, Copy)]
+enum Form {
+    /// A line for each of its lines.
+    Lines,
+    /// An object for each of its lines.
+    Objects,
+    /// How many lines it has.
+    Count,
+}
+
+/// `bureau journal`: lists the days of journals, or puts a pack back, and gives the exit status.
+pub fn perform_journal<'a>(rt: &HostRuntime, matches: &ArgMatches<'a>) -> u8
     ensures { result ≤ 3 }
 {
-    let is_verified = matches.get_flag("verify");
-    for name in matches.get_strs("file").unwrap_or(&[]) {
-        if let Err(fault) = list_journal(rt, *name, is_verified) {
-            return fault.tell(&mut rt.stderr());
-        }
+    let done = match restoring_of(matches) {
+        Ok(Some(asked)) => restore(rt, asked),
+        Ok(None) => list_journals(rt, matches),
+        Err(reason) => Err(DayFault::Usage(reason)),
+    };
+    match done {
+        Ok(()) => DONE,
+        Err(fault) => fault.tell(&mut rt.stderr()),
     }
-    DONE
+}
+
+/// What the options say is put back, if they say it, or why they can't be followed.
+fn restoring_of<'a>(matches: &ArgMatches<'a>) -> Result<Option<Restoring<'a>>, &'static str> {
+    match (matches.get_one::<u32>("restore"), matches.get_str("save")) {
+        (Some(day), Some(save)) => match matches.get_strs("file").unwrap_or(&[]) {
+            [journal] if !is_listed(matches) => Ok(Some(Restoring {
+                journal: *journal,
+                day,
+                save,
+            })),
+            [_] => Err("--restore goes without --verify, --json and --pack"),
+            _ => Err("--restore takes one journal"),
+        },
+        (Some(_), None) => Err("--restore goes with --save FILE, which names the pack"),
+        (None, Some(_)) => Err("--save goes with --restore DAY, which names the day"),
+        (None, None) => Ok(None),
+    }
+}
+
+/// Whether options say how journals are listed.
+fn is_listed(matches: &ArgMatches<'_>) -> bool {
+    matches.get_flag("verify") || matches.get_flag("json") || matches.get_str("pack").is_some()
+}
+
+/// Lists the days of journals on standard output.
+fn list_journals<'a>(rt: &HostRuntime, matches: &ArgMatches<'a>) -> Result<(), DayFault<'a>> {
+    let form = match (matches.get_flag("verify"), matches.get_flag("json")) {
+        (true, true) => return Err(DayFault::Usage("--verify and --json don't go together")),
+        (true, false) => Form::Count,
+        (false, true) => Form::Objects,
+        (false, false) => Form::Lines,
+    };
+    let kept = kept_beside(rt, matches.get_str("pack"))?;
+    for name in matches.get_strs("file").unwrap_or(&[]) {
+        list_journal(rt, *name, form, &kept)?;
+    }
+    Ok(())
+}
+
+/// A pack and those that are kept beside it; none if no pack is named.
+fn kept_beside<'a>(rt: &HostRuntime, pack: Option<&'a str>) -> Result<Vec<KeptPack>, DayFault<'a>> {
+    let Some(name) = pack else {
+        return Ok(Vec::new(rt.alloc()));
+    };
+    let itself = pack_itself(rt, name)?;
+    let place = place_of(rt, name)?;
+    let mut kept = kept_packs(rt, name, place.as_path())?;
+    kept.insert(0, itself)?;
+    Ok(kept)
 }
 
 /// Lists the days of a journal on standard output.
 fn list_journal<'a>(
     rt: &HostRuntime,
     name: &'a str,
-    is_verified: bool,
+    form: Form,
+    kept: &[KeptPack],
 ) -> Result<(), DayFault<'a>> {
-    let text = journal_text(rt, name, is_verified)?;
+    let text = journal_text(rt, name, form, kept)?;
     if StandardOutput::new(rt).write_all(text.as_bytes()).is_err() {
         return Err(DayFault::Cli(FILE));
     }
     Ok(())
 }
 
-/// The days of a journal, the first one first; if it is only to be verified, how many lines it has.
+/// The days of a journal, the first one first, or how many lines it has.
 fn journal_text<'a>(
     rt: &HostRuntime,
     name: &'a str,
-    is_verified: bool,
+    form: Form,
+    kept: &[KeptPack],
 ) -> Result<String, DayFault<'a>> {
     let journal = read_journal(rt, name)?;
     let mut text = String::new(rt.alloc());
-    if is_verified {
-        push_count(&mut text, name, journal.days.len())?;
-        return Ok(text);
-    }
-    for place in 0..journal.days.len() {
-        let place = journal.days.len() - 1 - place;
-        if let Some(day) = journal.days.get(place) {
-            let next = place
-                .checked_sub(1)
-                .and_then(|later| journal.days.get(later));
-            push_day(&mut text, day, next)?;
-        }
+    match form {
+        Form::Count => push_count(&mut text, name, journal.days.len())?,
+        Form::Lines => push_days(&mut text, &journal.days, kept)?,
+        Form::Objects => push_objects(rt, &mut text, name, &journal.days, kept)?,
     }
     Ok(text)
 }
@@ -76,23 +137,77 @@ fn push_count(text: &mut String, name: &str, lines: usize) -> Result<(), AllocEr
     }
 }
 
+/// Appends an object for each of these days, which are listed from the last one to the first, the first one first.
+fn push_objects(
+    rt: &HostRuntime,
+    text: &mut String,
+    journal: &str,
+    days: &[PostedDay],
+    kept: &[KeptPack],
+) -> Result<(), AllocError> {
+    for day in days.iter().rev() {
+        let path = kept_with(kept, day.after.as_str()).map(|pack| pack.path.as_str());
+        let object = json_line(rt.alloc(), journal, day, path)?;
+        text.push_str(object.as_str())?;
+    }
+    Ok(())
+}
+
+/// Appends a line for each of these days, which are listed from the last one to the first, the first one first.
+fn push_days(text: &mut String, days: &[PostedDay], kept: &[KeptPack]) -> Result<(), AllocError> {
+    for place in 0..days.len() {
+        let place = days.len() - 1 - place;
+        if let Some(day) = days.get(place) {
+            let next = place.checked_sub(1).and_then(|later| days.get(later));
+            push_day(text, day, next)?;
+            push_kept(text, day, kept)?;
+            text.push('\n')?;
+        }
+    }
+    Ok(())
+}
+
+/// Appends in which file the pack is kept that a day left, if one is known.
+fn push_kept(text: &mut String, day: &PostedDay, kept: &[KeptPack]) -> Result<(), AllocError> {
+    if let Some(pack) = kept_with(kept, day.after.as_str()) {
+        let path = Shown(pack.path.as_str());
+        write!(text, "; in {path}")?;
+    }
+    Ok(())
+}
+
 /// Appends what a line says of a day, given the next day.
 fn push_day(
     text: &mut String,
     day: &PostedDay,
     next: Option<&PostedDay>,
 ) -> Result<(), AllocError> {
-    let (number, at, status) = (day.number, day.at.as_str(), day.status);
-    write!(text, "day {number}, {at}, status {status}")?;
-    push_level(text, LevelId::One, day.one)?;
-    push_level(text, LevelId::Two, day.two)?;
+    let (number, at) = (day.number, day.at.as_str());
+    write!(text, "day {number}, {at}, ")?;
+    push_work(text, day)?;
     if let Some(next) = next
         && next.before != day.after
     {
         text.push_str("; the next day began on another pack")?;
     }
-    text.push('\n')?;
     Ok(())
+}
+
+/// Appends what the command of a line did.
+fn push_work(text: &mut String, day: &PostedDay) -> Result<(), AllocError> {
+    match &day.work {
+        Work::Operate(done) => {
+            let status = day.status;
+            write!(text, "status {status}")?;
+            push_level(text, LevelId::One, done.one)?;
+            push_level(text, LevelId::Two, done.two)
+        }
+        Work::Append(added) => {
+            let file = Shown(added.file.as_str());
+            write!(text, "load --append into {file}")
+        }
+        other => text.push_str(other.command()),
+    }
 }
 
 /// Appends what a level did.

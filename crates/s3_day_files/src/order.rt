@@ -1,5 +1,7 @@
-//! What the words of `operate` ask for.
+//! What the options of `operate` ask for.
 
+use crate::exit_zero::ExitZero;
+use crate::keeping::MOST_KEPT;
 use crate::paper::Paper;
 use clap::ArgMatches;
 use s3_cards::LevelId;
@@ -9,10 +11,10 @@ use s3_operating::Questioned;
 use std::alloc::AllocError;
 use std::io::IsTerminal;
 
-/// The most turns of a level, where the words don't say it: some five seconds of a program that only jumps.
+/// The most turns of a level, if the options don't say it: some five seconds of a program that only jumps.
 const TURNS: u32 = 1_000_000_000;
 
-/// The most lines of a level, where the words don't say it.
+/// The most lines of a level, if the options don't say it.
 const LINES: u32 = 1_000_000;
 
 /// What stands for standard input where a file of rules is named.
@@ -28,13 +30,15 @@ pub struct Order<'a> {
     pub pack: Option<&'a str>,
     /// Where the pack is saved.
     pub save: Option<&'a str>,
+    /// How many packs that the save replaces are kept.
+    pub keep: u16,
     /// The files of level 1's deck.
     pub deck1: Vec<&'a str>,
     /// The files of level 2's deck.
     pub deck2: Vec<&'a str>,
     /// The rules.
     pub rules: Option<&'a str>,
-    /// Who is asked where no rule answers.
+    /// The one who is asked where no rule answers.
     pub questioned: Questioned,
     /// How far each level goes at most.
     pub bounds: Bounds,
@@ -64,8 +68,10 @@ pub struct Order<'a> {
     pub is_once: bool,
     /// What is there is written over.
     pub overwrites: bool,
-    /// Neither progress is told, nor what rules answer.
+    /// Neither progress is reported, nor what rules answer.
     pub is_quiet: bool,
+    /// In place of which exit statuses the command ends with 0.
+    pub exit_zero: ExitZero,
 }
 
 impl<'a> Order<'a> {
@@ -80,9 +86,12 @@ impl<'a> Order<'a> {
         let from1 = position(words, "from1")?;
         let from2 = position(words, "from2")?;
         let paper = Paper::read(words)?;
+        let keep = keep_of(words)?;
+        let exit_zero = ExitZero::read(words.get_str("exit-zero"))?;
         Ok(Order {
             pack: words.get_str("pack"),
             save: words.get_str("save"),
+            keep,
             deck1,
             deck2,
             rules,
@@ -105,6 +114,7 @@ impl<'a> Order<'a> {
             is_once: words.get_flag("once"),
             overwrites: words.get_flag("overwrite"),
             is_quiet: words.get_flag("quiet"),
+            exit_zero,
         })
     }
 
@@ -150,7 +160,16 @@ pub fn replies_of<'a>(words: &ArgMatches<'a>) -> Result<(Option<&'a str>, bool),
     Ok((rules, has_lines))
 }
 
-/// Who is asked where no rule answers.
+/// How many packs are kept; 0 if the options don't say it.
+fn keep_of(words: &ArgMatches<'_>) -> Result<u16, &'static str> {
+    match words.get_one::<u16>("keep") {
+        Some(keep) if keep == 0 || keep > MOST_KEPT => Err("--keep takes a number from 1 to 999"),
+        Some(keep) => Ok(keep),
+        None => Ok(0),
+    }
+}
+
+/// The one who is asked where no rule answers.
 fn questioned(rt: &HostRuntime, has_lines: bool) -> Questioned {
     if has_lines {
         Questioned::Lines

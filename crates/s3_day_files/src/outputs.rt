@@ -1,6 +1,7 @@
 //! The outputs of a day. None of them may overwrite a file that is read, another output or, without `--overwrite`, any file.
 
 use crate::fault::{DayFault, unwritten};
+use crate::keeping::{kept_name, place_of, test_keeping};
 use crate::order::Order;
 use crate::paper::Paper;
 pub use s3_host_files::Output;
@@ -119,6 +120,7 @@ impl<'a> Files<'a> {
         self.add_texts(rt, order)?;
         self.add_pack(rt, order.pack)?;
         self.add_saved(rt, order)?;
+        self.add_kept(rt, order)?;
         self.add_journal(rt, order.journal)?;
         self.add_written(rt, order)?;
         match order.paper {
@@ -134,7 +136,38 @@ impl<'a> Files<'a> {
         if let Some(name) = order.save {
             self.written.push(found(rt, name, &STREAMS)?)?;
         }
+        self.add_kept(rt, order)?;
         self.add_journal(rt, order.journal)
+    }
+
+    /// Adds the names under which packs are kept. No other output may have one of them.
+    fn add_kept(&mut self, rt: &HostRuntime, order: &Order<'a>) -> Result<(), DayFault<'a>> {
+        let Some(name) = order.save else {
+            return Ok(());
+        };
+        if order.keep == 0 {
+            return Ok(());
+        }
+        let place = place_of(rt, name)?;
+        self.add_numbered(rt, name, place.as_path(), order.keep)
+    }
+
+    /// Adds the names under which so many packs are kept beside a file.
+    fn add_numbered(
+        &mut self,
+        rt: &HostRuntime,
+        name: &'a str,
+        place: Path<'_>,
+        count: u16,
+    ) -> Result<(), DayFault<'a>> {
+        for number in 0..count.saturating_add(1) {
+            let kept = kept_name(rt.alloc(), place, number)?;
+            match Target::find(rt, kept.as_str()) {
+                Ok(target) => self.written.push(Named { name, target })?,
+                Err(error) => return Err(DayFault::of(&error, name)),
+            }
+        }
+        Ok(())
     }
 
     /// Adds the journal. It may be no file that is read and no other output.
@@ -313,7 +346,20 @@ impl<'a> Outputs<'a> {
     ) -> Result<Outputs<'a>, DayFault<'a>> {
         let limit = limit_of(rt, order)?;
         match save_prepared(rt, order, locked) {
-            Ok(locked) => Outputs::open_beside(rt, order, limit, locked),
+            Ok(locked) => Outputs::open_kept(rt, order, limit, locked),
+            Err(fault) => Err(fault),
+        }
+    }
+
+    /// Opens all outputs beside the file that the pack is saved to, if the pack can be kept that is replaced.
+    fn open_kept(
+        rt: &HostRuntime,
+        order: &Order<'a>,
+        limit: Option<Limit>,
+        locked: Option<LockedPack>,
+    ) -> Result<Outputs<'a>, DayFault<'a>> {
+        match test_keeping(rt, order, &locked) {
+            Ok(()) => Outputs::open_beside(rt, order, limit, locked),
             Err(fault) => Err(fault),
         }
     }
@@ -349,14 +395,33 @@ impl<'a> Outputs<'a> {
     }
 
     fn open_all(&mut self, rt: &HostRuntime, order: &Order<'a>) -> Result<(), DayFault<'a>> {
-        let overwrites = order.overwrites;
-        self.script = self.open_one(rt, order.script, overwrites)?;
-        self.log = self.open_one(rt, order.log, overwrites)?;
-        self.deck1 = self.open_one(rt, order.deck_out1, overwrites)?;
-        self.deck2 = self.open_one(rt, order.deck_out2, overwrites)?;
-        self.kept.script = kept_of(&self.script, order.script)?;
-        self.kept.log = kept_of(&self.log, order.log)?;
-        self.open_folder(rt, order.paper, overwrites)
+        self.open_script(rt, order)?;
+        self.open_log(rt, order)?;
+        self.open_decks(rt, order)?;
+        self.open_folder(rt, order.paper, order.overwrites)
+    }
+
+    /// Opens the script, with a second handle.
+    fn open_script(&mut self, rt: &HostRuntime, order: &Order<'a>) -> Result<(), DayFault<'a>> {
+        let script = self.open_one(rt, order.script, order.overwrites)?;
+        self.kept.script = kept_of(&script, order.script)?;
+        self.script = script;
+        Ok(())
+    }
+
+    /// Opens the log, with a second handle.
+    fn open_log(&mut self, rt: &HostRuntime, order: &Order<'a>) -> Result<(), DayFault<'a>> {
+        let log = self.open_one(rt, order.log, order.overwrites)?;
+        self.kept.log = kept_of(&log, order.log)?;
+        self.log = log;
+        Ok(())
+    }
+
+    /// Opens the files of the decks as they are run.
+    fn open_decks(&mut self, rt: &HostRuntime, order: &Order<'a>) -> Result<(), DayFault<'a>> {
+        self.deck1 = self.open_one(rt, order.deck_out1, order.overwrites)?;
+        self.deck2 = self.open_one(rt, order.deck_out2, order.overwrites)?;
+        Ok(())
     }
 
     /// Makes the folder of the pages, if they are asked for and it isn't there.

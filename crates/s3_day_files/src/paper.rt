@@ -3,9 +3,11 @@
 use crate::fault::DayFault;
 use crate::outputs::Files;
 use clap::ArgMatches;
-use s3_host_files::{Limit, LockedFolder, is_empty_folder, make_folder, stream_in, test_folder};
-use std::fs;
+use s3_host_files::{
+    Limit, LockedFolder, is_empty_folder, is_pack_at, make_folder, stream_in, test_folder,
+};
 use std::io::ErrorKind;
+use std::{fs, io};
 
 /// How pages are written.
 #[derive(Clone, Copy)]
@@ -70,11 +72,21 @@ impl<'a> Paper<'a> {
         }
     }
 
-    /// Refuses a folder that isn't empty, unless its files may be overwritten.
+    /// Refuses a folder that isn't empty, unless its files may be overwritten and none of them is a pack.
     fn test_empty(&self, rt: &HostRuntime, overwrites: bool) -> Result<(), DayFault<'a>> {
         match is_empty_folder(rt, self.folder) {
-            Ok(is_empty) if is_empty || overwrites => Ok(()),
-            Ok(_) => Err(DayFault::NotEmpty(self.folder)),
+            Ok(true) => Ok(()),
+            Ok(false) if overwrites => self.test_packs(rt),
+            Ok(false) => Err(DayFault::NotEmpty(self.folder)),
+            Err(error) => Err(DayFault::of(&error, self.folder)),
+        }
+    }
+
+    /// Refuses a folder with a pack.
+    fn test_packs(&self, rt: &HostRuntime) -> Result<(), DayFault<'a>> {
+        match has_pack(rt, self.folder) {
+            Ok(false) => Ok(()),
+            Ok(true) => Err(DayFault::HasPack(self.folder)),
             Err(error) => Err(DayFault::of(&error, self.folder)),
         }
     }
@@ -100,6 +112,18 @@ impl<'a> Paper<'a> {
             Err(error) => Err(DayFault::of(&error, self.folder)),
         }
     }
+}
+
+/// Whether a file in a folder is a pack.
+fn has_pack(rt: &HostRuntime, folder: &str) -> io::Result<bool> {
+    for entry in fs::read_dir(rt, folder)? {
+        if let Ok(entry) = entry
+            && is_pack_at(rt, entry.path())
+        {
+            return Ok(true);
+        }
+    }
+    Ok(false)
 }
 
 /// How pages are written, given the form that is named, and whether the bars are left out.

@@ -25,15 +25,32 @@ const TOO_SOON: u64 = 200;
 /// The most bytes of an answer that are kept.
 const LONGEST: usize = 80;
 
+/// What is known of the decks before the first turn.
+#[derive(Clone, Copy)]
+pub struct Looked {
+    /// The day is begun.
+    pub is_begun: bool,
+    /// Level 1's deck can be read.
+    pub is_one_read: bool,
+}
+
 /// Reports the jobs of both decks that go on over statements of the next ones, one a line. Whether the day is begun: if there are such
 /// jobs, a person at a terminal is asked, unless rules are given or the day of a log is done again.
-pub fn are_strays_accepted<'a>(
+pub fn look_for_strays<'a>(
     rt: &HostRuntime,
     order: &Order<'a>,
     one: &DayDeck<'a>,
     two: &DayDeck<'a>,
-) -> Result<bool, DayFault<'a>> {
-    let count = report_strays(rt, one, two)?;
+) -> Result<Looked, DayFault<'a>> {
+    let found = report_strays(rt, one, two)?;
+    Ok(Looked {
+        is_begun: is_begun(rt, order, found.count)?,
+        is_one_read: found.is_one_read,
+    })
+}
+
+/// Whether a day with so many strays is begun.
+fn is_begun(rt: &HostRuntime, order: &Order<'_>, count: usize) -> Result<bool, AllocError> {
     if count == 0 || !is_person_asked(order) {
         return Ok(true);
     }
@@ -44,38 +61,60 @@ pub fn are_strays_accepted<'a>(
     Ok(is_begun)
 }
 
+/// The strays of both decks.
+#[derive(Clone, Copy)]
+pub struct Strays {
+    /// How many there are.
+    count: usize,
+    /// Level 1's deck can be read.
+    is_one_read: bool,
+}
+
 /// Whether a person is asked before the first turn.
 fn is_person_asked(order: &Order<'_>) -> bool {
     matches!(order.questioned, Questioned::Person) && order.rules.is_none() && order.redo.is_none()
 }
 
-/// Reports the jobs of both decks that go on over statements of the next ones. How many they are.
+/// Reports the jobs of both decks that go on over statements of the next ones.
 pub fn report_strays<'a>(
     rt: &HostRuntime,
     one: &DayDeck<'a>,
     two: &DayDeck<'a>,
-) -> Result<usize, AllocError> {
+) -> Result<Strays, AllocError> {
     let of_one = report_level(rt, LevelId::One, one)?;
     let of_two = report_level(rt, LevelId::Two, two)?;
-    Ok(of_one.saturating_add(of_two))
+    Ok(Strays {
+        count: of_one.unwrap_or(0).saturating_add(of_two.unwrap_or(0)),
+        is_one_read: of_one.is_some(),
+    })
 }
 
-/// Reports these jobs of the deck of a level; none if it can't be read.
+/// Reports these jobs of the deck of a level. How many they are; `None` if the deck can't be read.
 fn report_level<'a>(
     rt: &HostRuntime,
     level: LevelId,
     deck: &DayDeck<'a>,
+) -> Result<Option<usize>, AllocError> {
+    match cards_of(rt, deck.text())? {
+        Some(cards) => Ok(Some(report_cards(rt, level, deck, &cards)?)),
+        None => Ok(None),
+    }
+}
+
+/// Reports these jobs of the cards of a deck. How many they are.
+fn report_cards<'a>(
+    rt: &HostRuntime,
+    level: LevelId,
+    deck: &DayDeck<'a>,
+    cards: &Deck,
 ) -> Result<usize, AllocError> {
-    let Some(cards) = cards_of(rt, deck.text())? else {
-        return Ok(0);
-    };
-    let jobs = jobs_of(rt.alloc(), &cards)?;
-    if !have_strays(rt, &cards, &jobs)? {
+    let jobs = jobs_of(rt.alloc(), cards)?;
+    if !have_strays(rt, cards, &jobs)? {
         return Ok(0);
     }
     let places = deck.with_places(rt.alloc())?;
     let mut text = String::new(rt.alloc());
-    let count = push_strays(&mut text, rt.alloc(), &places, &cards, &jobs)?;
+    let count = push_strays(&mut text, rt.alloc(), &places, cards, &jobs)?;
     let number = level.number();
     let _ = writeln!(rt.stderr(), "level {number}:");
     let _ = rt.stderr().write_all(text.as_bytes());

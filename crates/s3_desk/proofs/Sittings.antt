@@ -343,7 +343,7 @@ module _ {M : Type 0} (holds : M → LevelId → World → Type 0) where
     nothing = λ w held. first_nothing entry.action times did w some not (steps w held).0;
   }
 
-  -- ---- one behind the other
+  -- ---- one after the other
   unmoved : (was : List Entry) (old : M) → IsQuiet holds was was old old
   unmoved was old = record { same = refl; keeps = λ level w held. held }
 
@@ -401,7 +401,7 @@ module _ {M : Type 0} (holds : M → LevelId → World → Type 0) where
   }
   level_drained level was between is old middle new (Err stop) idle drains = tt
 
-  -- and what was held still is behind it
+  -- and what was held still is after it
   goes_kept : (level : LevelId) (replies was is : List Entry) (old middle new : M) → LevelGoes holds level replies was is old middle → Keeps holds middle new → LevelGoes holds level replies was is old new
   goes_kept level replies was is old middle new goes keeps = record {
     goes = λ first before. kept is first middle new (goes.goes first before) keeps;

@@ -51,7 +51,7 @@ pub struct Day {
 /// printed lines, and no report is made of them. What was performed before is forgotten.
 ///
 /// A pack that isn't mounted is refused. A deck that can't be read counts as empty, and its level's halt text begins with its fault, as
-/// of job 000. Where memory runs out, the pack is lost.
+/// of job 000. If memory runs out, the pack is lost.
 pub fn operate_day<O: Operator<Bureau<MemoryStore>>>(
     alloc: Global,
     pack: Vec<u8>,

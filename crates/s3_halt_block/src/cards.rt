@@ -4,7 +4,7 @@ use s3_cards::{Card, Deck};
 use s3_decks::{Columns, DeckText, push_ruled};
 use std::alloc::AllocError;
 
-/// The cards of a deck, and where they stand in its files.
+/// The cards of a deck, and where they are in its files.
 #[derive(Clone, Copy)]
 pub(crate) struct DeckCards<'a> {
     pub(crate) text: &'a DeckText<'a>,

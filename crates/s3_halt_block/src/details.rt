@@ -21,7 +21,7 @@ struct Blame {
 }
 
 /// Appends each detail of a halt, by cards: the card, and below it what is wrong there, with marks under the columns to blame. At most
-/// twenty are shown, and how many more there are is told.
+/// twenty are shown, and how many more there are is reported.
 pub(crate) fn push_details(
     text: &mut String,
     alloc: Global,

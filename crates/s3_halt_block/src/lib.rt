@@ -1,6 +1,6 @@
 //! The block in which a halt is shown to an operator, in words. docs/OPERATING.md says what it has.
 //!
-//! What is proved: each call is safe and returns, and puts its text behind the one that it is given. What is shown is tested.
+//! What is proved: each call is safe and returns, and puts its text after the one that it is given. What is shown is tested.
 
 #![tactic(auto)]
 

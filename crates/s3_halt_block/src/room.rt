@@ -71,7 +71,7 @@ fn push_free(text: &mut String, asked: &Asked<'_>) -> Result<(), AllocError> {
 struct FreeTracks {
     /// All that are free.
     in_all: u32,
-    /// The most that lie one behind the other.
+    /// The most that lie one after the other.
     in_a_row: u32,
 }
 

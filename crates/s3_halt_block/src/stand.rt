@@ -1,4 +1,4 @@
-//! Where a program stands in its source, and what it holds there.
+//! Where a program is in its source, and what it holds there.
 
 use crate::at_work::{AtWork, is_on_cards};
 use crate::bad_digits::bad_digits;
@@ -54,7 +54,7 @@ impl Shown {
     }
 }
 
-/// Appends where a program stands. What belongs on the last data card is handed on.
+/// Appends where a program is. What belongs on the last data card is handed on.
 pub(crate) fn push_stand(
     text: &mut String,
     alloc: Global,
@@ -272,12 +272,12 @@ fn push_sought(text: &mut String, at: AtWork<'_>) -> Result<(), AllocError> {
     text.push('\n')
 }
 
-/// The file at which a program stands.
+/// The file at which a program is.
 fn file_there(at: AtWork<'_>) -> Option<&FileLine> {
     at.file(at.cycle.file_there()?)
 }
 
-/// Appends the record that a CHAIN found, where it is of no type.
+/// Appends the record that a CHAIN found, if it is of no type.
 fn push_found(text: &mut String, at: AtWork<'_>) -> Result<(), AllocError> {
     match at.evidence {
         Evidence::Records {
@@ -326,7 +326,7 @@ fn is_compared(at: AtWork<'_>, file: Option<&FileLine>, place: usize) -> bool {
     }
 }
 
-/// Appends a line of some words, and a record with its key marked, where it has one.
+/// Appends a line of some words, and a record with its key marked, if it has one.
 fn push_keyed_record(
     text: &mut String,
     words: &str,

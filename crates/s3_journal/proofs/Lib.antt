@@ -1,2 +1,7 @@
 pub mod AnyLine
+pub mod JournalLemmas
+pub mod MemberLemmas
 pub mod Once
+pub mod RoundTrip
+pub mod TextLemmas
+pub mod WritingLemmas

@@ -1,3 +1,10 @@
--- What the contracts of a run and of a session don't reach: which day a pack is of, and what a crash leaves of a journal and a pack.
+-- What the contracts of a run and of a session don't reach: what the lines of a journal say, which line a pack is of, and what a crash
+-- leaves of a journal and a pack.
+pub mod Days
+pub mod Members
+pub mod Views
+pub mod Lines
+pub mod Written
+pub mod Journals
 pub mod Posted
 pub mod Crashes

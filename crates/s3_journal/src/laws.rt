@@ -1,5 +1,6 @@
-//! What the definitions say of crashes.
+//! What the definitions say of crashes, and of lines that are read.
 ghost use Rattle.s3_journal.specs.Inner.Crashes.{CrashesAreSeen, PostsOnce};
+ghost use Rattle.s3_journal.specs.Inner.Journals.{ReadsBack};
 
 /// No list of starts, kills and restarts posts the same decks twice.
 #[tactic(auto, using(crate::proofs::Once::posts_once))]
@@ -11,4 +12,10 @@ pub fn posts_once()
 #[tactic(auto, using(crate::proofs::Once::crashes_are_seen))]
 pub fn crashes_are_seen()
     ensures { CrashesAreSeen }
+{}
+
+/// The lines that are written of days, each after the line before it, are read as these days, also if a further line was begun.
+#[tactic(auto, using(crate::proofs::RoundTrip::reads_back))]
+pub fn a_journal_reads_back()
+    ensures { ReadsBack }
 {}

@@ -1,15 +1,19 @@
-//! The journal beside a pack: a line of JSON for each day that was going to be saved, with the checksums of the pack before and after
-//! it. docs/JOURNAL.md has the lines.
+//! The journal beside a pack: a line of JSON for each day or other command whose pack was going to be saved, with the checksums of the
+//! pack before and after it. docs/JOURNAL.md has the lines.
 //!
 //! What is proved:
 //!
-//! - which day of a journal a pack is of (`standing_of`), which day posted the decks to a pack (`posted_day`), and what a start is to do
-//!   (`start_of`);
-//! - no list of starts and kills posts decks twice (`posts_once`), and a start after a kill takes the day as posted exactly if the pack
-//!   is the new one (`crashes_are_seen`), given that a line is on the disk before the new pack has the name of the old one;
-//! - a line follows another one if it has the SHA-256 digest of that one (`follows`).
+//! - which line of a journal a pack is of (`standing_of`), which line posted the same to a pack (`posted_day`), and what a start is to
+//!   do (`start_of`);
+//! - no list of starts and kills posts the same twice (`posts_once`), and a start after a kill takes its work as posted exactly if the
+//!   pack is the new one (`crashes_are_seen`), given that a line is on the disk before the new pack has the name of the old one;
+//! - `line_of` writes exactly the line of a day: one JSON object with the SHA-256 digest of the line before, and a line feed;
+//! - `read_lines` reads exactly the days of a text's lines, or refuses a text in which a line is none, or doesn't have the digest of the
+//!   line before, or after which no line was begun; or memory runs out;
+//! - the lines that are written of days, one after another, are read as these days, also if a further line was begun
+//!   (`a_journal_reads_back`).
 //!
-//! Tested: what is written of a day, and that a line is read as that day.
+//! Tested: which line a refusal names.
 
 #![tactic(auto)]
 
@@ -22,8 +26,8 @@ mod standing;
 mod writing;
 
 pub use chain::checksum_of;
-pub use day::{LevelCount, PostedDay};
-pub use laws::{crashes_are_seen, posts_once};
+pub use day::{Appended, LevelCount, Operated, PostedDay, Posting, Ran, Work};
+pub use laws::{a_journal_reads_back, crashes_are_seen, posts_once};
 pub use reading::{JournalFault, Lines, read_lines};
-pub use standing::{Posting, Start, day_with, posted_day, start_of};
+pub use standing::{Start, day_with, posted_day, start_of};
 pub use writing::line_of;

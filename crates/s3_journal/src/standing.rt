@@ -1,12 +1,12 @@
-//! Which day of a journal a pack is of, and whether decks are posted.
+//! Which line of a journal a pack is of, and whether the same is posted.
 ghost use Rattle.std.specs.Prelude.{◌≡◌, find};
 ghost use Rattle.std.specs.List.{list_any};
 ghost use Rattle.std.specs.Option.{option_copied, option_map};
 ghost use Rattle.std.specs.Str.{bytes_eq};
 ghost use Rattle.std.specs.String.{string_bytes};
-ghost use Rattle.s3_journal.specs.Inner.Posted.{decks_of, has_pack as has_pack_spec, line_of, lines_of, posted_in, same_decks, standing_of as standing_spec, start_of as start_spec};
+ghost use Rattle.s3_journal.specs.Inner.Posted.{has_pack as has_pack_spec, line_of, lines_of, made as made_spec, posted_by, posted_in, same_posted, standing_of as standing_spec, start_of as start_spec};
 
-use crate::day::PostedDay;
+use crate::day::{PostedDay, Posting};
 
 /// Which day of a journal a pack is of.
 #[derive(Clone, Copy)]
@@ -23,26 +23,17 @@ pub(crate) enum Standing {
     Unknown,
 }
 
-/// What the start of a day is to do.
+/// What the start of a command is to do.
 #[derive(Clone, Copy)]
 pub enum Start {
-    /// To do the day.
+    /// To do the work.
     Do,
-    /// Nothing: the decks are posted.
+    /// Nothing: the same is posted.
     IsPosted,
     /// To refuse: the pack is an old copy.
     IsOld,
     /// To refuse: no line has the pack.
     IsUnknown,
-}
-
-/// What is going to be posted: the checksums of both decks.
-#[derive(Clone, Copy)]
-pub struct Posting<'a> {
-    /// The checksum of level 1's deck.
-    pub one: &'a str,
-    /// The checksum of level 2's deck.
-    pub two: &'a str,
 }
 
 /// Whether two texts are the same.
@@ -59,11 +50,41 @@ fn has_pack(day: &PostedDay, pack: &str) -> bool
     is_same(day.after.as_str(), pack) || is_same(day.before.as_str(), pack)
 }
 
-/// Whether a day had these decks.
-fn has_decks(day: &PostedDay, decks: Posting<'_>) -> bool
-    ensures { result ≡ same_decks (line_of day.now).decks (decks_of decks.entry) }
+/// Whether two commands post the same, which may be posted only once.
+fn posts_same(one: Posting<'_>, other: Posting<'_>) -> bool
+    ensures { result ≡ same_posted (posted_by one.entry) (posted_by other.entry) }
 {
-    is_same(day.deck1.as_str(), decks.one) && is_same(day.deck2.as_str(), decks.two)
+    match (one, other) {
+        (
+            Posting::Decks { one, two },
+            Posting::Decks {
+                one: first,
+                two: second,
+            },
+        ) => { is_same(one, first) && is_same(two, second) }
+        (
+            Posting::Table { table, file },
+            Posting::Table {
+                table: added,
+                file: into,
+            },
+        ) => { is_same(table, added) && is_same(file, into) }
+        _ => false,
+    }
+}
+
+/// Whether a line's command didn't put an earlier pack back, and left this one.
+fn has_made(day: &PostedDay, pack: &str) -> bool
+    ensures { result ≡ made_spec pack.now (line_of day.now) }
+{
+    !day.work.restores() && is_same(day.after.as_str(), pack)
+}
+
+/// Whether a line's command posted the same.
+fn has_posted(day: &PostedDay, posting: Posting<'_>) -> bool
+    ensures { result ≡ same_posted (line_of day.now).posted (posted_by posting.entry) }
+{
+    posts_same(day.work.posting(), posting)
 }
 
 /// Which day a pack is of, given the days of its journal, the last one first, and the checksum of the pack.
@@ -99,19 +120,19 @@ pub fn day_with<'a>(days: &'a [PostedDay], pack: &str) -> Option<&'a PostedDay>
     days.iter().find(|day| has_pack(day, pack))
 }
 
-/// The last day with these decks among those that made a pack, given the days of its journal, the last one first, and the checksum of
-/// the pack.
+/// The last day that posted the same among those that made a pack, given the days of its journal, the last one first, and the checksum
+/// of the pack.
 pub fn posted_day<'a>(
     days: &'a [PostedDay],
     pack: &str,
-    decks: Posting<'_>,
+    posting: Posting<'_>,
 ) -> Option<&'a PostedDay>
-    ensures { option_map line_of (option_copied result) ≡ posted_in (decks_of decks.entry) pack.now (lines_of days.now) }
+    ensures { option_map line_of (option_copied result) ≡ posted_in (posted_by posting.entry) pack.now (lines_of days.now) }
 {
     let mut made = pack;
     for day in days {
-        if is_same(day.after.as_str(), made) {
-            if has_decks(day, decks) {
+        if has_made(day, made) {
+            if has_posted(day, posting) {
                 return Some(day);
             }
             made = day.before.as_str();
@@ -120,11 +141,11 @@ pub fn posted_day<'a>(
     None
 }
 
-/// What a day's start is to do, given the days of the journal, the last one first, the checksum of the pack and the decks.
-pub fn start_of(days: &[PostedDay], pack: &str, decks: Posting<'_>) -> Start
-    ensures { result ≡ start_spec (decks_of decks.entry) pack.now (lines_of days.now) }
+/// What a command's start is to do, given the days of the journal, the last one first, the checksum of the pack and what is to be posted.
+pub fn start_of(days: &[PostedDay], pack: &str, posting: Posting<'_>) -> Start
+    ensures { result ≡ start_spec (posted_by posting.entry) pack.now (lines_of days.now) }
 {
-    let is_posted = posted_day(days, pack, decks).is_some();
+    let is_posted = posted_day(days, pack, posting).is_some();
     match standing_of(days, pack) {
         Standing::OldCopy => Start::IsOld,
         Standing::Unknown => Start::IsUnknown,

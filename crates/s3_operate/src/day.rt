@@ -1,8 +1,7 @@
-//! A day, from its first turn to what is told at its end.
+//! A day, from its first turn to what is reported at its end.
 
 use crate::pages::{Making, write_paper};
 use crate::saving::{Place, end_day, end_unwritten};
-use s3_bureau::read_deck;
 use s3_cli::{CliFault, SessionFault};
 use s3_command_line::{FILE, OUT_OF_MEMORY};
 use s3_day_files::{
@@ -39,6 +38,8 @@ pub struct Prepared<'a> {
     pub rules: &'a Rules,
     /// The log that is done again.
     pub logged: Option<&'a DayLog>,
+    /// Level 1's deck can be read.
+    pub is_one_read: bool,
 }
 
 /// Printed before a list of replies is typed.
@@ -79,6 +80,15 @@ impl Over {
     }
 }
 
+/// What the end of a day needs: the outputs that the desk doesn't have, and where the pack is saved.
+#[derive(Drop)]
+struct Ending<'n> {
+    deck1: Option<Output>,
+    deck2: Option<Output>,
+    kept: KeptOutputs,
+    place: Place<'n>,
+}
+
 /// Operates a day over a pack, hands out what it leaves, and gives the exit status.
 pub fn operate_prepared<'n, 'a>(
     rt: &'a HostRuntime,
@@ -97,37 +107,115 @@ pub fn operate_prepared<'n, 'a>(
         kept,
         made,
     } = outputs;
-    let place = Place { locked, journal };
     let texts = Texts {
         one: day.one.text(),
         two: day.two.text(),
     };
-    let (_cards, refusal) = read_deck(rt.alloc(), texts.one)?;
-    let reports = Reports::new(rt.alloc(), StandardOutput::new(rt))?;
-    let desk = desk_of(rt, order, day, script, log)?;
-    let mut printing = Printing::new(desk, reports, refusal.is_none());
-    if matches!(order.questioned, Questioned::Lines) && rt.stdin().is_terminal() {
-        printing.operator.tell(REPLIES_TYPED);
+    let ending = Ending {
+        deck1,
+        deck2,
+        kept,
+        place: Place { locked, journal },
+    };
+    match printing_of(rt, order, day, script, log) {
+        Ok(printing) => operate_printed(rt, order, pack, texts, printing, ending, &made),
+        Err(error) => Err(DayFault::from(error)),
     }
+}
+
+/// The desk before its day, with the reports, which go to standard output.
+fn printing_of<'a>(
+    rt: &'a HostRuntime,
+    order: &Order<'_>,
+    day: Prepared<'a>,
+    script: Option<Output>,
+    log: Option<Output>,
+) -> Result<PrintingDesk<'a>, AllocError> {
+    let is_one_read = day.is_one_read;
+    match Reports::new(rt.alloc(), StandardOutput::new(rt)) {
+        Ok(reports) => Ok(Printing::new(
+            desk_of(rt, order, day, script, log),
+            reports,
+            is_one_read,
+        )),
+        Err(error) => Err(error),
+    }
+}
+
+/// Operates a day, and hands out what it leaves. If a deck is refused, nothing is written, so what was made by trying goes again.
+fn operate_printed<'n>(
+    rt: &HostRuntime,
+    order: &Order<'n>,
+    pack: Vec<u8>,
+    texts: Texts<'_>,
+    printing: PrintingDesk<'_>,
+    ending: Ending<'n>,
+    made: &[&'n str],
+) -> Result<u8, DayFault<'n>> {
+    let mut printing = printing;
+    tell_replies_typed(rt, order, &mut printing.operator);
     match operated(rt.alloc(), order, pack, texts, &mut printing) {
-        Ok(over) => {
-            let written = match write_decks(rt, order, texts, deck1, deck2) {
-                Ok(()) => write_reports(rt, order, &mut printing, texts, &over, &kept),
-                Err(fault) => Err(fault),
-            };
-            let desk = &mut printing.operator;
-            match written {
-                Ok(()) => end_day(rt, order, desk, &kept, &over, place),
-                Err(fault) => Err(end_unwritten(rt, order, desk, &kept, fault)),
-            }
-        }
+        Ok(over) => hand_out(rt, order, texts, printing, over, ending),
         Err(fault) => {
-            // if a deck is refused nothing is written, so what was made by trying goes again
             if printing.operator.refused().is_some() {
-                remove_made(rt, &made);
+                remove_made(rt, made);
             }
             Err(fault)
         }
+    }
+}
+
+/// Reports what a terminal is read for if a list of replies is typed there.
+fn tell_replies_typed(rt: &HostRuntime, order: &Order<'_>, desk: &mut OwnDesk<'_>) {
+    if matches!(order.questioned, Questioned::Lines) && rt.stdin().is_terminal() {
+        desk.tell(REPLIES_TYPED);
+    }
+}
+
+/// Writes what a day leaves, saves the pack, and gives the exit status.
+fn hand_out<'n>(
+    rt: &HostRuntime,
+    order: &Order<'n>,
+    texts: Texts<'_>,
+    printing: PrintingDesk<'_>,
+    over: Over,
+    ending: Ending<'n>,
+) -> Result<u8, DayFault<'n>> {
+    let Ending {
+        deck1,
+        deck2,
+        kept,
+        place,
+    } = ending;
+    let mut printing = printing;
+    let written = match write_decks(rt, order, texts, deck1, deck2) {
+        Ok(()) => write_reports(rt, order, &mut printing, texts, &over, &kept),
+        Err(fault) => Err(fault),
+    };
+    end_written(
+        rt,
+        order,
+        &mut printing.operator,
+        &kept,
+        &over,
+        place,
+        written,
+    )
+}
+
+/// Saves the pack, if all outputs are written, and gives the exit status.
+fn end_written<'n>(
+    rt: &HostRuntime,
+    order: &Order<'n>,
+    desk: &mut OwnDesk<'_>,
+    kept: &KeptOutputs,
+    over: &Over,
+    place: Place<'n>,
+    written: Result<(), DayFault<'n>>,
+) -> Result<u8, DayFault<'n>> {
+    match written {
+        Ok(()) => end_day(rt, order, desk, kept, over, place),
+        Err(fault) => Err(end_unwritten(rt, order, desk, kept, fault)),
     }
 }
 
@@ -150,13 +238,14 @@ fn desk_of<'a>(
     day: Prepared<'a>,
     script: Option<Output>,
     log: Option<Output>,
-) -> Result<OwnDesk<'a>, AllocError> {
+) -> OwnDesk<'a> {
     let Prepared {
         begun,
         one,
         two,
         rules,
         logged,
+        is_one_read: _,
     } = day;
     let settings = Settings {
         rules,
@@ -165,9 +254,8 @@ fn desk_of<'a>(
         is_quiet: order.is_quiet,
         questioned: order.questioned,
         wants_decks: order.save.is_some(),
-        saves_unfinished: order.saves_unfinished,
     };
-    Ok(Desk::new(
+    Desk::new(
         rt.alloc(),
         settings,
         one,
@@ -178,7 +266,7 @@ fn desk_of<'a>(
         Journal::new(log),
         begun,
         Watch::new(rt),
-    ))
+    )
 }
 
 /// Operates a day to its end, and closes the desk.

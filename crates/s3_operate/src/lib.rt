@@ -22,9 +22,9 @@ use s3_cards::LevelId;
 use s3_cli::{CliFault, RunFault, SessionFault};
 use s3_command_line::{OUT_OF_MEMORY, command, names_standard_error};
 use s3_day_files::{
-    Again, Begin, DayFault, DayJournal, DayPack, Decks, Given, Order, Outputs, begin_day,
-    list_jobs, names, read_log, read_rules, rules_text, test_decks, test_journal, test_outputs,
-    test_same,
+    Again, Begin, DayFault, DayJournal, DayPack, Decks, ExitZero, Given, Looked, Order, Outputs,
+    begin_day, list_jobs, names, read_log, read_rules, rules_text, test_decks, test_journal,
+    test_outputs, test_same,
 };
 use s3_day_log::DayLog;
 use s3_labels::{Pack, Refusal, Refused};
@@ -35,7 +35,7 @@ use s3_replies::Rules;
 use s3_store::MemoryStore;
 use std::io::Write;
 
-/// Does what the words of `bureau operate` ask, and gives the exit status. The words as they were given, behind `operate`, are
+/// Does what the options of `bureau operate` ask, and gives the exit status. The words as they were given, after `operate`, are
 /// for the log.
 pub fn operate<'a>(rt: &'a HostRuntime, matches: &ArgMatches<'a>, words: &[String]) -> u8
     ensures { result ≤ 5 }
@@ -46,7 +46,7 @@ pub fn operate<'a>(rt: &'a HostRuntime, matches: &ArgMatches<'a>, words: &[Strin
     }
 }
 
-/// The exit status of a day; why it was refused is told.
+/// The exit status of a day; why it was refused is reported.
 fn status_of_day(rt: &HostRuntime, done: Result<u8, DayFault<'_>>) -> u8
     ensures { result ≤ 5 }
 {
@@ -140,7 +140,21 @@ fn operate_with<'a>(
     again: Option<Again<'a>>,
 ) -> Result<u8, DayFault<'a>> {
     match order_of(rt, matches) {
-        Ok(order) => operate_order(rt, &order, matches.get_flag("jobs"), words, again),
+        Ok(order) => {
+            let done = operate_order(rt, &order, matches.get_flag("jobs"), words, again);
+            exit_status(order.exit_zero, done)
+        }
+        Err(fault) => Err(fault),
+    }
+}
+
+/// The exit status of the command, given that of its day.
+fn exit_status<'a>(
+    exit_zero: ExitZero,
+    done: Result<u8, DayFault<'a>>,
+) -> Result<u8, DayFault<'a>> {
+    match done {
+        Ok(status) => Ok(exit_zero.status_for(status)),
         Err(fault) => Err(fault),
     }
 }
@@ -193,6 +207,9 @@ fn conflict_of(order: &Order<'_>, lists_jobs: bool) -> Option<&'static str> {
     }
     if order.saves_unfinished && order.save.is_none() {
         return Some("--save-unfinished needs --save FILE, which names where the pack is saved");
+    }
+    if order.keep > 0 && order.save.is_none() {
+        return Some("--keep goes with --save FILE, which names where the pack is saved");
     }
     journal_conflict(order)
 }
@@ -271,11 +288,26 @@ fn operate_read<'a>(
     rest: Rest,
     again: Option<Again<'a>>,
 ) -> Result<u8, DayFault<'a>> {
-    match are_decks_taken(rt, order, &mut decks, again) {
-        Ok(true) => operate_begun(rt, order, decks, rest, again.map(|again| again.log)),
-        Ok(false) => Ok(PERSON_NEEDED),
+    match look_at_decks(rt, order, &mut decks, again) {
+        Ok(looked) if looked.is_begun => {
+            let known = Known {
+                logged: again.map(|again| again.log),
+                is_one_read: looked.is_one_read,
+            };
+            operate_begun(rt, order, decks, rest, known)
+        }
+        Ok(_) => Ok(PERSON_NEEDED),
         Err(fault) => Err(fault),
     }
+}
+
+/// What is known of a day whose decks are looked at.
+#[derive(Clone, Copy)]
+struct Known<'a> {
+    /// The log that is done again.
+    logged: Option<&'a DayLog>,
+    /// Level 1's deck can be read.
+    is_one_read: bool,
 }
 
 /// Does a day, if its journal lets it begin.
@@ -284,16 +316,49 @@ fn operate_begun<'a>(
     order: &Order<'a>,
     decks: Decks<'a>,
     rest: Rest,
-    logged: Option<&'a DayLog>,
+    known: Known<'a>,
 ) -> Result<u8, DayFault<'a>> {
     match begin_by_journal(rt, order, &rest, &decks) {
-        Ok(Begin::Day(journal)) => operate_over(rt, order, decks, rest, journal, logged),
+        Ok(Begin::Day(Some(journal))) => operate_noted(rt, order, decks, rest, journal, known),
+        Ok(Begin::Day(None)) => operate_over(rt, order, decks, rest, None, known),
         Ok(Begin::IsPosted) => Ok(DONE),
         Err(fault) => Err(fault),
     }
 }
 
-/// What the journal says of the start of a day. A day that is posted is found before outputs are refused because they exist.
+/// Does a day that has a journal. A journal that the day made is removed again if it got no line.
+fn operate_noted<'a>(
+    rt: &'a HostRuntime,
+    order: &Order<'a>,
+    decks: Decks<'a>,
+    rest: Rest,
+    journal: DayJournal<'a>,
+    known: Known<'a>,
+) -> Result<u8, DayFault<'a>> {
+    let made = journal.made();
+    let done = operate_tested(rt, order, decks, rest, journal, known);
+    if let Some(made) = made {
+        made.remove_if_empty(rt);
+    }
+    done
+}
+
+/// Does a day that its journal lets begin, once the outputs are tested. A day that is posted was found before.
+fn operate_tested<'a>(
+    rt: &'a HostRuntime,
+    order: &Order<'a>,
+    decks: Decks<'a>,
+    rest: Rest,
+    journal: DayJournal<'a>,
+    known: Known<'a>,
+) -> Result<u8, DayFault<'a>> {
+    match test_outputs(rt, order) {
+        Ok(()) => operate_over(rt, order, decks, rest, Some(journal), known),
+        Err(fault) => Err(fault),
+    }
+}
+
+/// What the journal says of the start of a day.
 fn begin_by_journal<'a>(
     rt: &HostRuntime,
     order: &Order<'a>,
@@ -305,34 +370,29 @@ fn begin_by_journal<'a>(
     };
     test_journal(rt, order)?;
     let given = Given::of(rt.alloc(), order, &rest.pack.bytes, decks, &rest.text)?;
-    let begin = begin_day(rt, order, name, given)?;
-    if let Begin::Day(_) = &begin {
-        test_outputs(rt, order)?;
-    }
-    Ok(begin)
+    begin_day(rt, order, name, given)
 }
 
-/// Whether the decks, from where each is taken up, are accepted, and are those of a log that is done again.
-fn are_decks_taken<'a>(
+/// Looks at the decks, from where each is taken up. They are refused if they aren't those of a log that is done again.
+fn look_at_decks<'a>(
     rt: &HostRuntime,
     order: &Order<'a>,
     decks: &mut Decks<'a>,
     again: Option<Again<'a>>,
-) -> Result<bool, DayFault<'a>> {
+) -> Result<Looked, DayFault<'a>> {
     if let Some(again) = again {
         test_same(rt, again, &decks.begun)?;
     }
     decks.take_up(rt, order)?;
-    if !decks.are_accepted(rt, order)? {
-        return Ok(false);
-    }
+    let looked = decks.look(rt, order)?;
     if let Some(level) = level_begun_anew(order)
+        && looked.is_begun
         && order.redo.is_none()
         && !order.is_quiet
     {
         report_first_job(rt, level);
     }
-    Ok(true)
+    Ok(looked)
 }
 
 /// The level that begins at its first job while the other one is taken up at a line, if there is one.
@@ -360,7 +420,7 @@ fn operate_over<'a>(
     decks: Decks<'a>,
     rest: Rest,
     journal: Option<DayJournal<'a>>,
-    logged: Option<&'a DayLog>,
+    known: Known<'a>,
 ) -> Result<u8, DayFault<'a>> {
     let Decks { one, two, begun } = decks;
     let Rest {
@@ -373,7 +433,8 @@ fn operate_over<'a>(
         one: Seat::new(rt.alloc(), LevelId::One, &one),
         two: Seat::new(rt.alloc(), LevelId::Two, &two),
         rules: &rules,
-        logged,
+        logged: known.logged,
+        is_one_read: known.is_one_read,
     };
     operate_mounted(rt, order, pack, journal, day)
 }

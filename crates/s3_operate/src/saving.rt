@@ -2,7 +2,7 @@
 
 use crate::day::{Over, OwnDesk, test_outputs, test_written};
 use s3_cards::LevelId;
-use s3_day_files::{DayFault, DayJournal, KeptOutputs, Order};
+use s3_day_files::{DayFault, DayJournal, KeptOutputs, Order, SetAside, end_aside, take_back};
 use s3_day_log::{DayOver, Event, NamedFile, checksum};
 use s3_host_files::{FileFault, Kept, Limit, LockedPack, save_new_pack, save_pack};
 use s3_journal::LevelCount;
@@ -23,7 +23,7 @@ const LOGGED_NO: &'static str = ": in the log the answer was no";
 const UNFINISHED: &'static str =
     ": a level isn't done (--save-unfinished saves it so); do the whole day again from its first job, over the same pack";
 
-/// Printed if the lines above name a line to take up at, and the pack isn't saved.
+/// Printed if the day was to be taken up at a line, and the pack isn't saved.
 const WHOLE_DAY: &'static str =
     "nothing of this day is saved, so it can't be taken up at a line: do the whole day again from its first job, over the same pack";
 
@@ -98,13 +98,20 @@ fn save<'n>(
         locked,
         mut journal,
     } = place;
+    let aside = match SetAside::of(rt, order, &locked) {
+        Ok(aside) => aside,
+        Err(fault) => return Err(end_unwritten(rt, order, desk, kept, fault)),
+    };
     if let Err(fault) = note_day(rt, order, desk, over, &mut journal, saving.sum) {
+        take_back(rt, &aside);
         return Err(end_unwritten(rt, order, desk, kept, fault));
     }
     // what comes after the save must not need memory for the name of the pack
     let pack = saved_file(rt.alloc(), saving)?;
     let path = saving.path;
-    match saved(rt, order, path, locked, kept.limit, &over.day.run.pack) {
+    let done = saved(rt, order, path, locked, kept.limit, &over.day.run.pack);
+    end_aside(rt, &aside, &done);
+    match done {
         Ok(()) => end_saved(rt, order, desk, kept, over, path, pack),
         Err(FileFault::Unsynced(error)) => end_unsynced(rt, order, desk, kept, path, pack, &error),
         Err(fault) => end_failed(rt, order, desk, kept, path, &fault),
@@ -142,7 +149,7 @@ fn report_unsaved(rt: &HostRuntime, order: &Order<'_>, path: &str, reason: &str)
     report_whole_day(rt, order);
 }
 
-/// Reports that a day whose pack isn't saved can't be taken up at a line, if its summary may name one.
+/// Reports that a day whose pack isn't saved can't be taken up at a line, if that was wanted.
 fn report_whole_day(rt: &HostRuntime, order: &Order<'_>) {
     if order.saves_unfinished {
         let _ = writeln!(rt.stderr(), "{WHOLE_DAY}");
@@ -291,7 +298,7 @@ fn end_saved<'n>(
 fn report_saved(rt: &HostRuntime, path: &str, is_unfinished: bool) {
     let path = Shown(path);
     let further = if is_unfinished {
-        ", though a level isn't done: a job that is taken up begins anew, over the records that it has written"
+        ", though a level isn't done: take the day up where the summary says; a job that is taken up begins anew, over the records that it has written"
     } else {
         ""
     };

@@ -9,6 +9,7 @@ use crate::seat::Seat;
 use s3_bureau::LevelLines;
 use s3_cards::LevelId;
 use s3_day_log::{BegunJob, Event, Ledger, LevelEnd, Purpose, Verdict, became};
+use s3_decks::{DeckText, FilePlace, Position};
 use s3_desk::{Day, End};
 use s3_operator::{is_at_start, meaning};
 use s3_replay::Performed;
@@ -120,21 +121,11 @@ impl<'a> Levels<'a> {
     /// The summary of both levels.
     fn summary(&self, one: Ended, two: Ended) -> Message {
         let mut message = Message::new(self.alloc);
-        self.push_closing(&mut message, &self.one, one);
+        push_summary(&mut message, &self.one, one);
         self.push_turns(&mut message, one);
-        self.push_closing(&mut message, &self.two, two);
+        push_summary(&mut message, &self.two, two);
         self.push_turns(&mut message, two);
         message
-    }
-
-    /// Appends how a level ended, and its jobs.
-    fn push_closing(&self, message: &mut Message, seat: &Seat<'_>, ended: Ended) {
-        let from = if self.settings.saves_unfinished {
-            ": take up at "
-        } else {
-            ": from "
-        };
-        push_summary(message, seat, ended, from);
     }
 
     /// Appends how many turns a level may take, and what to do, if it was stopped by that.
@@ -149,11 +140,11 @@ impl<'a> Levels<'a> {
     }
 }
 
-/// Appends how a level ended, and its jobs. The words `from` come before the line at which what is left begins.
-fn push_summary(message: &mut Message, seat: &Seat<'_>, ended: Ended, from: &str) {
+/// Appends how a level ended, and its jobs.
+fn push_summary(message: &mut Message, seat: &Seat<'_>, ended: Ended) {
     message.push_level(seat.level);
     message.push(": ");
-    push_end(message, seat, ended.end, from);
+    push_end(message, seat, ended.end);
     if ended.is_done() {
         push_counts(message, seat, ended.lines);
     }
@@ -177,19 +168,19 @@ fn push_counts(message: &mut Message, seat: &Seat<'_>, lines: usize) {
     message.push_counted(seat.halts, "halt");
 }
 
-fn push_end(message: &mut Message, seat: &Seat<'_>, end: LevelEnd, from: &str) {
+fn push_end(message: &mut Message, seat: &Seat<'_>, end: LevelEnd) {
     match end {
         LevelEnd::Done => message.push("done"),
         LevelEnd::Unread => message.push("its deck can't be read"),
-        LevelEnd::Halted => push_where(message, seat, "halted", from),
-        LevelEnd::Stopped => push_where(message, seat, "stopped", from),
-        LevelEnd::CutByTurns => push_where(message, seat, "cut by --turns", from),
-        LevelEnd::CutByLines => push_where(message, seat, "cut by --lines", from),
+        LevelEnd::Halted => push_where(message, seat, "halted"),
+        LevelEnd::Stopped => push_where(message, seat, "stopped"),
+        LevelEnd::CutByTurns => push_where(message, seat, "cut by --turns"),
+        LevelEnd::CutByLines => push_where(message, seat, "cut by --lines"),
     }
 }
 
 /// Appends where a level is that isn't done, and what is left of its deck.
-fn push_where(message: &mut Message, seat: &Seat<'_>, how: &str, from: &str) {
+fn push_where(message: &mut Message, seat: &Seat<'_>, how: &str) {
     message.push(how);
     if let Some(code) = seat.waits {
         message.push(" at ");
@@ -198,12 +189,12 @@ fn push_where(message: &mut Message, seat: &Seat<'_>, how: &str, from: &str) {
     match open_job(&seat.ledger) {
         Some(job) => {
             push_left_with_this(message, &seat.ledger);
-            push_first_left(message, seat, Some(job.card), from);
+            push_first_left(message, seat, Some(job.card));
         }
         None => {
             push_left(message, seat.ledger.jobs_left() as u64);
             let first = seat.ledger.first_card(seat.ledger.begun().len());
-            push_first_left(message, seat, first, from);
+            push_first_left(message, seat, first);
         }
     }
 }
@@ -239,14 +230,29 @@ fn push_left(message: &mut Message, left: u64) {
 }
 
 /// Appends at which line the first job begins that is left.
-fn push_first_left(message: &mut Message, seat: &Seat<'_>, first: Option<usize>, from: &str) {
+fn push_first_left(message: &mut Message, seat: &Seat<'_>, first: Option<usize>) {
     if let Some(card) = first
         && let Some(deck) = seat.places()
         && let Some(place) = deck.place_of(card).place
     {
-        message.push(from);
-        message.push_file_place(place);
+        message.push(": from ");
+        if leads_to(deck, place, card) {
+            message.push_file_place(place);
+        } else {
+            message.push("line ");
+            message.push_number(card as u64);
+            message.push(" of the whole deck");
+        }
     }
+}
+
+/// Whether a line of a file, as `--from1` names it, leads to a card: of a file that is given twice, it leads to the first copy.
+fn leads_to(deck: &DeckText<'_>, place: FilePlace<'_>, card: usize) -> bool {
+    let position = Position {
+        file: Some(place.file),
+        line: place.line,
+    };
+    deck.card_at(&position) == Some(card)
 }
 
 /// Appends a job, and how it ended.
@@ -294,7 +300,7 @@ fn push_how(message: &mut Message, job: &BegunJob, end: LevelEnd) {
             message.push_letters(code);
         }
         None if job.is_over => message.push("came to its end"),
-        // a reply that ends a job leads to its totals, where it can halt again
+        // a reply that ends a job leads to its totals, if it can halt again
         Some(_) | None => message.push(words_of(end)),
     }
 }

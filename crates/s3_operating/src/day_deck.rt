@@ -12,7 +12,7 @@ struct DeckFile<'a> {
     end: usize,
     /// How many blank lines at its end are passed over.
     blank_lines: usize,
-    /// The line of the file that each card is of, where its text was punched.
+    /// The line of the file that each card is of, if its text was punched.
     origins: Option<Vec<usize>>,
 }
 

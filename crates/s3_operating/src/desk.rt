@@ -43,7 +43,7 @@ const BETWEEN: u64 = 1_000;
 /// How many turns both levels take at least between two looks at the clock for such a line.
 const TURNS_BETWEEN: u64 = 1_000;
 
-/// Who is asked for what neither a log nor a rule answers.
+/// The one who is asked for what neither a log nor a rule answers.
 #[derive(Clone, Copy)]
 pub enum Questioned {
     /// Nobody: such a halt stays unanswered.
@@ -76,12 +76,10 @@ pub struct Settings<'a> {
     pub bounds: Bounds,
     /// Neither progress nor what a log or a rule answers is reported.
     pub is_quiet: bool,
-    /// Who is asked.
+    /// The one who is asked.
     pub questioned: Questioned,
     /// The day isn't begun where a deck can't be read.
     pub wants_decks: bool,
-    /// The pack is saved even if a level isn't done, so that the day can be taken up at a line.
-    pub saves_unfinished: bool,
 }
 
 /// The operator of the command, over a reader of replies, a writer of messages, files for script and log, and a clock.

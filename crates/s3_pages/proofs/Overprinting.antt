@@ -7,7 +7,7 @@ behind_one : (texts : List (List ℕ)) → overprinted_behind true texts ≡ fla
 behind_one [] = refl
 behind_one (text ∷ texts) = ap (λ more. (13 ∷ text) ++ more) (behind_one texts)
 
--- the first text stands over nothing
+-- the first text is over nothing
 pub overprinted_is : (texts : List (List ℕ)) → overprinted_behind false texts ≡ overprinted texts
 overprinted_is [] = refl
 overprinted_is (text ∷ texts) = ap (λ more. text ++ more) (behind_one texts)

@@ -1,4 +1,4 @@
--- The lines that stand on one page.
+-- The lines that are on one page.
 use Rattle.std.proofs.Common.{◌≡◌, ℕ, ◌+◌, ◌-◌, ◌<◌, ◌≤◌, suc, true, false, ◌⊎◌, inl, inr, List, [], ◌∷◌, ◌++◌, refl, ap, ◌∙◌, arith, eqb, leb, take, drop, replicate}
 use Rattle.std.specs.Prelude.{◌==◌}
 use Rattle.std.specs.List.{prefix_len}
@@ -18,7 +18,7 @@ pages_on_other from to other = by_order (cases_Bool (leb from to))
     by_order (inl low) = rw low (let least : from ≤ to = leb-true from to low in let apart : to ≡ from → ⊥ = eqb-false to from other in omega arith)
     by_order (inr high) = rw high (omega arith)
 
--- a line that stands on the page
+-- a line that is on the page
 on_page : (number : ℕ) (line : Printed) (lines : List Printed) → line.page ≡ number
     → pages_from number (line ∷ lines) ≡ on_first line (pages_from number lines)
 unfolding pages_from
@@ -26,7 +26,7 @@ on_page number line lines same =
     let none : pages_on number line.page ≡ 0 = rw same (pages_on-same number) in
     rw (none, same) refl
 
--- a line that stands on another one
+-- a line that is on another one
 off_page : (number : ℕ) (line : Printed) (lines : List Printed) → eqb line.page number ≡ false
     → pages_from number (line ∷ lines) ≡ [] ∷ pages_behind number (line ∷ lines)
 unfolding pages_from
@@ -36,7 +36,7 @@ off_page number line lines other =
     let here : pages_on line.page line.page ≡ 0 = pages_on-same line.page in
     ap (λ n. replicate n [] ++ on_first line (pages_from line.page lines)) one_more ∙ rw here refl
 
--- a page has the lines in front that stand on it, and the pages behind it have the others
+-- a page has the lines in front that are on it, and the pages after it have the others
 pub page_of_run : (number : ℕ) (lines : List Printed)
     → pages_from number lines ≡ take (prefix_len (λ line. line.page == number) lines) lines ∷ pages_behind number (drop (prefix_len (λ line. line.page == number) lines) lines)
 unfolding pages_from

@@ -1,7 +1,7 @@
 -- Texts that grow piece by piece.
 use Rattle.std.proofs.Common.{◌≡◌, ℕ, List, ◌++◌, ap, ◌∙◌, append_assoc}
 
--- a piece behind those that were appended
+-- a piece after those that were appended
 pub next_piece : (old text after front piece : List ℕ) → text ≡ old ++ front → after ≡ text ++ piece → after ≡ old ++ (front ++ piece)
 next_piece old text after front piece so_far next = next ∙ ap (λ t. t ++ piece) so_far ∙ append_assoc old front piece
 

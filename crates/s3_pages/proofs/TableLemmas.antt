@@ -1,4 +1,4 @@
--- Objects behind objects.
+-- Objects after objects.
 use Rattle.std.proofs.Common.{◌≡◌, ℕ, ◌+◌, ◌≤◌, suc, List, [], ◌∷◌, ◌++◌, Option, Result, Ok, Err, OnOk, OnErr, IsErrAnd, IsErrOf, refl, sym, ap, subst, ◌∙◌, arith, append_assoc, append-nil, length, length-append}
 use Rattle.std.proofs.KnownBytes.{Appends-nil, Appends-trans}
 use Rattle.std.proofs.lemmas.List.Concat.{flat_map-append}
@@ -58,7 +58,7 @@ end_apart some more old mid before after puts =
     let here : mid.end ≡ end_behind old some = puts.end in
     omega arith
 
--- objects are put behind others
+-- objects are put after others
 pub puts_more : (some more : List (List ℕ)) (old mid new : Table) (before between after : Option (List ℕ)) → Puts some old mid before between → Puts more mid new between after
     → Puts (some ++ more) old new before after
 puts_more some more old mid new before between after first second =
@@ -73,7 +73,7 @@ puts_more some more old mid new before between after first second =
       end = second.end ∙ sym (end_apart some more old mid before between first);
     }
 
--- too long already without what comes behind
+-- too long already without what comes after
 pub long_first : (some more : List (List ℕ)) (old : Table) → end_limit ≤ end_behind old some → end_limit ≤ end_behind old (some ++ more)
 long_first some more old long =
     let number : ℕ = length old.starts.items + 1 in
@@ -83,12 +83,12 @@ long_first some more old long =
     ∙ length-append (joined (texts_behind old some)) (joined (numbered (number + length some) more)) in
     omega arith
 
--- too long by what comes behind
+-- too long by what comes after
 pub long_second : (some more : List (List ℕ)) (old mid : Table) (before after : Option (List ℕ)) → Puts some old mid before after
     → end_limit ≤ end_behind mid more → end_limit ≤ end_behind old (some ++ more)
 long_second some more old mid before after puts long = subst (λ n. end_limit ≤ n) (sym (end_apart some more old mid before after puts)) long
 
--- what comes of objects that are put behind others
+-- what comes of objects that are put after others
 pub putting_more : (some more : List (List ℕ)) (old mid new : Table) (before between after : Option (List ℕ)) (done : Unit {0}) (result : Result (Unit {0}) PaperFault)
     → Putting some old mid before between (Ok done) → Putting more mid new between after result → Putting (some ++ more) old new before after result
 putting_more some more old mid new before between after done (Ok last) first second =
@@ -185,7 +185,7 @@ put_one body text number len end old new before after (Err fault) is_number is_t
 pub puts_none : (old : Table) (before : Option (List ℕ)) → Puts [] old old before before
 puts_none old before = record { written = Appends-nil before; starts = sym (append-nil old.starts.items); end = omega arith }
 
--- the whole file, where its table is written
+-- the whole file, if its table is written
 pub file_wrote : (bodies : List (List ℕ)) (old new : Table) (first before after last : Option (List ℕ)) (done : Unit {0}) (result : Result (Unit {0}) PaperFault)
     → old.starts.items ≡ [] → old.end ≡ 9 → Appends first before first_line → Putting bodies old new before after (Ok done)
     → OnOk result (Appends after last (table_text new.starts.items ++ trailer_text (length new.starts.items) new.end)) → OnOk result (Appends first last (file_of bodies))

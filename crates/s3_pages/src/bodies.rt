@@ -17,7 +17,7 @@ pub const RESOURCES: &[u8] = b"<< /Font << /F 1 0 R >> /XObject << /B 2 0 R >> >
 /// What is said of the form on which all pages are printed, 14 7/8 by 11 inches.
 const FORM: &[u8] = b"/Type /XObject /Subtype /Form /BBox [0 0 1071 792] ";
 
-/// Page 0 comes behind so many pages, from page 1 on.
+/// Page 0 comes after so many pages, from page 1 on.
 const PAGES_TO_ZERO: u64 = 9_999;
 
 /// Appends the form on which all pages are printed.
@@ -109,7 +109,7 @@ fn push_turns(text: &mut Vec<u8>, count: u32) -> Result<(), AllocError>
     Ok(())
 }
 
-/// Appends the labels of a page 0 and of the pages behind it.
+/// Appends the labels of a page 0 and of the pages after it.
 #[tactic(auto, unfolding(crate::specs::Inner::Bodies::label_turn))]
 fn push_turn(text: &mut Vec<u8>, turn: u32) -> Result<(), AllocError>
     ensures { OnOk result (text.new.items ≡ text.old.items ++ label_turn turn) }
@@ -123,7 +123,7 @@ fn push_turn(text: &mut Vec<u8>, turn: u32) -> Result<(), AllocError>
     Ok(())
 }
 
-/// Appends what is told of a document.
+/// Appends what is reported of a document.
 #[tactic(auto, unfolding(crate::specs::Inner::Bodies::info_body))]
 pub fn push_info(text: &mut Vec<u8>, title: &[u8]) -> Result<(), AllocError>
     ensures { OnOk result (text.new.items ≡ text.old.items ++ info_body title.now) }

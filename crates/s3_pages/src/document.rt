@@ -127,7 +127,7 @@ fn put_page<W: Write>(
     put_two(alloc, table, body.as_slice(), contents.as_slice(), writer)
 }
 
-/// Writes what is told of all pages.
+/// Writes what is reported of all pages.
 fn put_back<W: Write>(
     alloc: Global,
     table: &mut Table,
@@ -149,7 +149,7 @@ fn put_back<W: Write>(
     put_two(alloc, table, root.as_slice(), info.as_slice(), writer)
 }
 
-/// Writes two objects behind those of a table.
+/// Writes two objects after those of a table.
 fn put_two<W: Write>(
     alloc: Global,
     table: &mut Table,
@@ -163,7 +163,7 @@ fn put_two<W: Write>(
     put_object(alloc, table, second, writer)
 }
 
-/// Writes an object behind those of a table, under the next number. It is `TooLong` where the document would have too many bytes for
+/// Writes an object after those of a table, under the next number. It is `TooLong` where the document would have too many bytes for
 /// its table.
 pub fn put_object<W: Write>(
     alloc: Global,

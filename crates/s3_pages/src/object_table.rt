@@ -89,7 +89,7 @@ pub fn push_object(text: &mut Vec<u8>, number: u64, body: &[u8]) -> Result<(), A
     text.extend_from_slice(b"\nendobj\n")
 }
 
-/// Writes a table and what stands behind it.
+/// Writes a table and what is after it.
 pub fn put_table<W: Write>(alloc: Global, table: &Table, writer: &mut W) -> Result<(), PaperFault>
     ensures wrote { OnOk result (Appends (W.contents writer.old) (W.contents writer.new) (table_text table.now.starts.items ++ trailer_text (length table.now.starts.items) table.now.end)) }
     ensures fits { ¬ IsErrOf result TooLong }

@@ -5,7 +5,7 @@ ghost use Rattle.s3_pages.specs.Inner.Pages.{pages_on as pages_on_spec};
 
 use s3_cards::PrintLine;
 
-/// The last number that a page has; page 0 comes behind it.
+/// The last number that a page has; page 0 comes after it.
 const LAST_PAGE: u32 = 9_999;
 
 /// The pages of a job's printed lines, from page 1 on. Each is the list of the lines that were printed on it, in the order in which
@@ -16,7 +16,7 @@ pub struct Pages<'a> {
     empty: u32,
     /// The number of that page.
     number: u16,
-    /// The lines that stand on it and behind it.
+    /// The lines that are on it and after it.
     rest: &'a [PrintLine],
     /// Whether no page is left.
     is_over: bool,
@@ -38,7 +38,7 @@ impl<'a> Pages<'a> {
         }
     }
 
-    /// The pages behind that of a number, given the lines that are printed behind it.
+    /// The pages after that of a number, given the lines that are printed after it.
     fn behind(number: u16, lines: &'a [PrintLine]) -> Pages<'a>
         ensures { pages_left result ≡ pages_behind number lines.now }
     {
@@ -84,7 +84,7 @@ impl<'a> Iterator for Pages<'a> {
     }
 }
 
-/// How many of the first lines stand on a page.
+/// How many of the first lines are on a page.
 fn run_len(lines: &[PrintLine], number: u16) -> usize
     ensures within { result ≤ length lines.now }
     ensures value { result ≡ prefix_len (λ line. line.page == number) lines.now }

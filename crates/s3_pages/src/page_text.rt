@@ -7,7 +7,7 @@ use crate::shown::push_shown;
 use s3_cards::PrintLine;
 use std::alloc::AllocError;
 
-/// The place of a line on its page, counted from 0. A line that is numbered 0 stands on the first one, too.
+/// The place of a line on its page, counted from 0. A line that is numbered 0 is on the first one, too.
 pub fn row_of(line: &PrintLine) -> u8
     ensures { result ≡ row_spec line.now }
 {
@@ -26,7 +26,7 @@ fn height(lines: &[PrintLine]) -> u16
 }
 
 /// Appends the text of a page: its lines from the first one to the last one that has something printed, each with a line feed at
-/// its end. Texts at one place stand in the order in which they were printed, with a carriage return between two.
+/// its end. Texts at one place are in the order in which they were printed, with a carriage return between two.
 #[tactic(auto, unfolding(crate::specs::Inner::PageTexts::page_text))]
 pub fn push_page(text: &mut Vec<u8>, lines: &[PrintLine]) -> Result<(), AllocError>
     ensures { OnOk result (text.new.items ≡ text.old.items ++ page_text lines.now) }

@@ -36,7 +36,7 @@ pub fn write_text<W: Write>(
     write_behind(pages, text, writer)
 }
 
-/// Writes the pages behind another one, each with a form feed in front of it. The text is a room that is used again.
+/// Writes the pages after another one, each with a form feed in front of it. The text is a room that is used again.
 fn write_behind<W: Write>(
     pages: Pages<'_>,
     mut text: Vec<u8>,

@@ -3,9 +3,11 @@ ghost use Rattle.std.specs.Prelude.{◌≤◌};
 
 use crate::deck::{ReadFiles, read_deck};
 use crate::fault::CommandFault;
-use crate::status::{DONE, FILE_FAILED, PERSON_NEEDED, REFUSED};
+use crate::messages::{Report, write_messages};
+use crate::status::{DONE, FILE_FAILED, FILE_WRONG, OPTIONS_WRONG, PERSON_NEEDED, REFUSED};
+use crate::typed_files::TypedFiles;
 use crate::unread::words_of_unread;
-use crate::words::{CommandWords, Takes, Word};
+use crate::words::{CommandWords, Example, Status, Takes, Word};
 use clap::ArgMatches;
 use s3_cards::{Deck, DeckFault};
 use s3_decks::DeckText;
@@ -18,11 +20,38 @@ use std::io::Write;
 pub const COMPILE: CommandWords = CommandWords {
     name: "compile",
     about: "Lists the sources of a deck with their diagnostics, and compiles nothing into a library",
+    aliases: &[],
+    statuses: &[
+        Status {
+            number: DONE,
+            meaning: "each source compiles",
+        },
+        Status {
+            number: REFUSED,
+            meaning: "the files are no deck, or memory ran out",
+        },
+        OPTIONS_WRONG,
+        FILE_WRONG,
+        Status {
+            number: PERSON_NEEDED,
+            meaning: "a source has errors, or with --strict warnings; or a job has statements in error",
+        },
+    ],
+    examples: &[
+        Example {
+            line: "bureau compile billing.rpg",
+            purpose: "Lists a deck with its errors",
+        },
+        Example {
+            line: "bureau compile --cross-reference --strict billing.rpg",
+            purpose: "Lists also where each name is used, and takes warnings as errors",
+        },
+    ],
     words: &[
         Word {
             name: "file",
             takes: Takes::FollowingFiles,
-            help: "The deck; a source comes after // LOAD $RPG,F1 and // RUN; several files are one deck; a file whose name ends in .rpg or .punch is plain text",
+            help: "The deck, or - for standard input; a source comes after // LOAD $RPG,F1 and // RUN; several files are one deck; a file whose name ends in .rpg or .punch is plain text",
         },
         Word {
             name: "cross-reference",
@@ -34,6 +63,11 @@ pub const COMPILE: CommandWords = CommandWords {
             takes: Takes::Nothing,
             help: "Exits with status 4 also if a source has warnings",
         },
+        Word {
+            name: "messages",
+            takes: Takes::Nothing,
+            help: "Prints instead a line for each error and warning, FILE:LINE:COLUMN: TEXT, as editors read them",
+        },
     ],
 };
 
@@ -44,6 +78,8 @@ struct Order {
     has_references: bool,
     /// A source with warnings waits for a person, as one with diagnostics does.
     is_strict: bool,
+    /// What is printed: a listing, or a line a message.
+    report: Report,
 }
 
 impl Order {
@@ -51,6 +87,11 @@ impl Order {
         Order {
             has_references: matches.get_flag("cross-reference"),
             is_strict: matches.get_flag("strict"),
+            report: if matches.get_flag("messages") {
+                Report::Messages
+            } else {
+                Report::Sentences
+            },
         }
     }
 }
@@ -71,8 +112,8 @@ pub fn compile_files<'a>(rt: &'a HostRuntime, matches: &ArgMatches<'a>) -> u8
 fn list_deck<'a>(rt: &'a HostRuntime, matches: &ArgMatches<'a>) -> Result<u8, CommandFault<'a>> {
     let order = Order::of(matches);
     let files = matches.get_strs("file").unwrap_or(&[]);
-    match read_deck(rt, files)? {
-        ReadFiles::Deck(text) => list_text(rt, &text, order, files.len() == 1),
+    match read_deck(rt, files, order.report)? {
+        ReadFiles::Deck(text, typed) => list_text(rt, &text, &typed, order, files.len() == 1),
         ReadFiles::Faulty => Ok(REFUSED),
         ReadFiles::Unread => Ok(FILE_FAILED),
     }
@@ -82,26 +123,33 @@ fn list_deck<'a>(rt: &'a HostRuntime, matches: &ArgMatches<'a>) -> Result<u8, Co
 fn list_text<'a>(
     rt: &HostRuntime,
     text: &DeckText<'_>,
+    typed: &TypedFiles<'_>,
     order: Order,
     is_one_file: bool,
 ) -> Result<u8, CommandFault<'a>> {
     match Deck::read(rt.alloc(), text.text()) {
-        Ok(deck) => write_on_output(rt, text, &deck, order),
+        Ok(deck) => {
+            let outcome = match order.report {
+                Report::Sentences => write_on_output(rt, text, &deck, order)?,
+                Report::Messages => write_messages(rt, text, typed, &deck)?,
+            };
+            Ok(status_of(rt, outcome, order.is_strict))
+        }
         Err(DeckFault::NoMemory) => Err(CommandFault::NoMemory),
         Err(DeckFault::At(..)) => {
-            report_unread(rt, text, is_one_file)?;
+            report_unread(rt, text, order.report, is_one_file)?;
             Ok(REFUSED)
         }
     }
 }
 
-/// Writes a listing on standard output, and gives the exit status.
+/// Writes a listing on standard output, and returns what it has.
 fn write_on_output<'a>(
     rt: &HostRuntime,
     text: &DeckText<'_>,
     deck: &Deck,
     order: Order,
-) -> Result<u8, CommandFault<'a>> {
+) -> Result<Outcome, CommandFault<'a>> {
     match write_listing(
         rt.alloc(),
         &mut StandardOutput::new(rt),
@@ -109,7 +157,7 @@ fn write_on_output<'a>(
         deck,
         order.has_references,
     ) {
-        Ok(outcome) => Ok(status_of(rt, outcome, order.is_strict)),
+        Ok(outcome) => Ok(outcome),
         Err(error) => Err(CommandFault::of_output(&error)),
     }
 }
@@ -132,9 +180,10 @@ fn status_of(rt: &HostRuntime, outcome: Outcome, is_strict: bool) -> u8 {
 fn report_unread<'a>(
     rt: &HostRuntime,
     text: &DeckText<'_>,
+    report: Report,
     is_one_file: bool,
 ) -> Result<(), CommandFault<'a>> {
-    let words = words_of_unread(rt.alloc(), text, is_one_file)?;
+    let words = words_of_unread(rt.alloc(), text, report, is_one_file)?;
     let _ = rt.stderr().write_all(words.as_bytes());
     Ok(())
 }

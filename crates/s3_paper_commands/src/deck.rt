@@ -1,13 +1,17 @@
-//! The deck of some files, of which those of plain text are punched.
+//! The deck of some files, of which those of plain text are punched. A file `-` is standard input.
 ghost use Rattle.std.specs.Prelude.{◌≤◌, IfOk};
 
 use crate::fault::CommandFault;
-use crate::punch::tell_punched;
+use crate::input::{STANDARD_INPUT, read_input, shown_name};
+use crate::messages::Report;
+use crate::punch::report_punched;
+use crate::typed_files::TypedFiles;
 use s3_decks::{DeckText, cards_len};
 use s3_host_files::{WRITTEN, read_within, stream_at};
 use s3_punch::{Begun, Punched, punch};
 use s3_refusals::begins_as_pack;
 use std::alloc::AllocError;
+use std::io;
 use std::io::ErrorKind;
 
 /// The most bytes of a file of a deck.
@@ -16,12 +20,19 @@ const TEXT_LIMIT: usize = 4_194_304;
 /// What some files are as a deck.
 #[derive(Drop)]
 pub enum ReadFiles<'a> {
-    /// The text of a deck.
-    Deck(DeckText<'a>),
+    /// The text of a deck, and the files of plain text among its files, if messages are asked for.
+    Deck(DeckText<'a>, TypedFiles<'a>),
     /// A file of plain text is in error, which was reported.
     Faulty,
     /// A file can't be read, which was reported.
     Unread,
+}
+
+/// A deck that is being read.
+#[derive(Drop)]
+struct ReadDeck<'a> {
+    cards: DeckText<'a>,
+    typed: TypedFiles<'a>,
 }
 
 /// A deck after some of its files: where the next one begins, and whether one of them is in error.
@@ -50,8 +61,12 @@ fn ends_in(path: &str, end: &[u8]) -> bool {
 pub fn read_deck<'a>(
     rt: &'a HostRuntime,
     paths: &[&'a str],
+    report: Report,
 ) -> Result<ReadFiles<'a>, CommandFault<'a>> {
-    let mut deck = DeckText::new(rt.alloc());
+    let mut deck = ReadDeck {
+        cards: DeckText::new(rt.alloc()),
+        typed: TypedFiles::new(rt.alloc()),
+    };
     let mut standing = Standing {
         begun: Begun::new(false),
         is_faulty: false,
@@ -60,7 +75,14 @@ pub fn read_deck<'a>(
     for path in paths {
         let name: &'a str = *path;
         match read_deck_file(rt, name) {
-            Ok(bytes) => standing = add_file(rt, &mut deck, standing, name, bytes)?,
+            Ok(bytes) => standing = add_file(
+                rt,
+                &mut deck,
+                standing,
+                report,
+                shown_name(name),
+                bytes,
+            )?,
             Err(CommandFault::File(name, error)) => {
                 let _ = CommandFault::File(name, error).tell(&mut rt.stderr());
                 is_unread = true;
@@ -68,21 +90,37 @@ pub fn read_deck<'a>(
             Err(fault) => return Err(fault),
         }
     }
-    Ok(if is_unread {
-        ReadFiles::Unread
-    } else if standing.is_faulty {
-        ReadFiles::Faulty
-    } else {
-        ReadFiles::Deck(deck)
-    })
+    Ok(deck.finish(is_unread, standing.is_faulty))
 }
 
-/// The bytes of a file of a deck. A pack is refused, and a file that is also standard output or standard error.
+impl<'a> ReadDeck<'a> {
+    /// What the files are, given whether one of them can't be read, and whether one is in error.
+    fn finish(self, is_unread: bool, is_faulty: bool) -> ReadFiles<'a> {
+        let ReadDeck { cards, typed } = self;
+        if is_unread {
+            ReadFiles::Unread
+        } else if is_faulty {
+            ReadFiles::Faulty
+        } else {
+            ReadFiles::Deck(cards, typed)
+        }
+    }
+}
+
+/// The bytes of a file of a deck, or of standard input. A pack is refused, and a file that is also standard output or standard error.
 pub fn read_deck_file<'a>(rt: &HostRuntime, name: &'a str) -> Result<Vec<u8>, CommandFault<'a>> {
+    if name == STANDARD_INPUT {
+        return text_of(read_input(rt, TEXT_LIMIT), shown_name(name));
+    }
     if let Some(stream) = stream_at(rt, name, &WRITTEN) {
         return Err(CommandFault::Stream(name, stream));
     }
-    match read_within(rt, name, TEXT_LIMIT) {
+    text_of(read_within(rt, name, TEXT_LIMIT), name)
+}
+
+/// The bytes that were read of a file of this name, if a deck may have them.
+fn text_of<'a>(read: io::Result<Vec<u8>>, name: &'a str) -> Result<Vec<u8>, CommandFault<'a>> {
+    match read {
         Ok(bytes) if begins_as_pack(&bytes) => Err(CommandFault::Pack(name)),
         Ok(bytes) => Ok(bytes),
         Err(error) if error.kind() == ErrorKind::FileTooLarge => Err(CommandFault::TooLarge(name)),
@@ -93,8 +131,9 @@ pub fn read_deck_file<'a>(rt: &HostRuntime, name: &'a str) -> Result<Vec<u8>, Co
 /// Puts a file after those of a deck, without the blank lines at its end.
 fn add_file<'a>(
     rt: &HostRuntime,
-    deck: &mut DeckText<'a>,
+    deck: &mut ReadDeck<'a>,
     standing: Standing,
+    report: Report,
     name: &'a str,
     bytes: Vec<u8>,
 ) -> Result<Standing, AllocError>
@@ -102,12 +141,12 @@ fn add_file<'a>(
     ensures { IfOk result (λ after. after.begun.cards ≤ 9999) }
 {
     if is_plain_text(name) {
-        return add_text(rt, deck, standing, name, &bytes);
+        return add_text(rt, deck, standing, report, name, bytes);
     }
     let mut bytes = bytes;
     bytes.truncate(cards_len(&bytes));
     let begun = standing.begun.behind_deck(&bytes);
-    deck.add(name, bytes)?;
+    deck.cards.add(name, bytes)?;
     Ok(Standing {
         begun,
         is_faulty: standing.is_faulty,
@@ -117,16 +156,17 @@ fn add_file<'a>(
 /// Puts the cards that are punched of a file after those of a deck, and reports the errors of the file.
 fn add_text<'a>(
     rt: &HostRuntime,
-    deck: &mut DeckText<'a>,
+    deck: &mut ReadDeck<'a>,
     standing: Standing,
+    report: Report,
     name: &'a str,
-    bytes: &[u8],
+    bytes: Vec<u8>,
 ) -> Result<Standing, AllocError>
     requires { standing.begun.cards ≤ 9999 }
     ensures { IfOk result (λ after. after.begun.cards ≤ 9999) }
 {
-    let punched = punch(rt.alloc(), bytes, &standing.begun)?;
-    let is_faulty = tell_punched(rt, name, &punched);
+    let punched = punch(rt.alloc(), &bytes, &standing.begun)?;
+    let is_faulty = report_punched(rt, report, name, &punched);
     let begun = punched.behind(standing.begun);
     let Punched {
         text,
@@ -135,7 +175,10 @@ fn add_text<'a>(
         faults: _faults,
         part: _part,
     } = punched;
-    deck.add_punched(name, text, &origins)?;
+    deck.cards.add_punched(name, text, &origins)?;
+    if let Report::Messages = report {
+        deck.typed.add(rt.alloc(), name, bytes)?;
+    }
     Ok(Standing {
         begun,
         is_faulty: is_faulty || standing.is_faulty,

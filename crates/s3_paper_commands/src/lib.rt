@@ -1,5 +1,5 @@
-//! The commands around paper, over real files: `bureau punch`, which makes decks of plain text, and `bureau compile`, which lists the
-//! sources of a deck. `status` has the exit statuses of all commands of the program, and `words` the kinds of their options.
+//! The commands around paper: `bureau punch`, which makes decks of plain text, `bureau compile`, which lists the sources of a deck, and
+//! `bureau entries`, which lists the entries of the sheets. `status` has the exit statuses of all commands of the program, and `words` the kinds of their options.
 //!
 //! What is proved: each call is safe and returns, and gives a status in its range. What a text becomes is proved in `s3_punch`. The
 //! options, the messages and the statuses are tested, by rows. What files and standard output give isn't claimed: they are
@@ -10,12 +10,18 @@
 mod characters;
 mod compile;
 mod deck;
+mod entries;
 mod fault;
+mod input;
+mod messages;
 mod punch;
 pub mod status;
+mod typed_files;
 mod unread;
 pub mod words;
 
 pub use compile::{COMPILE, compile_files};
 pub use deck::is_plain_text;
+pub use entries::{ENTRIES, list_entries};
+pub use input::STANDARD_INPUT;
 pub use punch::{PUNCH, punch_files, tell_punched};

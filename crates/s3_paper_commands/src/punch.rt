@@ -3,8 +3,10 @@ ghost use Rattle.std.specs.Prelude.{◌≤◌};
 
 use crate::deck::read_deck_file;
 use crate::fault::CommandFault;
-use crate::status::{DONE, REFUSED};
-use crate::words::{CommandWords, Takes, Word};
+use crate::input::shown_name;
+use crate::messages::Report;
+use crate::status::{DONE, FILE_WRONG, OPTIONS_WRONG, REFUSED};
+use crate::words::{CommandWords, Example, Status, Takes, Word};
 use clap::ArgMatches;
 use s3_host_files::StandardOutput;
 use s3_punch::{Begun, LineChange, PunchFault, PunchReason, Punched, punch};
@@ -16,11 +18,38 @@ use std::io::Write;
 pub const PUNCH: CommandWords = CommandWords {
     name: "punch",
     about: "Makes a deck of plain text: capitals, tabs to their columns, no comments; on standard output",
+    aliases: &[],
+    statuses: &[
+        Status {
+            number: DONE,
+            meaning: "the deck is written",
+        },
+        Status {
+            number: REFUSED,
+            meaning: "the text has errors, or a file is a pack",
+        },
+        OPTIONS_WRONG,
+        FILE_WRONG,
+    ],
+    examples: &[
+        Example {
+            line: "bureau punch billing.rpg > billing.deck",
+            purpose: "Makes a deck of plain text",
+        },
+        Example {
+            line: "iconv -f latin1 -t utf-8 old.txt | bureau punch - > new.deck",
+            purpose: "Makes a deck of a text in another encoding",
+        },
+        Example {
+            line: "bureau punch --report old.txt > new.deck",
+            purpose: "Reports each line that was changed or left out",
+        },
+    ],
     words: &[
         Word {
             name: "file",
             takes: Takes::FollowingFiles,
-            help: "The text; several files are one deck",
+            help: "The text, or - for standard input; several files are one deck",
         },
         Word {
             name: "remarks",
@@ -90,9 +119,9 @@ fn stacked<'a>(rt: &HostRuntime, matches: &ArgMatches<'a>) -> Result<WholeDeck, 
         let name: &'a str = *file;
         let bytes = read_deck_file(rt, name)?;
         let punched = punch(alloc, &bytes, &begun)?;
-        tell_faults(rt, name, &punched.faults);
+        tell_faults(rt, shown_name(name), &punched.faults);
         if matches.get_flag("report") {
-            tell_changes(rt, name, &punched.changes);
+            tell_changes(rt, shown_name(name), &punched.changes);
         }
         begun = punched.behind(begun);
         stacked.add(&punched)?;
@@ -101,7 +130,7 @@ fn stacked<'a>(rt: &HostRuntime, matches: &ArgMatches<'a>) -> Result<WholeDeck, 
 }
 
 impl WholeDeck {
-    /// Puts a text after the others. The last line of the text before it gets its end.
+    /// Appends a text. The last line of the text before it gets its end.
     fn add(&mut self, punched: &Punched) -> Result<(), AllocError> {
         self.is_faulty |= !punched.faults.is_empty();
         self.counted = self.counted.with(&punched.changes);
@@ -157,6 +186,35 @@ fn tell_faults(rt: &HostRuntime, file: &str, faults: &[PunchFault]) {
                 "{file}, line {line}, column {column}: {reason}."
             ),
         };
+    }
+}
+
+/// Reports all errors of a file as editors read them.
+fn report_faults(rt: &HostRuntime, file: &str, faults: &[PunchFault]) {
+    for fault in faults {
+        let line = fault.line;
+        let column = fault.column;
+        let reason = fault.reason;
+        let file = Shown(file);
+        let _ = match unprintable(reason) {
+            Some(code) => writeln!(
+                rt.stderr(),
+                "{file}:{line}:{column}: error: no card has the unprintable character U+{code:04X}; take it out"
+            ),
+            None => writeln!(rt.stderr(), "{file}:{line}:{column}: error: {reason}"),
+        };
+    }
+}
+
+/// Reports the errors of a file that was punched; in sentences also how many of its lines were changed and left out, if it has no error.
+/// It returns whether the file is in error.
+pub fn report_punched(rt: &HostRuntime, report: Report, file: &str, punched: &Punched) -> bool {
+    match report {
+        Report::Sentences => tell_punched(rt, file, punched),
+        Report::Messages => {
+            report_faults(rt, file, &punched.faults);
+            !punched.faults.is_empty()
+        }
     }
 }
 

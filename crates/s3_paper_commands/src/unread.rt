@@ -1,6 +1,8 @@
 //! Files that are no deck: which of their cards can't be read, and what is to be done.
 
 use crate::characters::TAB;
+use crate::input::SHOWN_INPUT;
+use crate::messages::{Report, push_spot};
 use bstr::ByteSlice;
 use s3_cards::{COLUMNS, code_of_byte, first_line, to_ebcdic};
 use s3_decks::{CardPlace, DeckText, FilePlace};
@@ -119,29 +121,58 @@ fn push_wrong(text: &mut String, wrong: &WrongCharacters) -> Result<(), AllocErr
 /// Appends what is wrong with a card, and where.
 fn push_fault(
     text: &mut String,
+    report: Report,
     place: CardPlace<'_>,
     fault: &UnreadCard,
 ) -> Result<(), AllocError> {
     match fault {
         UnreadCard::Wide(columns) => {
-            let column = COLUMNS + 1;
             let reason = PunchReason::TooWide(*columns);
-            write!(text, "{place}, column {column}: {reason}")?;
+            push_place(text, report, place, COLUMNS + 1)?;
+            write!(text, "{reason}")?;
         }
         UnreadCard::Characters(wrong) => {
-            let column = wrong.column;
-            write!(text, "{place}, column {column}: ")?;
+            push_place(text, report, place, wrong.column)?;
             push_wrong(text, wrong)?;
         }
     }
-    text.push_str(".\n")
+    text.push_str(end_of(report))
+}
+
+/// Appends the place of an error.
+fn push_place(
+    text: &mut String,
+    report: Report,
+    place: CardPlace<'_>,
+    column: usize,
+) -> Result<(), AllocError> {
+    match (report, &place.place) {
+        (Report::Messages, Some(line)) => {
+            push_spot(text, line, column)?;
+            text.push_str("error: ")
+        }
+        _ => write!(text, "{place}, column {column}: "),
+    }
+}
+
+/// What ends a line about an error.
+fn end_of(report: Report) -> &'static str {
+    match report {
+        Report::Sentences => ".\n",
+        Report::Messages => "\n",
+    }
 }
 
 impl<'a> Unread<'a> {
     /// Notes a card that can't be read.
-    fn note(&mut self, place: CardPlace<'a>, fault: &UnreadCard) -> Result<(), AllocError> {
+    fn note(
+        &mut self,
+        report: Report,
+        place: CardPlace<'a>,
+        fault: &UnreadCard,
+    ) -> Result<(), AllocError> {
         if self.count < REPORTED {
-            push_fault(&mut self.lines, place, fault)?;
+            push_fault(&mut self.lines, report, place, fault)?;
         }
         self.count = self.count.saturating_add(1);
         if let UnreadCard::Characters(wrong) = fault {
@@ -153,7 +184,7 @@ impl<'a> Unread<'a> {
     }
 
     /// The cards of a deck that can't be read.
-    fn of(alloc: Global, deck: &DeckText<'a>) -> Result<Unread<'a>, AllocError> {
+    fn of(alloc: Global, deck: &DeckText<'a>, report: Report) -> Result<Unread<'a>, AllocError> {
         let mut unread = Unread {
             lines: String::new(alloc),
             count: 0,
@@ -165,7 +196,7 @@ impl<'a> Unread<'a> {
                 break;
             };
             if let Some(fault) = fault_of(alloc, line)? {
-                unread.note(deck.place_of(card), &fault)?;
+                unread.note(report, deck.place_of(card), &fault)?;
             }
             rest = after;
         }
@@ -178,9 +209,10 @@ impl<'a> Unread<'a> {
 pub fn words_of_unread(
     alloc: Global,
     deck: &DeckText<'_>,
+    report: Report,
     is_one_file: bool,
 ) -> Result<String, AllocError> {
-    let unread = Unread::of(alloc, deck)?;
+    let unread = Unread::of(alloc, deck, report)?;
     let mut text = unread.lines;
     let more = unread.count.saturating_sub(REPORTED);
     match more {
@@ -188,7 +220,7 @@ pub fn words_of_unread(
         1 => text.push_str("Another card can't be read either.\n")?,
         _ => writeln!(text, "Another {more} cards can't be read either.")?,
     }
-    push_surplus(&mut text, deck)?;
+    push_surplus(&mut text, report, deck)?;
     if let Some(place) = unread.typed {
         push_cure(&mut text, place.file, is_one_file)?;
     }
@@ -196,18 +228,25 @@ pub fn words_of_unread(
 }
 
 /// Appends that a deck has too many cards, if it has.
-fn push_surplus(text: &mut String, deck: &DeckText<'_>) -> Result<(), AllocError> {
+fn push_surplus(text: &mut String, report: Report, deck: &DeckText<'_>) -> Result<(), AllocError> {
     if deck.card_count() <= MAX_CARDS {
         return Ok(());
     }
     let place = deck.place_of(MAX_CARDS + 1);
     let reason = PunchReason::TooManyCards;
-    writeln!(text, "{place}, column 1: {reason}.")
+    push_place(text, report, place, 1)?;
+    write!(text, "{reason}")?;
+    text.push_str(end_of(report))
 }
 
 /// Appends what to do with a file of plain text. One file of several isn't punched alone, since the files before it decide how it is
 /// punched.
 fn push_cure(text: &mut String, file: &str, is_one_file: bool) -> Result<(), AllocError> {
+    if file == SHOWN_INPUT {
+        return text.push_str(
+            "Small letters, tabs and marked letters are punched as cards have them by bureau punch -.\n",
+        );
+    }
     let file = Shown(file);
     write!(
         text,

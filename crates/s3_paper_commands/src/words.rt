@@ -1,5 +1,6 @@
 //! Words of command lines.
 
+use clap::builder::PossibleValue;
 use clap::{Arg, ArgAction, ArgMatches, Command, value_parser};
 use std::alloc::{AllocError, Global};
 
@@ -10,14 +11,56 @@ pub struct CommandWords {
     pub name: &'static str,
     /// What it does, as its help says it.
     pub about: &'static str,
+    /// Second names of its words, which no help lists.
+    pub aliases: &'static [Alias],
+    /// Its exit statuses, in ascending order.
+    pub statuses: &'static [Status],
+    /// Examples of its use.
+    pub examples: &'static [Example],
     /// Its words, in the order in which its help lists them.
     pub words: &'static [Word],
+}
+
+/// A second name of a word.
+#[derive(Clone, Copy)]
+pub struct Alias {
+    /// The name of the word.
+    pub word: &'static str,
+    /// The second name.
+    pub name: &'static str,
+}
+
+/// An exit status of a command.
+#[derive(Clone, Copy)]
+pub struct Status {
+    /// The number.
+    pub number: u8,
+    /// What has happened when the command ends with it.
+    pub meaning: &'static str,
+}
+
+/// An example of a command's use.
+#[derive(Clone, Copy)]
+pub struct Example {
+    /// What a shell is given, perhaps with pipes and redirections.
+    pub line: &'static str,
+    /// What it does.
+    pub purpose: &'static str,
+}
+
+/// A value that a word may have.
+#[derive(Clone, Copy)]
+pub struct Choice {
+    /// The value.
+    pub name: &'static str,
+    /// What it stands for.
+    pub help: &'static str,
 }
 
 /// A word of a command.
 #[derive(Clone, Copy)]
 pub struct Word {
-    /// Its name, before which two hyphens stand.
+    /// Its name, before which two hyphens are.
     pub name: &'static str,
     /// What is given with it.
     pub takes: Takes,
@@ -28,12 +71,16 @@ pub struct Word {
 /// What is given with a word. What stands for the value in the help comes first.
 #[derive(Clone, Copy)]
 pub enum Takes {
-    /// Nothing: the word stands alone.
+    /// Nothing: the word is alone.
     Nothing,
-    /// A value.
+    /// A value. The name of a file or a folder is shown as one of `FILES`.
     Value(&'static str),
-    /// A value, and the word has to be given.
+    /// A value, and the word has to be given. The name of a file or a folder is shown as one of `FILES`.
     Needed(&'static str),
+    /// One of some values.
+    OneOf(&'static str, &'static [Choice]),
+    /// One of some values, and the word has to be given.
+    NeededOneOf(&'static str, &'static [Choice]),
     /// A number from 0 to 4294967295.
     U32(&'static str),
     /// A number from 0 to 65535.
@@ -46,41 +93,96 @@ pub enum Takes {
     Files,
     /// One file or more, which follow the command without a word.
     FollowingFiles,
+    /// One value or more, which follow the command without an option.
+    Following(&'static str),
 }
 
 impl CommandWords {
-    /// The parser of the command. It is refused only where memory runs out.
+    /// The parser of the command. It is refused only if memory runs out.
     pub fn parser<'a>(&self, alloc: Global) -> Result<Command<'a>, AllocError> {
         let mut arguments = Vec::new(alloc);
         for word in self.words {
-            arguments.push(word.argument(alloc))?;
+            arguments.push(self.argument(alloc, word)?)?;
         }
         Command::new(alloc, self.name)
             .about(self.about)
             .args(arguments)
     }
+
+    /// A word as a parser has it, with its second names.
+    fn argument<'a>(&self, alloc: Global, word: &Word) -> Result<Arg<'a>, AllocError> {
+        let mut argument = word.argument(alloc)?;
+        for alias in self.aliases {
+            argument = with_alias(argument, *alias, word.name)?;
+        }
+        Ok(argument)
+    }
+}
+
+/// An argument with a second name, if that is one of its word.
+fn with_alias<'a>(argument: Arg<'a>, alias: Alias, word: &str) -> Result<Arg<'a>, AllocError> {
+    if alias.word == word {
+        argument.alias(alias.name)
+    } else {
+        Ok(argument)
+    }
 }
 
 impl Word {
     /// The word as a parser has it.
-    fn argument<'a>(&self, alloc: Global) -> Arg<'a> {
+    fn argument<'a>(&self, alloc: Global) -> Result<Arg<'a>, AllocError> {
         let argument = self
             .takes
             .given_with(Arg::new(alloc, self.name).help(self.help));
-        match self.takes {
-            Takes::FollowingFiles => argument,
+        let argument = match self.takes {
+            Takes::FollowingFiles | Takes::Following(_) => argument,
             _ => argument.long(self.name),
+        };
+        match self.takes.choices() {
+            Some(choices) => Ok(argument.value_parser(values_of(alloc, choices)?)),
+            None => Ok(argument),
         }
     }
 }
 
+/// Some values with their help, as a parser takes them. They are kept as long as the process runs.
+fn values_of<'a>(alloc: Global, choices: &[Choice]) -> Result<&'a [PossibleValue<'a>], AllocError> {
+    let mut values = Vec::new(alloc);
+    for choice in choices {
+        values.push(PossibleValue::new(choice.name).help(choice.help))?;
+    }
+    Ok(values.leak())
+}
+
+/// How help shows a value that is the name of a file or a folder.
+pub const FILES: [&str; 3] = ["FILE", "DIR", "LOG"];
+
 impl Takes {
+    /// The values that the word may have, if it may not have every text.
+    pub fn choices(self) -> Option<&'static [Choice]> {
+        match self {
+            Takes::OneOf(_, choices) | Takes::NeededOneOf(_, choices) => Some(choices),
+            _ => None,
+        }
+    }
+
+    /// Whether what is given is the name of a file or a folder.
+    pub fn is_file(self) -> bool {
+        match self {
+            Takes::Value(shown) | Takes::Needed(shown) => FILES.contains(&shown),
+            Takes::Files | Takes::FollowingFiles => true,
+            _ => false,
+        }
+    }
+
     /// An argument with which this is given.
     fn given_with<'a>(self, argument: Arg<'a>) -> Arg<'a> {
         match self {
             Takes::Nothing => argument.action(ArgAction::SetTrue),
-            Takes::Value(shown) => argument.value_name(shown),
-            Takes::Needed(shown) => argument.value_name(shown).required(true),
+            Takes::Value(shown) | Takes::OneOf(shown, _) => argument.value_name(shown),
+            Takes::Needed(shown) | Takes::NeededOneOf(shown, _) => {
+                argument.value_name(shown).required(true)
+            }
             Takes::U32(shown) => argument.value_name(shown).value_parser(value_parser!(u32)),
             Takes::U16(shown) => argument.value_name(shown).value_parser(value_parser!(u16)),
             Takes::U16Or(shown, default) => argument
@@ -94,6 +196,10 @@ impl Takes {
             Takes::Files => argument.value_name("FILE").action(ArgAction::Append),
             Takes::FollowingFiles => argument
                 .value_name("FILE")
+                .action(ArgAction::Append)
+                .required(true),
+            Takes::Following(shown) => argument
+                .value_name(shown)
                 .action(ArgAction::Append)
                 .required(true),
         }

@@ -48,7 +48,7 @@ one_part_told line column next found more all card laid part left parts so_far i
     ∙ ap (λ rest. found ++ part_faults line column card rest) (sym is)
     ∙ so_far
 
--- the column behind a part, and the room behind it
+-- the column after a part, and the room after it
 pub room_behind : (column part rest total : ℕ) (behind : Option (Bor (List ℕ))) → column + (rest + 1) ≤ total → IfSome behind (λ x. part + 1 + length x.now ≡ rest) → part ≤ rest
     → column + (part + 1) + option_map_or (λ x. length x.now + 1) behind 0 ≤ total
 room_behind column part rest total None room width within = omega arith

@@ -5,3 +5,4 @@ pub mod PieceLemmas
 pub mod SameLemmas
 pub mod SoundLemmas
 pub mod StepLemmas
+pub mod TypedLemmas

@@ -116,7 +116,7 @@ plain_form None h = cc
 plain_form (Some InPieces) h = cc
 plain_form (Some Plain) h = refl
 
--- a line that stands as its card is that card
+-- a line that is as its card is that card
 pub line_self : (part : Part) (line : List ℕ) → AllCoded line → stands part line ≡ true → card_of_bytes false part line ≡ Some line
 unfolding card_of_line
 line_self part line coded stood =

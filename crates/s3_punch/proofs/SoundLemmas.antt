@@ -1,4 +1,4 @@
--- Where nothing is told, the text that comes out is a deck.
+-- Where nothing is reported, the text that comes out is a deck.
 use Rattle.std.proofs.Common.{◌≡◌, ℕ, ◌+◌, ◌-◌, ◌≤◌, List, [], ◌∷◌, ◌++◌, Bool, true, false, cond, not, Option, Some, None, length, map, take, get_or, refl, ap, ◌∙◌, arith, subst, inl, inr, ◌==◌, ◌&&◌, le-ltb}
 use Rattle.std.specs.Prelude.{Ok, nat_lt}
 use Rattle.std.proofs.lemmas.Bool.{cases_lt}
@@ -52,7 +52,7 @@ narrow_form blanks part line cs card (Some form) h is =
     let e : card_by blanks (is_source part) cs form ≡ card = cc in
     subst (λ x. nat_lt 96 (length x) ≡ false) e (narrow_card line cs (card_by blanks (is_source part) cs form) form h)
 
--- a card of a line about which nothing is told has no fault
+-- a card of a line about which nothing is reported has no fault
 line_sound : (blanks : Bool) (part : Part) (line : ℕ) (cs card : List ℕ) → faults_of_line blanks part line cs ≡ [] → card_of_line blanks part cs ≡ Some card → fault_of card ≡ None
 unfolding card_of_line faults_of_line
 line_sound blanks part line cs card h is =
@@ -124,7 +124,7 @@ lines_with : (test : Bool) (cards : List NumberedCard) → AllSound cards → li
 lines_with true cards sound = lines_without cards (nat_lt 1 (length (joined cards)) && not (get_or (joined cards) (length (joined cards) - 2) 0 == 10)) refl sound
 lines_with false cards sound = lines_joined cards sound
 
--- where nothing is told, `Deck::read` takes what comes out
+-- where nothing is reported, `Deck::read` takes what comes out
 pub is_deck : (begun : Begun) (text : List ℕ) → begun.cards ≤ 9999 → faults_of begun text ≡ [] → IsDeck (deck_text begun text)
 is_deck begun text few told =
     let cards = cards_of begun text in

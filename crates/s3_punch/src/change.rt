@@ -92,7 +92,7 @@ impl Display for Changes {
     }
 }
 
-/// Writes some words behind a separator, where a test holds, and answers the separator for the next ones.
+/// Writes some words after a separator, if a test holds, and answers the separator for the next ones.
 fn write_if<W: fmt::Write>(
     f: &mut fmt::Formatter<W>,
     test: bool,

@@ -22,9 +22,9 @@ const MAX_CARDS: usize = 9_999;
 /// How the punching of a text begins.
 #[derive(Clone, Copy)]
 pub struct Begun {
-    /// The part of the deck that its first line stands in.
+    /// The part of the deck that its first line is in.
     pub part: Part,
-    /// How many cards stand in front of it, at most 9,999.
+    /// How many cards are in front of it, at most 9,999.
     pub cards: usize,
     /// Whether the remarks of C cards are blanked.
     pub blanks_remarks: bool,
@@ -42,7 +42,7 @@ impl Begun {
         }
     }
 
-    /// How a text begins behind a deck's text that isn't punched.
+    /// How a text begins after a deck's text that isn't punched.
     pub fn behind_deck(self, text: &[u8]) -> Begun
         requires { self.cards ≤ 9999 }
         ensures few { result.cards ≤ 9999 }
@@ -76,7 +76,7 @@ pub struct Punched {
     pub changes: Vec<LineChange>,
     /// All that is wrong with the text, by lines. Where anything is, the deck isn't to be used.
     pub faults: Vec<PunchFault>,
-    /// The part of the deck behind the text.
+    /// The part of the deck after the text.
     pub part: Part,
 }
 
@@ -97,7 +97,7 @@ impl Punched {
         }
     }
 
-    /// How a text begins that goes on behind this one.
+    /// How a text begins that goes on after this one.
     pub fn behind(&self, begun: Begun) -> Begun
         ensures { result.cards ≤ 9999 }
     {
@@ -111,7 +111,7 @@ impl Punched {
         }
     }
 
-    /// Puts a card behind the others.
+    /// Appends a card.
     fn add_card(&mut self, line: usize, card: &[u8]) -> Result<(), AllocError>
         ensures { OnOk result (AddsCard line card.now self.old self.new) }
     {
@@ -139,7 +139,7 @@ impl Punched {
         self.origins.len()
     }
 
-    /// Puts the card of a line behind the others, and tells what is wrong with it; so many cards stand in front of the text.
+    /// Appends the card of a line, and tells what is wrong with it; so many cards are in front of the text.
     fn add_written(
         &mut self,
         alloc: Global,
@@ -162,7 +162,7 @@ impl Punched {
         Ok(())
     }
 
-    /// Puts the card of a line behind the others, if it has one, and tells what is wrong with it.
+    /// Appends the card of a line, if it has one, and tells what is wrong with it.
     #[tactic(auto, unfolding(crate::specs::Inner::Cards::card_of_line, crate::specs::Inner::Faults::faults_of_line))]
     fn add_line(
         &mut self,

@@ -16,10 +16,10 @@ use std::alloc::{AllocError, Global};
 /// The most cards of a deck.
 const MAX_CARDS: usize = 9_999;
 
-/// The column of the first character behind a `%`.
+/// The column of the first character after a `%`.
 const BEHIND_SIGN: usize = 2;
 
-/// Tells something, where a test holds.
+/// Tells something, if a test holds.
 fn note_if(
     faults: &mut Vec<PunchFault>,
     test: bool,
@@ -147,7 +147,7 @@ fn apostrophes(text: &[u8]) -> usize
     text.iter().filter(|byte| **byte == b'\'').count()
 }
 
-/// How many bytes stand in front of the first apostrophe of a text.
+/// How many bytes are in front of the first apostrophe of a text.
 fn in_front_of_apostrophe(text: &[u8]) -> usize
     ensures value { result ≡ prefix_len (λ byte. not (is_apostrophe byte)) text.now }
     ensures within { result ≤ length text.now }
@@ -215,7 +215,7 @@ pub fn note_faults(
     note_width(faults, line, card)
 }
 
-/// Tells a card behind 9,999 others.
+/// Tells a card after 9,999 others.
 pub fn note_surplus(
     faults: &mut Vec<PunchFault>,
     cards: usize,

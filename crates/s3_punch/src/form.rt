@@ -14,9 +14,9 @@ const PIECES: char = '%';
 /// How a line of a text has its card.
 #[derive(Clone, Copy)]
 pub enum LineForm {
-    /// In pieces, behind a `%`.
+    /// In pieces, after a `%`.
     InPieces,
-    /// As it stands.
+    /// As it is.
     Plain,
 }
 

@@ -7,7 +7,7 @@ use crate::stops::tab;
 use std::alloc::{AllocError, Global};
 
 /// Puts one more character onto a card; a tab fills it up to the next stop.
-fn put(card: &mut Vec<u8>, is_source: bool, character: char) -> Result<(), AllocError>
+pub fn put(card: &mut Vec<u8>, is_source: bool, character: char) -> Result<(), AllocError>
     ensures { OnOk result (card.new.items ≡ with_character is_source card.old.items character) }
 {
     if character == TAB {

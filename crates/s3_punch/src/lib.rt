@@ -2,14 +2,16 @@
 //!
 //! What is proved, for any bytes (`punch`):
 //!
-//! - where nothing is told, what comes out is a deck that `Deck::read` of `s3_cards` takes (`sound`);
+//! - where nothing is reported, what comes out is a deck that `Deck::read` of `s3_cards` takes (`sound`);
 //! - a deck without carriage returns, and outside of data without blank lines and without lines that begin with `#` or `%`, comes
 //!   out as it was, byte for byte, unless remarks are blanked (`same`);
-//! - the text, the line that each card is of, the list of all that is wrong, and the part of the deck behind the text are those of
+//! - the text, the line that each card is of, the list of all that is wrong, and the part of the deck after the text are those of
 //!   the definitions in `specs/Inner`: each character in its column, tabs at their stops, pieces in their columns, parts of a deck by
 //!   its `//`, `/*` and `/&` cards.
 //!
-//! Only tested: what is told of changes, and the words of faults. Nothing says that the parts of a deck are those that `s3_ocl` reads,
+//! `typed_column` gives the column of a plain line that has a column of its card: the same column if the line has no tabs.
+//!
+//! Only tested: that column in a line in pieces; what is reported of changes, and the texts of faults. Nothing says that the parts of a deck are those that `s3_ocl` reads,
 //! nor that memory is said to run out only where it was refused.
 
 #![tactic(auto)]
@@ -25,8 +27,10 @@ mod line;
 mod part;
 mod pieces;
 mod stops;
+mod typed;
 
 pub use change::{Changes, LineChange};
 pub use deck::{Begun, Punched, punch};
 pub use fault::{PunchFault, PunchReason};
 pub use part::Part;
+pub use typed::{CardColumns, typed_column};

@@ -25,7 +25,7 @@ pub fn characters_of(alloc: Global, line: &[u8]) -> Result<Vec<char>, AllocError
     line.chars().collect(alloc)
 }
 
-/// The text of a line that begins with `%`, behind that, with 0 where it is parted.
+/// The text of a line that begins with `%`, after that, with 0 where it is parted.
 pub fn text_of_pieces(alloc: Global, characters: &[char]) -> Result<Vec<u8>, AllocError>
     ensures { IfOk result (λ text. text.items ≡ part_text_spec characters.now) }
 {
@@ -43,7 +43,7 @@ fn has_remark(card: &[u8]) -> bool
         && has_marks(card)
 }
 
-/// Whether something stands in columns 60 to 74.
+/// Whether something is in columns 60 to 74.
 fn has_marks(card: &[u8]) -> bool
     ensures { result ≡ list_any is_mark (take 15 (drop 59 card.now)) }
 {
@@ -53,7 +53,7 @@ fn has_marks(card: &[u8]) -> bool
         .any(|byte| *byte != b' ')
 }
 
-/// Whether a byte stands at a place.
+/// Whether a byte is at a place.
 fn is_at(card: &[u8], place: usize, byte: u8) -> bool
     ensures { result ≡ is_at_spec card.now place byte }
 {
@@ -104,7 +104,7 @@ pub struct LineCard {
     pub has_remark: bool,
 }
 
-/// A card as it comes out, with its remark blanked, where that is asked for and the card is of a source.
+/// A card as it comes out, with its remark blanked, if that is asked for and the card is of a source.
 fn finish(
     alloc: Global,
     card: Vec<u8>,

@@ -1,20 +1,20 @@
-//! What part of a deck a card stands in: statements, a source, or data. docs/OCL.md has the rules.
+//! What part of a deck a card is in: statements, a source, or data. docs/OCL.md has the rules.
 ghost use Rattle.std.specs.Prelude.{◌≡◌, ◌≤◌, drop, length};
 ghost use Rattle.std.specs.List.{prefix_len};
 ghost use Rattle.s3_punch.specs.Inner.Parts.{behind_load as behind_load_spec, behind_run as behind_run_spec, behind_statement as behind_statement_spec, behind_word, is_behind_run as is_behind_run_spec, is_blank, is_data as is_data_spec, is_mark, is_separator as is_separator_spec, is_source as is_source_spec, is_statement as is_statement_spec, keyword as keyword_spec, names_compiler as names_compiler_spec, parameters as parameters_spec, part_behind as part_behind_spec, word_of};
 
-/// The part of a deck that a card stands in.
+/// The part of a deck that a card is in.
 #[derive(Clone, Copy)]
 pub enum Part {
     /// Between jobs, or among the statements of a job in front of its LOAD.
     Statements,
-    /// Behind the LOAD of the compiler.
+    /// After the LOAD of the compiler.
     ToCompile,
-    /// Behind the LOAD of a program.
+    /// After the LOAD of a program.
     ToRun,
-    /// The source of a program, behind the RUN of the compiler.
+    /// The source of a program, after the RUN of the compiler.
     Source,
-    /// The data of a program, behind its RUN.
+    /// The data of a program, after its RUN.
     Data,
 }
 
@@ -33,14 +33,14 @@ impl Part {
         matches!(self, Part::Source)
     }
 
-    /// Whether cards of this part stand behind a RUN, up to a separator.
+    /// Whether cards of this part are after a RUN, up to a separator.
     fn is_behind_run(self) -> bool
         ensures { result ≡ is_behind_run_spec self }
     {
         matches!(self, Part::Source | Part::Data)
     }
 
-    /// The part behind a card that stands in this part.
+    /// The part after a card that is in this part.
     pub fn behind(self, card: &[u8]) -> Part
         ensures { result ≡ part_behind_spec self card.now }
     {
@@ -94,14 +94,14 @@ fn is_separator(card: &[u8]) -> bool
     card.starts_with(b"/*") || card.starts_with(b"/&")
 }
 
-/// Whether a card begins `//` and a blank; behind its text a card has blanks.
+/// Whether a card begins `//` and a blank; after its text a card has blanks.
 fn is_statement(card: &[u8]) -> bool
     ensures { result ≡ is_statement_spec card.now }
 {
     card.starts_with(b"//") && (card.len() == 2 || card.starts_with(b"// "))
 }
 
-/// The first word of a text, and the text behind it.
+/// The first word of a text, and the text after it.
 fn split_word(text: &[u8]) -> (&[u8], &[u8])
     ensures word { result.0.now ≡ word_of text.now }
     ensures behind { result.1.now ≡ behind_word text.now }
@@ -110,7 +110,7 @@ fn split_word(text: &[u8]) -> (&[u8], &[u8])
     from_word.split_at(word_len(from_word))
 }
 
-/// How many blanks stand in front of a text.
+/// How many blanks are in front of a text.
 fn blanks_in_front(text: &[u8]) -> usize
     ensures value { result ≡ prefix_len is_blank text.now }
     ensures within { result ≤ length text.now }
@@ -126,21 +126,21 @@ fn word_len(text: &[u8]) -> usize
     text.iter().take_while(|byte| **byte != b' ').count()
 }
 
-/// The text of a statement behind its `//`.
+/// The text of a statement after its `//`.
 fn behind_slashes(card: &[u8]) -> &[u8]
     ensures { result.now ≡ drop 2 card.now }
 {
     card.get(2..).unwrap_or(&[])
 }
 
-/// The first word behind the `//` of a card.
+/// The first word after the `//` of a card.
 fn keyword(card: &[u8]) -> &[u8]
     ensures { result.now ≡ keyword_spec card.now }
 {
     split_word(behind_slashes(card)).0
 }
 
-/// The second word behind the `//` of a card.
+/// The second word after the `//` of a card.
 fn parameters(card: &[u8]) -> &[u8]
     ensures { result.now ≡ parameters_spec card.now }
 {

@@ -18,7 +18,7 @@ pub struct Piece<'a> {
     pub text: &'a [u8],
 }
 
-/// The text of a card in pieces, behind its `%`, with 0 for each blank that stands outside of apostrophes. A tab is a blank.
+/// The text of a card in pieces, after its `%`, with 0 for each blank that is outside of apostrophes. A tab is a blank.
 #[tactic(auto, using(crate::proofs::PieceLemmas::one_more_parted))]
 pub fn part_text(alloc: Global, characters: &[char]) -> Result<Vec<u8>, AllocError>
     ensures { IfOk result (λ text. text.items ≡ parted_spec false (map piece_character characters.now)) }
@@ -64,7 +64,7 @@ fn position_of(sought: u8, text: &[u8]) -> Option<usize>
     text.iter().position(|byte| *byte == sought)
 }
 
-/// What stands behind a place of a text.
+/// What is after a place of a text.
 fn behind(place: usize, text: &[u8]) -> &[u8]
     requires { place < length text.now }
     ensures value { result.now ≡ drop (place + 1) text.now }
@@ -73,7 +73,7 @@ fn behind(place: usize, text: &[u8]) -> &[u8]
     text.get(place + 1..).unwrap_or(&[])
 }
 
-/// The first part of a text that 0 parts, and what is behind that 0, if there is one.
+/// The first part of a text that 0 parts, and what is after that 0, if there is one.
 #[tactic(auto, using(crate::proofs::PieceLemmas::first_split_at, crate::proofs::PieceLemmas::one_split))]
 pub fn first_part(text: &[u8]) -> (&[u8], Option<&[u8]>)
     ensures parts { slice_split is_zero text.now ≡ result.0.now ∷ parts_left (option_map (λ rest. rest.now) result.1) }
@@ -128,7 +128,7 @@ pub fn piece_of<'a>(part: &'a [u8]) -> Option<Piece<'a>>
     }
 }
 
-/// A card with a piece in its columns. 0 stands in columns that no piece has filled yet.
+/// A card with a piece in its columns. 0 is in columns that no piece has filled yet.
 fn with_piece(alloc: Global, card: Vec<u8>, piece: &Piece<'_>) -> Result<Vec<u8>, AllocError>
     requires from { 1 ≤ piece.now.column }
     requires to { piece.now.column ≤ 96 }

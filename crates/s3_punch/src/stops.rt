@@ -4,7 +4,7 @@ ghost use Rattle.s3_punch.specs.Inner.Stops.{starts_of as starts_of_spec, starts
 
 use std::alloc::AllocError;
 
-/// Where the letter of the sheet stands.
+/// Where the letter of the sheet is.
 pub const SHEET_STARTS: [usize; 1] = [6];
 
 /// The H sheet: a comment's `*`, the program's name.
@@ -80,7 +80,7 @@ fn up_to_start(starts: &[usize], width: usize) -> usize
     next_start(starts, width).unwrap_or(97).saturating_sub(1)
 }
 
-/// The first start behind the column that is to be filled next.
+/// The first start after the column that is to be filled next.
 fn next_start(starts: &[usize], width: usize) -> Option<usize>
     requires { width < 2 ^ 63 }
     ensures { result ≡ find (λ start. nat_lt (width + 1) start) starts.now }
@@ -119,7 +119,7 @@ pub fn fill_up(card: &mut Vec<u8>, width: usize, byte: u8) -> Result<(), AllocEr
     Ok(())
 }
 
-/// Fills a card with blanks up to the next stop of its sheet, or, where it is of no sheet, of every eighth column.
+/// Fills a card with blanks up to the next stop of its sheet, or, if it is of no sheet, of every eighth column.
 pub fn tab(card: &mut Vec<u8>, is_source: bool) -> Result<(), AllocError>
     ensures { OnOk result (card.new.items ≡ tabbed is_source card.old.items) }
 {

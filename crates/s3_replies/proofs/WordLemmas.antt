@@ -50,7 +50,7 @@ no_words line (byte ∷ bytes) same e = absurd (omega arith)
 abbrev end_of : List ℕ → ℕ
 end_of text = position_or_len is_blank text
 
--- the pieces of a text are its first one and those of the text after it, but for empty ones
+-- the pieces of a text are its first one and those of the text after it, except for empty ones
 pieces_after : (text : List ℕ) → filter is_some_word (slice_split is_blank text) ≡ filter is_some_word (take (end_of text) text ∷ slice_split is_blank (drop (end_of text) text))
 pieces_after text =
     let F : List (List ℕ) → List (List ℕ) = λ pieces. filter is_some_word (take (end_of text) text ∷ pieces) in

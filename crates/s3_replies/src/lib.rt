@@ -3,7 +3,7 @@
 //!
 //! What is proved:
 //!
-//! - `Rules::read` gives the rules that the lines of a text say, in order, or all its ill formed lines, each with its first fault. That
+//! - `Rules::read` gives the rules that the lines of a text say, in order, or all its malformed lines, each with its first fault. That
 //!   no halt has the letters which are refused isn't proved.
 //! - `reply_for` gives the first rule that fits. Whatever the rules are, the halt allows the digit of one that answers it
 //!   (`answers_are_allowed`).

@@ -31,7 +31,7 @@ pub enum LineFault {
     TooLong,
 }
 
-/// A line of the rules that is ill formed.
+/// A line of the rules that is malformed.
 #[derive(Clone, Copy, Debug, Error)]
 #[error("line {number}: {fault}")]
 pub struct IllFormedLine {

@@ -16,7 +16,7 @@ use std::marker::Model;
 pub enum RulesFault {
     /// There is no memory for the rules.
     NoMemory,
-    /// The lines that are ill formed, one at least, in their order.
+    /// The lines that are malformed, one at least, in their order.
     IllFormed(Vec<IllFormedLine>),
 }
 
@@ -67,7 +67,7 @@ impl Rules {
         }
     }
 
-    /// The rules of a text, or all its ill formed lines. Lines end with a line feed, and a carriage return before it is
+    /// The rules of a text, or all its malformed lines. Lines end with a line feed, and a carriage return before it is
     /// dropped.
     pub fn read(alloc: Global, text: &[u8]) -> Result<Rules, RulesFault>
         ensures ok { IfOk result (λ rules. HasRules text.now rules []) }

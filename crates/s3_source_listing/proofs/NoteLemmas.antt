@@ -38,7 +38,7 @@ with_entry card number entry entries true same rest =
     ap (λ (b : Bool). cond (b && (entry.number == number)) (entry ∷ filter (is_of (record { card = card; number = number })) (filter (is_on card) entries)) (filter (is_of (record { card = card; number = number })) (filter (is_on card) entries))) same
     ∙ ap (λ (more : List FaultyEntry). cond (true && (entry.number == number)) (entry ∷ more) more) rest
 
-narrowed : (card number : ℕ) (entries : List FaultyEntry)
+pub narrowed : (card number : ℕ) (entries : List FaultyEntry)
     → filter (is_of (record { card = card; number = number })) (filter (is_on card) entries) ≡ filter (is_of (record { card = card; number = number })) entries
 narrowed card number [] = refl
 narrowed card number (entry ∷ entries) =

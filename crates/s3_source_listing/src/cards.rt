@@ -1,8 +1,8 @@
-//! The cards where a name or an indicator stands.
+//! The cards where a name or an indicator is.
 
 use std::alloc::{AllocError, Global};
 
-/// The cards where a name or an indicator stands, in their order. A card is listed once where it names it again and again.
+/// The cards where a name or an indicator is, in their order. A card is listed once where it names it again and again.
 #[derive(Drop)]
 pub struct Cards {
     /// Those that define the name, or set the indicator.
@@ -25,7 +25,7 @@ impl Cards {
         Ok(cards)
     }
 
-    /// Adds a card that stands behind those that are there, or is the last of them.
+    /// Adds a card that is after those that are there, or is the last of them.
     pub fn add(&mut self, card: u16, defines: bool) -> Result<(), AllocError> {
         add_card(&mut self.all, card)?;
         if defines {
@@ -36,7 +36,7 @@ impl Cards {
     }
 }
 
-/// Adds a card behind others, unless it is the last of them.
+/// Adds a card after others, unless it is the last of them.
 fn add_card(cards: &mut Vec<u16>, card: u16) -> Result<(), AllocError> {
     if !cards.last().is_some_and(|last| *last == card) {
         cards.push(card)?;
@@ -44,7 +44,7 @@ fn add_card(cards: &mut Vec<u16>, card: u16) -> Result<(), AllocError> {
     Ok(())
 }
 
-/// Appends the numbers of cards behind a word; nothing where there is no card.
+/// Appends the numbers of cards after a word; nothing where there is no card.
 pub fn push_cards_behind(text: &mut String, word: &str, cards: &[u16]) -> Result<(), AllocError> {
     if cards.is_empty() {
         return Ok(());
@@ -53,7 +53,7 @@ pub fn push_cards_behind(text: &mut String, word: &str, cards: &[u16]) -> Result
     push_numbers(text, cards)
 }
 
-/// Appends the numbers of cards, each behind a blank.
+/// Appends the numbers of cards, each after a blank.
 pub fn push_numbers(text: &mut String, cards: &[u16]) -> Result<(), AllocError> {
     for card in cards {
         write!(text, " {card:04}")?;

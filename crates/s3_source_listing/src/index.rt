@@ -9,10 +9,10 @@ use s3_lines::indicator::Indicator;
 use s3_lines::sheet::Line;
 use std::alloc::{AllocError, Global};
 
-/// The cards of each name, in the order in which names stand first.
+/// The cards of each name, in the order in which names are first.
 pub type Names = IndexMap<Name, Cards>;
 
-/// The cards of each indicator, in the order in which they stand first.
+/// The cards of each indicator, in the order in which they are first.
 pub type Indicators = IndexMap<Indicator, Cards>;
 
 /// The cards of the names of a sort.

@@ -1,6 +1,7 @@
 //! The listing of a deck.
 
 use crate::card_lines::{push_card, push_fault, push_reason, push_ruler};
+use crate::margin::{Margin, Numbers};
 use crate::source::{Found, SourceRange, push_program, push_source};
 use s3_cards::ebcdic::{ASTERISK, BLANK, LETTER_C, LETTER_F, LETTER_H, LETTER_I, LETTER_O};
 use s3_cards::{Card, Deck, is_digit, trim_end};
@@ -23,7 +24,7 @@ pub struct Outcome {
 }
 
 impl Outcome {
-    const NONE: Outcome = Outcome {
+    pub(crate) const NONE: Outcome = Outcome {
         sources: 0,
         faults: 0,
         warnings: 0,
@@ -38,7 +39,7 @@ impl Outcome {
     }
 }
 
-/// The cards of a deck, where they stand in its files, and what is to be listed of them.
+/// The cards of a deck, where they are in its files, and what is to be listed of them.
 #[derive(Clone, Copy)]
 struct Listed<'a> {
     files: &'a DeckText<'a>,
@@ -69,31 +70,38 @@ fn push_heading(text: &mut String, deck: &Deck, job: &JobCards) -> Result<(), Al
 fn push_compiled(
     text: &mut String,
     alloc: Global,
-    deck: &Deck,
+    listed: &Listed<'_>,
     job: &JobCards,
-    has_references: bool,
 ) -> Result<Found, AllocError> {
     let range = SourceRange {
         from: job.data_from(),
         to: job.data_to(),
     };
-    // a job stands within its deck, which the type of a job doesn't say
-    if range.to > deck.len() {
+    // a job is within its deck, which the type of a job doesn't say
+    if range.to > listed.deck.len() {
         return Ok(Found::NOTHING);
     }
-    push_source(text, alloc, deck, range, job.run_card(), has_references)
+    push_source(
+        text,
+        alloc,
+        listed.files,
+        listed.deck,
+        range,
+        job.run_card(),
+        listed.has_references,
+    )
 }
 
 /// The columns of a statement: all up to its last character.
-fn columns_of_statement(card: &Card) -> Columns {
+pub(crate) fn columns_of_statement(card: &Card) -> Columns {
     Columns {
         from: 1,
         to: trim_end(card).len().max(1).min(80),
     }
 }
 
-/// Whether a card looks like one of a source: no more than page and line stand in front of column 6, and there the letter of a sheet, or
-/// behind it the `*` of a comment.
+/// Whether a card looks like one of a source: no more than page and line are in front of column 6, and there the letter of a sheet, or
+/// after it the `*` of a comment.
 fn is_of_source(card: &Card) -> bool {
     let is_sheet = matches!(
         card[5],
@@ -105,7 +113,12 @@ fn is_of_source(card: &Card) -> bool {
             .all(|code| *code == BLANK || is_digit(*code))
 }
 
-/// Appends where a source stands, if a card that looks like one of a source stands in the place of a statement.
+/// Whether a card of a source is where a statement is wanted.
+pub(crate) fn is_bare_source(fault: JobFault, card: &Card) -> bool {
+    fault == JobFault::NotOcl && is_of_source(card)
+}
+
+/// Appends where a source is, if a card that looks like one of a source is in the place of a statement.
 fn push_source_cure(
     text: &mut String,
     files: &DeckText<'_>,
@@ -113,7 +126,7 @@ fn push_source_cure(
     number: usize,
     card: &Card,
 ) -> Result<(), AllocError> {
-    if fault != JobFault::NotOcl || !is_of_source(card) {
+    if !is_bare_source(fault, card) {
         return Ok(());
     }
     let place = files.place_of(number);
@@ -127,15 +140,22 @@ fn push_source_cure(
 fn push_faulty_card(
     text: &mut String,
     files: &DeckText<'_>,
+    margin: Margin,
     fault: JobFault,
     words: &str,
     reason: &str,
     number: usize,
     card: &Card,
 ) -> Result<(), AllocError> {
-    push_card(text, number, card)?;
-    push_fault(text, fault.number(), words, &[columns_of_statement(card)])?;
-    push_reason(text, reason)?;
+    push_card(text, margin, Numbers::of(files, number), card)?;
+    push_fault(
+        text,
+        margin,
+        fault.number(),
+        words,
+        &[columns_of_statement(card)],
+    )?;
+    push_reason(text, margin, reason)?;
     push_source_cure(text, files, fault, number, card)
 }
 
@@ -151,13 +171,15 @@ fn push_faulty(
     let reason = statement_reason(alloc, listed.deck, job.first_card(), faulty)?;
     let mut words = String::new(alloc);
     write!(words, "{fault}")?;
-    push_ruler(text)?;
     let number = usize::from(faulty.card);
+    let margin = Margin::of(listed.files, number, number);
+    push_ruler(text, margin)?;
     match listed.deck.card(number.saturating_sub(1)) {
         Some(card) => {
             push_faulty_card(
                 text,
                 listed.files,
+                margin,
                 fault,
                 words.as_str(),
                 reason.as_str(),
@@ -165,7 +187,7 @@ fn push_faulty(
                 card,
             )
         }
-        None => push_fault(text, fault.number(), words.as_str(), &[]),
+        None => push_fault(text, margin, fault.number(), words.as_str(), &[]),
     }
 }
 
@@ -206,7 +228,7 @@ fn push_sound(
     }
     push_heading(text, listed.deck, cards)?;
     push_place(text, listed.files, number, job)?;
-    let found = push_compiled(text, alloc, listed.deck, cards, listed.has_references)?;
+    let found = push_compiled(text, alloc, listed, cards)?;
     Ok(Outcome {
         sources: 1,
         faults: found.diagnostics,
@@ -214,7 +236,7 @@ fn push_sound(
     })
 }
 
-/// Writes what a listing has of a job, behind an empty line where something stands before it.
+/// Writes what a listing has of a job, after an empty line where something is before it.
 fn write_job<W: Write>(
     alloc: Global,
     writer: &mut W,
@@ -232,7 +254,7 @@ fn write_job<W: Write>(
     Ok(outcome)
 }
 
-/// Writes the listing of a deck, job by job, and answers what it has. It is refused where a write fails, or memory runs out.
+/// Writes the listing of a deck, job by job, and answers what it has. It is refused if a write fails, or memory runs out.
 pub fn write_listing<W: Write>(
     alloc: Global,
     writer: &mut W,

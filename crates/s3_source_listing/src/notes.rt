@@ -38,7 +38,7 @@ fn add_entry(
 
 /// The entries of each card.
 #[tactic(auto, using(crate::proofs::NoteLemmas::entry_more))]
-fn entries_by_card(
+pub(crate) fn entries_by_card(
     alloc: Global,
     entries: &[FaultyEntry],
 ) -> Result<IndexMap<u16, Vec<FaultyEntry>>, AllocError>
@@ -52,7 +52,7 @@ fn entries_by_card(
 }
 
 /// The entries of a card.
-fn entries_on(by_card: &IndexMap<u16, Vec<FaultyEntry>>, card: u16) -> &[FaultyEntry]
+pub(crate) fn entries_on(by_card: &IndexMap<u16, Vec<FaultyEntry>>, card: u16) -> &[FaultyEntry]
     ensures { result.now ≡ entries_in by_card.now card }
 {
     match by_card.get(&card) {
@@ -89,7 +89,7 @@ fn add_diagnostic(
 
 /// What a listing has under each card of a source: of all its diagnostics those of the card, in their order, each with the columns of
 /// those of the card's entries that are at fault by it. Each diagnostic and each entry is looked at once, and then only with those of
-/// its card. It is refused only where memory runs out.
+/// its card. It is refused only if memory runs out.
 pub fn notes_of_cards(
     alloc: Global,
     found: &[Diagnostic],

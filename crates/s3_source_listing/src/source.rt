@@ -2,35 +2,46 @@
 ghost use Rattle.std.specs.Prelude.{◌≡◌, ◌≢◌, ◌≤◌, [], length, slice_range, IfOk};
 ghost use Rattle.s3_blame.specs.Inner.Sources.{found_from};
 ghost use Rattle.s3_sheets.specs.Inner.Parts.{faulty_entries};
+ghost use Rattle.s3_sheets.specs.Lines.{lines_of};
 ghost use Rattle.s3_sheets.specs.Sheets.{sheet_diagnostics};
+ghost use Rattle.s3_warnings.specs.Inner.Warnings.{warnings as warnings_spec};
 
 use crate::card_lines::{push_card, push_diagnostic, push_reason, push_ruler};
+use crate::margin::{Margin, Numbers};
 use crate::notes::{CardNotes, notes_of_cards, notes_under};
 use crate::tables::push_tables;
 use crate::warned::{CardWarnings, count_of, push_warnings, warnings_of_cards};
 use s3_blame::{FaultyEntry, entries_of, told};
 use s3_cards::{Card, Deck, trim_end};
-use s3_decks::{keyword_columns, program_of, push_characters};
+use s3_decks::{DeckText, keyword_columns, program_of, push_characters};
 use s3_lines::Diagnostic;
 use s3_reasons::{Reasons, reasons_of};
 use s3_sheets::{SheetFault, read_sheets};
 use s3_warnings::{Warning, warnings_of};
 use std::alloc::{AllocError, Global};
 
-/// Where a source stands in its deck, by places from 0.
+/// Where a source is in its deck, by places from 0.
 #[derive(Clone, Copy)]
 pub struct SourceRange {
     /// The place of its first card, which is the number of the RUN card.
     pub from: usize,
-    /// The place behind its last card.
+    /// The place after its last card.
     pub to: usize,
+}
+
+/// The cards of a deck, with the numbers before them.
+#[derive(Clone, Copy)]
+struct NumberedCards<'a> {
+    files: &'a DeckText<'a>,
+    deck: &'a Deck,
+    margin: Margin,
 }
 
 /// What is wrong with a source.
 #[derive(Drop)]
-struct Faults {
-    diagnostics: Vec<Diagnostic>,
-    entries: Vec<FaultyEntry>,
+pub(crate) struct Faults {
+    pub diagnostics: Vec<Diagnostic>,
+    pub entries: Vec<FaultyEntry>,
 }
 
 /// The notes under the cards of a source.
@@ -69,10 +80,15 @@ fn hides(diagnostic: &Diagnostic) -> bool {
 }
 
 /// Appends what is wrong with a card, by its number from 1.
-fn push_notes(text: &mut String, notes: &SourceNotes, card: u16) -> Result<(), AllocError> {
+fn push_notes(
+    text: &mut String,
+    margin: Margin,
+    notes: &SourceNotes,
+    card: u16,
+) -> Result<(), AllocError> {
     for note in notes_under(&notes.diagnostics, card) {
-        push_diagnostic(text, note.number, &note.marked)?;
-        push_reason(text, notes.reasons.of(card, note.number))?;
+        push_diagnostic(text, margin, note.number, &note.marked)?;
+        push_reason(text, margin, notes.reasons.of(card, note.number))?;
     }
     Ok(())
 }
@@ -81,39 +97,40 @@ fn push_notes(text: &mut String, notes: &SourceNotes, card: u16) -> Result<(), A
 fn push_source_card(
     text: &mut String,
     alloc: Global,
-    deck: &Deck,
+    cards: &NumberedCards<'_>,
     notes: &SourceNotes,
     number: u16,
 ) -> Result<(), AllocError> {
     let number_in_deck = usize::from(number);
-    let Some(card) = deck.card(number_in_deck.saturating_sub(1)) else {
+    let Some(card) = cards.deck.card(number_in_deck.saturating_sub(1)) else {
         return Ok(());
     };
-    push_card(text, number_in_deck, card)?;
-    push_notes(text, notes, number)?;
-    push_warnings(text, alloc, &notes.warnings, number)
+    let margin = cards.margin;
+    push_card(text, margin, Numbers::of(cards.files, number_in_deck), card)?;
+    push_notes(text, margin, notes, number)?;
+    push_warnings(text, alloc, margin, &notes.warnings, number)
 }
 
 /// Appends the cards of a source, each with what is wrong with it.
 fn push_cards(
     text: &mut String,
     alloc: Global,
-    deck: &Deck,
+    cards: &NumberedCards<'_>,
     range: SourceRange,
     notes: &SourceNotes,
 ) -> Result<(), AllocError>
     requires { range.to ≤ 9_999 }
 {
     for place in range.from..range.to {
-        push_source_card(text, alloc, deck, notes, place as u16 + 1)?;
+        push_source_card(text, alloc, cards, notes, place as u16 + 1)?;
     }
     Ok(())
 }
 
-/// Appends the RUN card and its numbers, where it has any.
+/// Appends the RUN card and its numbers, if it has any.
 fn push_run(
     text: &mut String,
-    deck: &Deck,
+    cards: &NumberedCards<'_>,
     notes: &CardNotes,
     run_card: u16,
 ) -> Result<(), AllocError> {
@@ -122,12 +139,13 @@ fn push_run(
         return Ok(());
     }
     let number = usize::from(run_card);
-    let Some(card) = deck.card(number.saturating_sub(1)) else {
+    let Some(card) = cards.deck.card(number.saturating_sub(1)) else {
         return Ok(());
     };
-    push_card(text, number, card)?;
+    let margin = cards.margin;
+    push_card(text, margin, Numbers::of(cards.files, number), card)?;
     for note in notes {
-        push_diagnostic(text, note.number, &[keyword_columns(card)])?;
+        push_diagnostic(text, margin, note.number, &[keyword_columns(card)])?;
     }
     Ok(())
 }
@@ -159,6 +177,7 @@ fn push_warning_count(text: &mut String, count: usize) -> Result<(), AllocError>
 fn push_all_cards(
     text: &mut String,
     alloc: Global,
+    files: &DeckText<'_>,
     deck: &Deck,
     range: SourceRange,
     run_card: u16,
@@ -170,7 +189,12 @@ fn push_all_cards(
     requires short { range.to ≤ 9_999 }
 {
     let notes = notes_of_source(alloc, deck, range, faults, warnings)?;
-    push_noted_cards(text, alloc, deck, range, run_card, &notes)?;
+    let cards = NumberedCards {
+        files,
+        deck,
+        margin: Margin::of(files, usize::from(run_card), range.to),
+    };
+    push_noted_cards(text, alloc, &cards, range, run_card, &notes)?;
     push_count(text, &faults.diagnostics)?;
     push_warning_count(text, count_of(warnings))
 }
@@ -198,16 +222,16 @@ fn notes_of_source(
 fn push_noted_cards(
     text: &mut String,
     alloc: Global,
-    deck: &Deck,
+    cards: &NumberedCards<'_>,
     range: SourceRange,
     run_card: u16,
     notes: &SourceNotes,
 ) -> Result<(), AllocError>
     requires { range.to ≤ 9_999 }
 {
-    push_ruler(text)?;
-    push_run(text, deck, &notes.diagnostics, run_card)?;
-    push_cards(text, alloc, deck, range, notes)
+    push_ruler(text, cards.margin)?;
+    push_run(text, cards, &notes.diagnostics, run_card)?;
+    push_cards(text, alloc, cards, range, notes)
 }
 
 /// Appends what a source has, if its cards have no fault of their own.
@@ -229,7 +253,7 @@ fn push_what_it_has(
 }
 
 /// What is wrong with a source: its diagnostics, by card and then number, and where they are of single cards all entries at fault.
-fn faults_of(
+pub(crate) fn faults_of(
     alloc: Global,
     deck: &Deck,
     range: SourceRange,
@@ -256,6 +280,7 @@ fn warnings_on_sheets(
 ) -> Result<Vec<Warning>, AllocError>
     requires order { range.from ≤ range.to }
     requires within { range.to ≤ length deck.now }
+    ensures { IfOk result (λ found. sheet_diagnostics range.from (slice_range deck.now range.from range.to) ≡ [] → found.items ≡ warnings_spec (lines_of range.from (slice_range deck.now range.from range.to))) }
 {
     match read_sheets(alloc, deck, range.from, range.to) {
         Ok(lines) => warnings_of(alloc, &lines),
@@ -265,7 +290,7 @@ fn warnings_on_sheets(
 }
 
 /// The warnings of a source. One with diagnostics has none: what they hide isn't known.
-fn warnings_in(
+pub(crate) fn warnings_in(
     alloc: Global,
     deck: &Deck,
     range: SourceRange,
@@ -273,6 +298,8 @@ fn warnings_in(
 ) -> Result<Vec<Warning>, AllocError>
     requires order { range.from ≤ range.to }
     requires within { range.to ≤ length deck.now }
+    ensures warned { IfOk result (λ found. faults.now.diagnostics.items ≡ [] → sheet_diagnostics range.from (slice_range deck.now range.from range.to) ≡ [] → found.items ≡ warnings_spec (lines_of range.from (slice_range deck.now range.from range.to))) }
+    ensures none { IfOk result (λ found. faults.now.diagnostics.items ≢ [] → found.items ≡ []) }
 {
     if faults.diagnostics.is_empty() {
         warnings_on_sheets(alloc, deck, range)
@@ -285,6 +312,7 @@ fn warnings_in(
 pub fn push_source(
     text: &mut String,
     alloc: Global,
+    files: &DeckText<'_>,
     deck: &Deck,
     range: SourceRange,
     run_card: u16,
@@ -296,7 +324,9 @@ pub fn push_source(
 {
     let faults = faults_of(alloc, deck, range, run_card)?;
     let warnings = warnings_in(alloc, deck, range, &faults)?;
-    push_all_cards(text, alloc, deck, range, run_card, &faults, &warnings)?;
+    push_all_cards(
+        text, alloc, files, deck, range, run_card, &faults, &warnings,
+    )?;
     push_what_it_has(text, alloc, deck, range, has_references)?;
     Ok(Found {
         diagnostics: faults.diagnostics.len(),

@@ -1,4 +1,4 @@
-//! What a program has: its files, fields, indicators, tags and subroutines, with the cards where they stand.
+//! What a program has: its files, fields, indicators, tags and subroutines, with the cards where they are.
 
 use crate::cards::{Cards, push_cards_behind, push_numbers};
 use crate::files::words_of_use;
@@ -41,7 +41,7 @@ fn push_table(text: &mut String, heading: &str, lines: &str) -> Result<(), Alloc
     text.push_str(lines)
 }
 
-/// Appends a name, and blanks behind it up to so many columns.
+/// Appends a name, and blanks after it up to so many columns.
 fn push_padded(text: &mut String, name: Name, columns: usize) -> Result<(), AllocError> {
     let shown = trim_end(&name.codes);
     push_characters(text, shown)?;
@@ -159,7 +159,7 @@ fn push_defining_and_using(text: &mut String, cards: &Cards) -> Result<(), Alloc
     text.push('\n')
 }
 
-/// Appends what stands between cards of both kinds.
+/// Appends what is between cards of both kinds.
 fn push_gap(text: &mut String, cards: &Cards) -> Result<(), AllocError> {
     if cards.defining.is_empty() || cards.using.is_empty() {
         return Ok(());

@@ -1,6 +1,7 @@
 //! The warnings of each card of a source.
 
 use crate::card_lines::push_warning;
+use crate::margin::Margin;
 use indexmap::IndexMap;
 use s3_decks::Columns;
 use s3_warnings::{Warning, WarningKind};
@@ -22,7 +23,7 @@ fn add_warning(
     Ok(())
 }
 
-/// The warnings of each card. It is refused only where memory runs out.
+/// The warnings of each card. It is refused only if memory runs out.
 pub fn warnings_of_cards(alloc: Global, warnings: &[Warning]) -> Result<CardWarnings, AllocError> {
     let mut by_card = IndexMap::new(alloc);
     for warning in warnings {
@@ -65,6 +66,7 @@ fn columns_of_kind(
 fn push_kind(
     text: &mut String,
     alloc: Global,
+    margin: Margin,
     warnings: &[Warning],
     kind: WarningKind,
 ) -> Result<(), AllocError> {
@@ -72,19 +74,20 @@ fn push_kind(
     if marked.is_empty() {
         return Ok(());
     }
-    push_warning(text, kind, &marked)
+    push_warning(text, margin, kind, &marked)
 }
 
 /// Appends the warnings of a card, by its number from 1.
 pub fn push_warnings(
     text: &mut String,
     alloc: Global,
+    margin: Margin,
     by_card: &CardWarnings,
     card: u16,
 ) -> Result<(), AllocError> {
     if let Some(warnings) = by_card.get(&card) {
         for kind in WarningKind::ALL {
-            push_kind(text, alloc, warnings, kind)?;
+            push_kind(text, alloc, margin, warnings, kind)?;
         }
     }
     Ok(())

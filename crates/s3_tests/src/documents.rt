@@ -1,4 +1,4 @@
-//! Documents that no command asks for: without lines, and with more pages than one may have. A whole one stands in a worked row,
+//! Documents that no command asks for: without lines, and with more pages than one may have. A whole one is in a worked row,
 //! `operate-paper-pdf`; `tools/test-paper` has others read by programs for PDF.
 
 use s3_cards::ebcdic::BLANK;
@@ -17,7 +17,7 @@ fn a_document_without_lines_is_an_empty_form(rt: HostRuntime) {
     assert!(rt; bytes.ends_with(b"\n%%EOF\n".as_slice()));
 }
 
-/// Page 9,998 comes 9,999 pages behind page 9,999, so 401 such pairs have over 4,000,000 pages.
+/// Page 9,998 comes 9,999 pages after page 9,999, so 401 such pairs have over 4,000,000 pages.
 fn many_pages(alloc: Global) -> Result<Vec<PrintLine>, AllocError> {
     let blank = [BLANK; PRINT_POSITIONS];
     let mut lines = Vec::new(alloc);

@@ -1,4 +1,4 @@
--- What a call on a machine makes of what stood before it. A machine is known by relations of its own: from which first state it came by
+-- What a call on a machine makes of what was before it. A machine is known by relations of its own: from which first state it came by
 -- which entries (`after`), and what is kept of a first state (`keeps`).
 use Rattle.std.specs.Prelude.{◌≢◌, List, Result, Err}
 use Rattle.s3_bureau.specs.declared.entry.Entry.{Entry}

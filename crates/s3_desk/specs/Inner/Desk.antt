@@ -108,7 +108,7 @@ pub record IsLeft (w : World) : Type 0 where
   pub rests : IsAtRest w
   pub empty : is_queued w.lines ≡ false
 
--- where a level was left: at rest, where no halt waits, or one does, or one does that isn't asked about
+-- where a level was left: at rest, if no halt waits, or one does, or one does that isn't asked about
 abbrev pub EndsAs : End → World → Type 0
 EndsAs Done w = IsLeft w × (is_waiting w.halts ≡ false)
 EndsAs Halted w = IsLeft w × (is_waiting w.halts ≡ true)

@@ -42,7 +42,7 @@ tree_body count =
     codes "<< /Type /Pages /MediaBox [0 0 1071 792] /Resources 3 0 R /Count " ++ decimal count ++ codes " /Kids [" ++ flat_map kid (range_with_len 0 count)
     ++ codes "] >>"
 
--- page 0 comes behind each 9,999 pages from page 1 on, and then page 1
+-- page 0 comes after each 9,999 pages from page 1 on, and then page 1
 unfoldable pub label_turn : ℕ → List ℕ
 label_turn turn = codes " " ++ decimal (10000 * turn + 9999) ++ codes " << /P (0) >> " ++ decimal (10000 * turn + 10000) ++ codes " << /S /D >>"
 
@@ -52,6 +52,6 @@ root_body tree count =
     codes "<< /Type /Catalog /Pages " ++ decimal tree ++ codes " 0 R /ViewerPreferences << /DisplayDocTitle true >> /PageLabels << /Nums [0 << /S /D >>"
     ++ flat_map label_turn (range_with_len 0 (count / 10000)) ++ codes "] >> >>"
 
--- what is told of the document
+-- what is reported of the document
 unfoldable pub info_body : List ℕ → List ℕ
 info_body title = codes "<< /Title " ++ text_in title ++ codes " /Producer (bureau) >>"

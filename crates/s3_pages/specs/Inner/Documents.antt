@@ -13,7 +13,7 @@ tree_number count = 4 + 2 * count
 abbrev pub front_bodies : Bool → List (List ℕ)
 front_bodies has_bars = font_body ∷ form_body has_bars ∷ resources_body ∷ []
 
--- what is told of all pages
+-- what is reported of all pages
 abbrev pub back_bodies : List ℕ → ℕ → List (List ℕ)
 back_bodies title count = tree_body count ∷ root_body (tree_number count) count ∷ info_body title ∷ []
 

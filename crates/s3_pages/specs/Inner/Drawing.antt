@@ -6,7 +6,7 @@ use Rattle.s3_cards.specs.Printed.{Printed}
 use Rattle.s3_pages.specs.Inner.PageTexts.{row}
 use Rattle.s3_pages.specs.Inner.Shown.{shown}
 
--- a parenthesis ends a text, and a backslash has a meaning of its own, but for one behind a backslash
+-- a parenthesis ends a text, and a backslash has a meaning of its own, except for one after a backslash
 abbrev pub is_special : ℕ → Bool
 is_special byte = byte == 40 || byte == 41 || byte == 92
 

@@ -8,12 +8,12 @@ use Rattle.s3_cards.specs.Numbers.{in_digits}
 unfoldable pub object_text : ℕ → List ℕ → List ℕ
 object_text number body = decimal number ++ codes " 0 obj\n" ++ body ++ codes "\nendobj\n"
 
--- objects one behind another, numbered from a first number on
+-- objects one after another, numbered from a first number on
 abbrev pub numbered : ℕ → List (List ℕ) → List (List ℕ)
 numbered number [] = []
 numbered number (body ∷ bodies) = object_text number body ∷ numbered (number + 1) bodies
 
--- texts one behind another
+-- texts one after another
 abbrev pub joined : List (List ℕ) → List ℕ
 joined texts = flat_map (λ text. text) texts
 
@@ -26,11 +26,11 @@ places at (text ∷ texts) = at ∷ places (at + length text) texts
 unfoldable pub entry_text : ℕ → List ℕ
 entry_text at = in_digits 10 at ++ codes " 00000 n \n"
 
--- the table of the objects' places, behind an entry for the number 0, which none has
+-- the table of the objects' places, after an entry for the number 0, which none has
 unfoldable pub table_text : List ℕ → List ℕ
 table_text starts = codes "xref\n0 " ++ decimal (length starts + 1) ++ codes "\n0000000000 65535 f \n" ++ flat_map entry_text starts
 
--- what a reader begins with: how many objects there are, the last but one as their root and the last one as what is told of them,
+-- what a reader begins with: how many objects there are, the last but one as their root and the last one as what is reported of them,
 -- and where the table is
 unfoldable pub trailer_text : (count at : ℕ) → List ℕ
 trailer_text count at =

@@ -31,7 +31,7 @@ row_text n lines = overprinted (at_row n lines) ++ 10 ∷ []
 unfoldable pub page_text : List Printed → List ℕ
 page_text lines = flat_map (λ n. row_text n lines) (range_with_len 0 (height lines))
 
--- a page behind another one: a form feed in front of it
+-- a page after another one: a form feed in front of it
 abbrev pub next_page_text : List Printed → List ℕ
 next_page_text page = 12 ∷ page_text page
 

@@ -1,4 +1,4 @@
--- The pages of a job: on which one each printed line stands.
+-- The pages of a job: on which one each printed line is.
 use Rattle.std.specs.Prelude.{ℕ, ◌+◌, ◌-◌, List, [], ◌∷◌, ◌++◌, nat_le, replicate, if◌then◌else◌}
 use Rattle.s3_cards.specs.Printed.{Printed}
 
@@ -11,13 +11,13 @@ abbrev pub on_first : Printed → List (List Printed) → List (List Printed)
 on_first line [] = (line ∷ []) ∷ []
 on_first line (page ∷ pages) = (line ∷ page) ∷ pages
 
--- the page of a number and those behind it, given all lines that are printed from there on: a line stands on the page of its own
+-- the page of a number and those after it, given all lines that are printed from there on: a line is on the page of its own
 -- number, in front of the lines that come after it, and the pages on the way there are empty
 unfoldable pub pages_from : ℕ → List Printed → List (List Printed)
 pages_from number [] = [] ∷ []
 pages_from number (line ∷ lines) = replicate (pages_on number line.page) [] ++ on_first line (pages_from line.page lines)
 
--- the pages behind that of a number, given the lines that are printed behind it
+-- the pages after that of a number, given the lines that are printed after it
 abbrev pub pages_behind : ℕ → List Printed → List (List Printed)
 pages_behind number [] = []
 pages_behind number (line ∷ lines) = replicate (pages_on number line.page - 1) [] ++ pages_from line.page (line ∷ lines)

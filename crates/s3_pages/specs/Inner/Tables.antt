@@ -9,7 +9,7 @@ use Rattle.s3_pages.specs.Inner.Documents.{document_of}
 use Rattle.s3_pages.specs.Inner.Objects.{joined, numbered, places}
 use Rattle.s3_pages.specs.declared.object_table.Table.{Table}
 
--- the texts of objects that come behind those of a table
+-- the texts of objects that come after those of a table
 abbrev pub texts_behind : Table → List (List ℕ) → List (List ℕ)
 texts_behind table bodies = numbered (length table.starts.items + 1) bodies
 
@@ -17,7 +17,7 @@ texts_behind table bodies = numbered (length table.starts.items + 1) bodies
 abbrev pub end_behind : Table → List (List ℕ) → ℕ
 end_behind table bodies = table.end + length (joined (texts_behind table bodies))
 
--- objects were written behind those of a table, and it has their places
+-- objects were written after those of a table, and it has their places
 pub record Puts (bodies : List (List ℕ)) (old new : Table) (before after : Option (List ℕ)) : Type 0 where
   pub written : Appends before after (joined (texts_behind old bodies))
   pub starts : new.starts.items ≡ old.starts.items ++ places old.end (texts_behind old bodies)
@@ -27,7 +27,7 @@ pub record Puts (bodies : List (List ℕ)) (old new : Table) (before after : Opt
 abbrev pub end_limit : ℕ
 end_limit = 10 ^ 10
 
--- what comes of objects that are put behind those of a table: they are too long only where it has no digits for their end
+-- what comes of objects that are put after those of a table: they are too long only where it has no digits for their end
 pub record Putting (bodies : List (List ℕ)) (old new : Table) (before after : Option (List ℕ)) (result : Result (Unit {0}) PaperFault) : Type 0 where
   pub comes : MatchResult result (λ _. Puts bodies old new before after) (λ fault. fault ≡ TooLong → end_limit ≤ end_behind old bodies)
 

@@ -37,7 +37,7 @@ laid_out is_of_source characters = fold (with_character is_of_source) [] charact
 abbrev pub piece_character : ℕ → ℕ
 piece_character character = if is_tab character then 32 else shown character
 
--- a text with 0 for each blank that stands outside of apostrophes
+-- a text with 0 for each blank that is outside of apostrophes
 abbrev pub parted : Bool → List ℕ → List ℕ
 parted is_quoted [] = []
 parted is_quoted (byte ∷ bytes) =
@@ -65,7 +65,7 @@ piece_at part (Some colon) = option_map (λ column. (column, drop (colon + 1) pa
 abbrev pub piece_of : List ℕ → Option (ℕ × List ℕ)
 piece_of part = piece_at part (position is_colon part)
 
--- a card with a text from a column on; 0 stands in columns that no piece has filled yet
+-- a card with a text from a column on; 0 is in columns that no piece has filled yet
 abbrev pub with_text : List ℕ → ℕ → List ℕ → List ℕ
 with_text card column text =
     let wide : List ℕ = card ++ replicate (column - 1 + length text - length card) 0 in
@@ -86,7 +86,7 @@ of_parts parts = map or_blank (fold (λ card part. with_piece card (piece_of par
 abbrev pub at_least_blank : List ℕ → List ℕ
 at_least_blank card = if length card == 0 then 32 ∷ [] else card
 
--- the text of a line that begins with %, behind that, with 0 where it is parted
+-- the text of a line that begins with %, after that, with 0 where it is parted
 abbrev pub part_text : List ℕ → List ℕ
 part_text characters = parted false (map piece_character (drop 1 characters))
 
@@ -94,7 +94,7 @@ abbrev pub pieced : List ℕ → List ℕ
 pieced characters = at_least_blank (of_parts (slice_split is_zero (part_text characters)))
 
 -- ---- the remark of a C card
--- whether a byte stands at a place
+-- whether a byte is at a place
 abbrev pub is_at : List ℕ → ℕ → ℕ → Bool
 is_at card place byte = nat_lt place (length card) && slice_index card place == byte
 

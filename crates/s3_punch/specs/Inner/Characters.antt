@@ -20,10 +20,10 @@ unfoldable pub plain_of : ℕ → Option ℕ
 plain_of character =
     if is_small character then Some (character - 32) else if has_code character then Some character else in_table character
 
--- what is told: no tab, and nothing that becomes a card character
+-- what is reported: no tab, and nothing that becomes a card character
 abbrev pub is_refused : ℕ → Bool
 is_refused character = not (is_tab character) && is_none (plain_of character)
 
--- what stands in the column of a character
+-- what is in the column of a character
 abbrev pub shown : ℕ → ℕ
 shown character = unwrap_or (plain_of character) 63

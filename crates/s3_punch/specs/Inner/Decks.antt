@@ -30,29 +30,29 @@ abbrev pub part_after : Part → Option (List ℕ) → Part
 part_after part None = part
 part_after part (Some card) = part_behind part card
 
--- the cards of lines, of which the first has this number and stands in this part
+-- the cards of lines, of which the first has this number and is in this part
 unfoldable pub cards_from : Bool → Part → ℕ → List (List ℕ) → List NumberedCard
 cards_from blanks_remarks part line [] = []
 cards_from blanks_remarks part line (bytes ∷ more) =
     let card : Option (List ℕ) = card_of_bytes blanks_remarks part bytes in
     numbered line card ++ cards_from blanks_remarks (part_after part card) (line + 1) more
 
--- the part behind these lines
+-- the part after these lines
 unfoldable pub part_from : Bool → Part → List (List ℕ) → Part
 part_from blanks_remarks part [] = part
 part_from blanks_remarks part (bytes ∷ more) =
     part_from blanks_remarks (part_after part (card_of_bytes blanks_remarks part bytes)) more
 
--- a card behind 9,999 others
+-- a card after 9,999 others
 abbrev pub surplus_fault : ℕ → ℕ → Option (List ℕ) → List PunchFault
 surplus_fault cards line card = fault_if (cards == 9999 && is_some card) line 1 TooManyCards
 
--- how many cards stand in front of the next line
+-- how many cards are in front of the next line
 abbrev pub cards_after : ℕ → Option (List ℕ) → ℕ
 cards_after cards None = cards
 cards_after cards (Some card) = cards + 1
 
--- what is wrong with lines that stand behind so many cards
+-- what is wrong with lines that are after so many cards
 unfoldable pub faults_from : Bool → Part → ℕ → ℕ → List (List ℕ) → List PunchFault
 faults_from blanks_remarks part cards line [] = []
 faults_from blanks_remarks part cards line (bytes ∷ more) =
@@ -96,7 +96,7 @@ faults_of begun text = faults_from begun.blanks_remarks begun.part begun.cards 1
 abbrev pub IsDeck : List ℕ → Type 0
 IsDeck text = (cards : List (List ℕ)) × (deck_of text ≡ Ok cards)
 
--- a line that has its card as it stands: outside of data it isn't blank, and begins neither with # nor with %
+-- a line that has its card as it is: outside of data it isn't blank, and begins neither with # nor with %
 abbrev pub is_plain : Option LineForm → Bool
 is_plain None = false
 is_plain (Some InPieces) = false

@@ -25,7 +25,7 @@ character_faults line characters = flat_map (character_fault line) (enumerate_fr
 abbrev pub width_fault : ℕ → List ℕ → List PunchFault
 width_fault line card = fault_if (nat_lt 96 (length card)) line 97 (TooWide (length card))
 
--- whether a column in which a piece would stand is filled already
+-- whether a column in which a piece would be is filled already
 abbrev pub lies_over : List ℕ → ℕ × List ℕ → Bool
 lies_over card piece = list_any (λ byte. not (is_zero byte)) (take (length piece.1) (drop (piece.0 - 1) card))
 
@@ -33,7 +33,7 @@ abbrev pub part_fault : ℕ → ℕ → List ℕ → List ℕ → Option (ℕ ×
 part_fault line place card part None = fault_if (not (length part == 0)) line place NoPiece
 part_fault line place card part (Some piece) = fault_if (lies_over card piece) line place Overlaps
 
--- what is wrong with the parts of a card in pieces, of which the first one stands at this place of the line
+-- what is wrong with the parts of a card in pieces, of which the first one is at this place of the line
 abbrev pub part_faults : ℕ → ℕ → List ℕ → List (List ℕ) → List PunchFault
 part_faults line place card [] = []
 part_faults line place card (part ∷ parts) =
@@ -42,7 +42,7 @@ part_faults line place card (part ∷ parts) =
 abbrev pub is_apostrophe : ℕ → Bool
 is_apostrophe byte = byte == 39
 
--- the last apostrophe of a text behind the %, where their number is odd
+-- the last apostrophe of a text after the %, where their number is odd
 abbrev pub open_fault : ℕ → List ℕ → List PunchFault
 open_fault line text =
     fault_if (count_by is_apostrophe text % 2 == 1) line (length text - prefix_len (λ byte. not (is_apostrophe byte)) (reverse text) + 1) OpenText

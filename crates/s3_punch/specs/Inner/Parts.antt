@@ -1,4 +1,4 @@
--- What part of a deck a card stands in.
+-- What part of a deck a card is in.
 use Rattle.std.specs.Prelude.{ℕ, ◌==◌, ◌&&◌, ◌||◌, not, List, [], ◌∷◌, Bool, true, false, codes, drop, length, nat_eq, take, if◌then◌else◌}
 use Rattle.std.specs.Cmp.Lexicographic.{pointwise}
 use Rattle.std.specs.List.{prefix_len, starts_with}
@@ -14,7 +14,7 @@ is_mark byte = not (is_blank byte)
 abbrev pub from_word : List ℕ → List ℕ
 from_word text = drop (prefix_len is_blank text) text
 
--- the first word of a text, and the text behind it
+-- the first word of a text, and the text after it
 abbrev pub word_of : List ℕ → List ℕ
 word_of text = take (prefix_len is_mark (from_word text)) (from_word text)
 
@@ -25,11 +25,11 @@ behind_word text = drop (prefix_len is_mark (from_word text)) (from_word text)
 abbrev pub is_separator : List ℕ → Bool
 is_separator card = starts_with nat_eq card (47 ∷ 42 ∷ []) || starts_with nat_eq card (47 ∷ 38 ∷ [])
 
--- a card that begins `//` and a blank, be it one of the blanks behind its text
+-- a card that begins `//` and a blank, be it one of the blanks after its text
 abbrev pub is_statement : List ℕ → Bool
 is_statement card = starts_with nat_eq card (47 ∷ 47 ∷ []) && (length card == 2 || starts_with nat_eq card (47 ∷ 47 ∷ 32 ∷ []))
 
--- the first and the second word behind the `//` of a card
+-- the first and the second word after the `//` of a card
 abbrev pub keyword : List ℕ → List ℕ
 keyword card = word_of (drop 2 card)
 
@@ -40,12 +40,12 @@ parameters card = word_of (behind_word (drop 2 card))
 abbrev pub names_compiler : List ℕ → Bool
 names_compiler text = pointwise nat_eq text (codes "$RPG") || starts_with nat_eq text (codes "$RPG,")
 
--- behind LOAD, unless one stands before
+-- after LOAD, unless one is before
 abbrev pub behind_load : Part → List ℕ → Part
 behind_load Statements card = if names_compiler (parameters card) then ToCompile else ToRun
 behind_load part card = part
 
--- behind RUN
+-- after RUN
 abbrev pub behind_run : Part → Part
 behind_run ToCompile = Source
 behind_run part = Data
@@ -70,7 +70,7 @@ abbrev pub is_source : Part → Bool
 is_source Source = true
 is_source part = false
 
--- the part behind a card that stands in a part
+-- the part after a card that is in a part
 abbrev pub part_behind : Part → List ℕ → Part
 part_behind part card =
     if is_separator card then Statements

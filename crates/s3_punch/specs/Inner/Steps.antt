@@ -15,14 +15,14 @@ pub record KeepsCards (old new : Punched) : Type 0 where
   pub faults : new.faults.items ≡ old.faults.items
   pub part : new.part ≡ old.part
 
--- a card of this line is put behind the others
+-- a card of this line is put after the others
 pub record AddsCard (line : ℕ) (card : List ℕ) (old new : Punched) : Type 0 where
   pub text : new.text.items ≡ old.text.items ++ card ++ 10 ∷ []
   pub origins : new.origins.items ≡ old.origins.items ++ line ∷ []
   pub faults : new.faults.items ≡ old.faults.items
   pub part : new.part ≡ part_behind old.part card
 
--- the card of a line is put behind the others, if it has one, and what is wrong with it
+-- the card of a line is put after the others, if it has one, and what is wrong with it
 pub record AddsLine (begun : Begun) (line : ℕ) (bytes : List ℕ) (old new : Punched) : Type 0 where
   pub text : new.text.items ≡ old.text.items ++ joined (numbered line (card_of_bytes begun.blanks_remarks old.part bytes))
   pub origins : new.origins.items ≡ old.origins.items ++ map (λ card. card.0) (numbered line (card_of_bytes begun.blanks_remarks old.part bytes))

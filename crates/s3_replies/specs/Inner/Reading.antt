@@ -12,7 +12,7 @@ abbrev pub IsNoMemory : RulesFault → Type 0
 IsNoMemory NoMemory = Unit {0}
 IsNoMemory (IllFormed faults) = ⊥
 
--- a text is refused by its ill formed lines, one at least, or where memory runs out
+-- a text is refused by its malformed lines, one at least, or if memory runs out
 abbrev pub IsRefused : (text : List ℕ) → RulesFault → Type 0
 IsRefused text NoMemory = Unit {0}
 IsRefused text (IllFormed faults) = (0 < length faults.items) × ((rules : List Rule) × HasRules text rules faults.items)

@@ -164,7 +164,7 @@ faults_from number [] = []
 faults_from number (Ok rule ∷ reads) = faults_from (number + 1) reads
 faults_from number (Err fault ∷ reads) = (record { number = number; fault = fault }) ∷ faults_from (number + 1) reads
 
--- a text has these rules, or these lines that are ill formed, one at least
+-- a text has these rules, or these lines that are malformed, one at least
 abbrev pub HasRules : (text : List ℕ) → List Rule → List IllFormedLine → Type 0
 HasRules text rules faults =
     (reads : List (Result (Option Rule) LineFault)) × AreRead 1 (lines text) reads × (rules ≡ rules_in reads) × (faults ≡ faults_from 1 reads)

@@ -1,4 +1,4 @@
--- What stands under a card in a listing.
+-- What is under a card in a listing.
 use Rattle.std.specs.Prelude.{ℕ, nat_eq, ◌==◌, Bool, List, [], Vec, map, filter}
 use Rattle.std.specs.Option.{option_map_or}
 use Rattle.indexmap.specs.IndexMap.{IndexMap, get}

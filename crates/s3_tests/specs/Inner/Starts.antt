@@ -7,7 +7,7 @@ use Rattle.s3_sheets.specs.declared.kind.CardKind.{CardKind}
 use Rattle.s3_sheets.specs.declared.kind.CardKind.TheVariants.{Header, File, Record, RecordAnd, RecordOr, Field, Calculation, OutputLine, OutputAnd, OutputOr, OutputField}
 use Rattle.s3_punch.specs.declared.stops.TheConstants.{HEADER_STARTS, FILE_STARTS, INPUT_STARTS, CALCULATION_STARTS, OUTPUT_STARTS}
 
--- whether nothing may stand in the columns of a rule
+-- whether nothing may be in the columns of a rule
 abbrev pub is_left_blank : Entry → Bool
 is_left_blank Blank = true
 is_left_blank _ = false

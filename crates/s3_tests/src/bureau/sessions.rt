@@ -97,7 +97,7 @@ fn end_of_refusal(refusal: Refusal, cause: Stop) -> End {
     }
 }
 
-/// Whether a line has this text, and blanks behind it.
+/// Whether a line has this text, and blanks after it.
 fn has_text(line: &PrintLine, text: &[u8]) -> bool {
     let printed = line.text();
     text.len() <= printed.len()
@@ -171,7 +171,7 @@ fn run_on(session: &Session, mut bureau: Bureau<Store>, cause: Stop) -> Run {
     }
 }
 
-/// A session over a store that fails at a call, or where memory may be refused: for this cause alone it may be stopped.
+/// A session over a store that fails at a call, or if memory may be refused: for this cause alone it may be stopped.
 fn run_over(
     alloc: Global,
     session: &Session,

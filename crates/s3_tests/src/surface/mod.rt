@@ -3,3 +3,4 @@
 
 mod levels;
 mod runs;
+mod turns;

@@ -2,8 +2,8 @@
 use Rattle.std.proofs.Common.{◌≡◌, drop}
 use denote.Text.{Utf8}
 use denote.Shadow.{shadow}
-use Rattle.s3_journal.specs.Inner.Posted.{decks_of, lines_of, posted_in}
+use Rattle.s3_journal.specs.Inner.Posted.{lines_of, posted_by, posted_in}
 use Rattle.s3_journal.proofs.standing.posted_day.Given as goal
 
 abbrev pub invariant-loop-day : goal.invariant-loop-day
-invariant-loop-day l = shadow (Utf8 l.made) × (posted_in (decks_of l.fn.decks) l.made (lines_of (drop l.day-index l.fn.days)) ≡ posted_in (decks_of l.fn.decks) l.fn.pack (lines_of l.fn.days))
+invariant-loop-day l = shadow (Utf8 l.made) × (posted_in (posted_by l.fn.posting) l.made (lines_of (drop l.day-index l.fn.days)) ≡ posted_in (posted_by l.fn.posting) l.fn.pack (lines_of l.fn.days))

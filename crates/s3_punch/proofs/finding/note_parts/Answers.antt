@@ -1,4 +1,4 @@
--- One more part is told.
+-- One more part is reported.
 use Rattle.std.proofs.Common.{◌+◌, ◌++◌, length, refl, ap, ◌∙◌}
 use Rattle.std.specs.Option.{option_map}
 use Rattle.s3_punch.specs.Inner.Cards.{piece_of}

@@ -1,0 +1,3 @@
+pub mod SettingLemmas
+pub mod FileLemmas
+pub mod PackLemmas

@@ -1,0 +1,333 @@
+//! The packs that saves have replaced, kept beside the file of a pack: of `P` the newest one is `P.1`, the one before it `P.2`.
+//!
+//! A save that keeps the pack which it replaces goes these steps:
+//!
+//! 1. `P` gets the second name `P.0`, which is brought to the disk. If a killed save has left another pack as `P.0`, step 4 is done
+//!    first.
+//! 2. The line of the journal is brought to the disk.
+//! 3. The new pack gets the name `P`, which is brought to the disk.
+//! 4. The packs before the first free number move to the next number, the highest first and `P.0` last. If no number is free, the last
+//!    pack is replaced, which is the one that isn't kept any longer.
+//!
+//! So a pack that is to be kept has a name at each moment: between two steps, and between two moves of step 4. After a power cut this
+//! is so if the file system brings the renames of a folder to the disk in their order.
+
+use crate::fault::DayFault;
+use crate::order::Order;
+use s3_host_files::{FileFault, LockedPack, is_pack_at};
+use s3_refusals::{Reason, Shown};
+use std::alloc::{AllocError, Global};
+use std::fs::{File, Metadata};
+use std::io::{ErrorKind, Write};
+use std::os::unix::fs::MetadataExt;
+use std::path::{Path, PathBuf};
+use std::{fs, io};
+
+/// The most packs that are kept.
+pub const MOST_KEPT: u16 = 999;
+
+/// How many links are followed one after another.
+const LINK_LIMIT: u32 = 40;
+
+/// A pack that has a second name, by which it is kept after the save.
+#[derive(Drop)]
+pub struct SetAside {
+    /// The file of the pack, with no link at its end.
+    place: PathBuf,
+    /// How many packs are kept.
+    count: u16,
+}
+
+/// What has a name.
+#[derive(Clone, Copy, PartialEq, Eq)]
+enum AtName {
+    /// Nothing.
+    Nothing,
+    /// A pack.
+    Pack,
+    /// Anything else.
+    Other,
+}
+
+/// The name under which a pack is kept, given the file of the pack; 0 is the number of a pack that a save is about to replace.
+pub fn kept_name(alloc: Global, place: Path<'_>, number: u16) -> Result<String, AllocError> {
+    format!(in alloc; "{}.{number}", place.as_str())
+}
+
+/// Tries whether the pack that a save replaces can be kept: each name under which one is kept is free or a pack, and the file can have a
+/// second name. Nothing is changed.
+pub fn test_keeping<'a>(
+    rt: &HostRuntime,
+    order: &Order<'a>,
+    locked: &Option<LockedPack>,
+) -> Result<(), DayFault<'a>> {
+    let (Some(name), Some(locked)) = (order.save, locked) else {
+        return Ok(());
+    };
+    if order.keep == 0 {
+        return Ok(());
+    }
+    test_names(rt, name, locked.place(), order.keep)?;
+    match try_second_name(rt, locked.place()) {
+        Ok(()) => Ok(()),
+        Err(error) => Err(not_kept(rt, name, &error)),
+    }
+}
+
+/// Refuses a save if something that isn't a pack has a name under which packs are kept.
+fn test_names<'a>(
+    rt: &HostRuntime,
+    name: &'a str,
+    place: Path<'_>,
+    count: u16,
+) -> Result<(), DayFault<'a>> {
+    for number in 0..count.saturating_add(1) {
+        let kept = kept_name(rt.alloc(), place, number)?;
+        match at_name(rt, kept.as_str()) {
+            Ok(AtName::Nothing | AtName::Pack) => {}
+            Ok(AtName::Other) => return Err(occupied(rt, name, kept.as_str())),
+            Err(error) => return Err(not_kept(rt, name, &error)),
+        }
+    }
+    Ok(())
+}
+
+/// Reports that a name is taken, and gives the fault.
+fn occupied<'a>(rt: &HostRuntime, name: &'a str, kept: &str) -> DayFault<'a> {
+    let kept = Shown(kept);
+    let _ = writeln!(
+        rt.stderr(),
+        "{kept} is there and isn't a pack, so no pack can be kept under this name; give that file another name, or leave --keep out"
+    );
+    DayFault::Keep(name)
+}
+
+/// Reports why a pack can't be kept, and gives the fault.
+fn not_kept<'a>(rt: &HostRuntime, name: &'a str, error: &io::Error) -> DayFault<'a> {
+    if error.kind() == ErrorKind::OutOfMemory {
+        return DayFault::from(AllocError);
+    }
+    let (shown, reason) = (Shown(name), Reason(*error));
+    let _ = writeln!(
+        rt.stderr(),
+        "{shown} can't get a second name, by which it would be kept: {reason}"
+    );
+    DayFault::Keep(name)
+}
+
+/// Gives a pack a second name, and takes it away again. A name that a killed save left stays.
+fn try_second_name(rt: &HostRuntime, place: Path<'_>) -> io::Result<()> {
+    let spare = kept_name(rt.alloc(), place, 0)?;
+    if at_name(rt, spare.as_str())? != AtName::Nothing {
+        return Ok(());
+    }
+    fs::hard_link(rt, place, spare.as_str())?;
+    fs::remove_file(rt, spare.as_str())
+}
+
+impl SetAside {
+    /// Gives the pack that a save will replace a second name, if packs are kept and there is one.
+    pub fn of<'a>(
+        rt: &HostRuntime,
+        order: &Order<'a>,
+        locked: &Option<LockedPack>,
+    ) -> Result<Option<SetAside>, DayFault<'a>> {
+        match (order.save, locked) {
+            (Some(name), Some(locked)) if order.keep > 0 => {
+                SetAside::of_pack(rt, name, locked, order.keep)
+            }
+            _ => Ok(None),
+        }
+    }
+
+    /// Gives a locked pack a second name, by which so many packs are kept; none if it has lost its name.
+    fn of_pack<'a>(
+        rt: &HostRuntime,
+        name: &'a str,
+        locked: &LockedPack,
+        count: u16,
+    ) -> Result<Option<SetAside>, DayFault<'a>> {
+        let aside = SetAside {
+            place: locked.place().to_path_buf(rt.alloc())?,
+            count,
+        };
+        match aside.set_aside(rt) {
+            Ok(true) => Ok(Some(aside)),
+            Ok(false) => Ok(None),
+            Err(error) => Err(not_kept(rt, name, &error)),
+        }
+    }
+
+    /// Gives a locked pack a second name, by which it is kept with all that are kept already; none if it has lost its name.
+    pub fn of_all<'a>(
+        rt: &HostRuntime,
+        name: &'a str,
+        locked: &Option<LockedPack>,
+    ) -> Result<Option<SetAside>, DayFault<'a>> {
+        let Some(locked) = locked else {
+            return Ok(None);
+        };
+        match free_number(rt, locked.place(), MOST_KEPT) {
+            Ok(count) => {
+                test_names(rt, name, locked.place(), count)?;
+                SetAside::of_pack(rt, name, locked, count)
+            }
+            Err(error) => Err(not_kept(rt, name, &error)),
+        }
+    }
+
+    /// Gives the pack its second name, and brings it to the disk. What a killed save has left undone is done before. It returns whether
+    /// there is a pack.
+    fn set_aside(&self, rt: &HostRuntime) -> io::Result<bool> {
+        let place = self.place.as_path();
+        let spare = kept_name(rt.alloc(), place, 0)?;
+        if at_name(rt, spare.as_str())? == AtName::Pack && !are_one(rt, place, spare.as_str()) {
+            self.move_up(rt)?;
+        }
+        match fs::hard_link(rt, place, spare.as_str()) {
+            Ok(()) => {}
+            Err(error) if error.kind() == ErrorKind::NotFound => return Ok(false),
+            // a killed save has given it this name
+            Err(error) if error.kind() == ErrorKind::AlreadyExists => {
+                if !are_one(rt, place, spare.as_str()) {
+                    return Err(error);
+                }
+            }
+            Err(error) => return Err(error),
+        }
+        self.sync(rt)?;
+        Ok(true)
+    }
+
+    /// Moves the packs that are kept to the next number, once the new pack has its name. If that fails, it is reported: the next save
+    /// does it.
+    pub fn finish(&self, rt: &HostRuntime) {
+        let done = match self.move_up(rt) {
+            Ok(()) => self.sync(rt),
+            Err(error) => Err(error),
+        };
+        if let Err(error) = done {
+            let (place, reason) = (Shown(self.place.as_path().as_str()), Reason(error));
+            let _ = writeln!(
+                rt.stderr(),
+                "the packs that are kept beside {place} can't be renumbered: {reason}; the newest one is {place}.0, and the next save with --keep renumbers them"
+            );
+        }
+    }
+
+    /// Takes the second name away, if no new pack has the first one.
+    pub fn take_back(&self, rt: &HostRuntime) {
+        let place = self.place.as_path();
+        if let Ok(spare) = kept_name(rt.alloc(), place, 0)
+            && are_one(rt, place, spare.as_str())
+        {
+            let _ = fs::remove_file(rt, spare.as_str());
+        }
+    }
+
+    /// Moves each pack before the first free number to the next number, the highest one first.
+    fn move_up(&self, rt: &HostRuntime) -> io::Result<()> {
+        let free = free_number(rt, self.place.as_path(), self.count)?;
+        for step in 0..free {
+            self.move_one(rt, free - 1 - step)?;
+        }
+        Ok(())
+    }
+
+    /// Moves a pack to the next number.
+    fn move_one(&self, rt: &HostRuntime, number: u16) -> io::Result<()> {
+        let place = self.place.as_path();
+        let from = kept_name(rt.alloc(), place, number)?;
+        let to = kept_name(rt.alloc(), place, number.saturating_add(1))?;
+        if are_one(rt, Path::new(from.as_str()), to.as_str()) {
+            // the system would leave both names
+            return fs::remove_file(rt, from.as_str());
+        }
+        fs::rename(rt, from.as_str(), to.as_str())
+    }
+
+    /// Brings the names in the folder of the pack to the disk. Some file systems have no call for that.
+    fn sync(&self, rt: &HostRuntime) -> io::Result<()> {
+        let folder = File::open(rt, folder_of(self.place.as_path()))?;
+        match folder.sync_all() {
+            Err(error) if error.kind() == ErrorKind::InvalidInput => Ok(()),
+            done => done,
+        }
+    }
+}
+
+/// The first number from 1 on under which no pack is kept, or the last number if there is none.
+fn free_number(rt: &HostRuntime, place: Path<'_>, last: u16) -> io::Result<u16> {
+    for number in 1..last {
+        let kept = kept_name(rt.alloc(), place, number)?;
+        if at_name(rt, kept.as_str())? == AtName::Nothing {
+            return Ok(number);
+        }
+    }
+    Ok(last)
+}
+
+/// Renumbers the packs that are kept, if the new pack has its name; else the pack that was set aside loses its second name.
+pub fn end_aside(rt: &HostRuntime, aside: &Option<SetAside>, done: &Result<(), FileFault>) {
+    match (aside, done) {
+        (Some(aside), Ok(()) | Err(FileFault::Unsynced(_))) => aside.finish(rt),
+        _ => take_back(rt, aside),
+    }
+}
+
+/// Takes the second name from a pack that was set aside and isn't replaced.
+pub fn take_back(rt: &HostRuntime, aside: &Option<SetAside>) {
+    if let Some(aside) = aside {
+        aside.take_back(rt);
+    }
+}
+
+/// The path of a file, with no link at its end. Packs are kept beside it.
+pub fn place_of(rt: &HostRuntime, name: &str) -> Result<PathBuf, AllocError> {
+    let mut place = Path::new(name).to_path_buf(rt.alloc())?;
+    for _link in 0..LINK_LIMIT {
+        let Ok(target) = fs::read_link(rt, place.as_path()) else {
+            break;
+        };
+        place = folder_of(place.as_path()).join(rt.alloc(), target.as_path())?;
+    }
+    Ok(place)
+}
+
+/// What has a name. A link is something else than a pack.
+fn at_name(rt: &HostRuntime, name: &str) -> io::Result<AtName> {
+    match fs::symlink_metadata(rt, name) {
+        Ok(found) if found.is_file() && is_pack_at(rt, Path::new(name)) => Ok(AtName::Pack),
+        Ok(_) => Ok(AtName::Other),
+        Err(error) if error.kind() == ErrorKind::NotFound => Ok(AtName::Nothing),
+        Err(error) => Err(error),
+    }
+}
+
+/// Whether two names are known to be those of one file.
+fn are_one(rt: &HostRuntime, place: Path<'_>, other: &str) -> bool {
+    match (
+        fs::symlink_metadata(rt, place),
+        fs::symlink_metadata(rt, other),
+    ) {
+        (Ok(one), Ok(other)) => are_same(&one, &other),
+        _ => false,
+    }
+}
+
+fn are_same(one: &Metadata, other: &Metadata) -> bool {
+    one.dev() == other.dev() && one.ino() == other.ino()
+}
+
+/// The folder of a file.
+fn folder_of<'n>(place: Path<'n>) -> Path<'n> {
+    match place.parent() {
+        Some(folder) if !folder.as_str().is_empty() => folder,
+        _ => Path::new("."),
+    }
+}
+
+/// Whether a name is that of a pack.
+pub fn is_pack_of(rt: &HostRuntime, name: &str) -> bool {
+    matches!(at_name(rt, name), Ok(AtName::Pack))
+}

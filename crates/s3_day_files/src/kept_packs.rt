@@ -1,0 +1,54 @@
+//! The packs that are kept beside the file of a pack, known by their checksums.
+
+use crate::fault::DayFault;
+use crate::keeping::{MOST_KEPT, is_pack_of, kept_name};
+use s3_day_log::checksum;
+use s3_host_files::read_pack;
+use std::path::Path;
+
+/// A pack that is kept.
+#[derive(Drop)]
+pub struct KeptPack {
+    /// Its file.
+    pub path: String,
+    /// Its checksum.
+    pub sum: String,
+}
+
+/// The packs that are kept beside a pack, the newest one first.
+pub fn kept_packs<'a>(
+    rt: &HostRuntime,
+    name: &'a str,
+    place: Path<'_>,
+) -> Result<Vec<KeptPack>, DayFault<'a>> {
+    let mut packs = Vec::new(rt.alloc());
+    for number in 0..MOST_KEPT.saturating_add(1) {
+        let path = kept_name(rt.alloc(), place, number)?;
+        if is_pack_of(rt, path.as_str()) {
+            packs.push(kept_pack(rt, name, path)?)?;
+        }
+    }
+    Ok(packs)
+}
+
+/// A pack that is kept, with its checksum.
+fn kept_pack<'a>(rt: &HostRuntime, name: &'a str, path: String) -> Result<KeptPack, DayFault<'a>> {
+    match read_pack(rt, path.as_str()) {
+        Ok(bytes) => {
+            let sum = checksum(rt.alloc(), &bytes)?;
+            Ok(KeptPack { path, sum })
+        }
+        Err(fault) => Err(DayFault::of_pack(&fault, name)),
+    }
+}
+
+/// A pack, with its checksum.
+pub fn pack_itself<'a>(rt: &HostRuntime, name: &'a str) -> Result<KeptPack, DayFault<'a>> {
+    let path = String::from_str(rt.alloc(), name)?;
+    kept_pack(rt, name, path)
+}
+
+/// The first of these packs with a checksum.
+pub fn kept_with<'k>(packs: &'k [KeptPack], sum: &str) -> Option<&'k KeptPack> {
+    packs.iter().find(|pack| pack.sum.as_str() == sum)
+}

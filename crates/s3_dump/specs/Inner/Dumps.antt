@@ -1,0 +1,103 @@
+-- Dumps: texts that stand for bytes. A line is empty, a note, a run of zeros or codes. It stands for no bytes, for so many zeros, or for the
+-- codes. The bytes of a dump are those of its lines, one line after another.
+use Rattle.std.specs.Prelude.{◌≡◌, ℕ, ◌+◌, ◌-◌, ◌*◌, ◌==◌, ◌&&◌, nat_le, nat_lt, Bool, true, false, List, [], ◌∷◌, ◌++◌, replicate, Option, Some, None, ⊤, if◌then◌else◌}
+use Rattle.std.specs.List.{fold}
+use Rattle.s3_cards.specs.Codes.{ebcdic_of}
+use Rattle.s3_dump.specs.declared.fault.RestoreFault.{RestoreFault}
+use Rattle.s3_dump.specs.declared.fault.RestoreFault.TheVariants.{NoDump, NoMemory}
+use Rattle.s3_dump.specs.declared.reading.Mode.{Mode}
+use Rattle.s3_dump.specs.declared.reading.Mode.TheVariants.{Start, Note, Zeros, Codes, High, Low, End}
+
+abbrev pub line_end : ℕ
+line_end = 10
+
+-- the value of a hexadecimal digit, 0 to 9 and A to F
+abbrev pub hex_value : ℕ → Option ℕ
+hex_value c =
+    if nat_le 48 c && nat_le c 57 then Some (c - 48)
+    else (if nat_le 65 c && nat_le c 70 then Some (c - 55) else None)
+
+-- the longest run of zeros
+abbrev pub most_zeros : ℕ
+most_zeros = 99999999
+
+-- what is read of a dump: what the next character belongs to, and the bytes of the lines before
+pub record State : Type 0 where
+  pub mode : Mode
+  pub bytes : List ℕ
+
+abbrev pub begun : State
+begun = record { mode = Start; bytes = [] }
+
+abbrev pub at_start : ℕ → List ℕ → Option State
+at_start c bytes =
+    if c == line_end then Some (record { mode = Start; bytes = bytes })
+    else (if c == 35 then Some (record { mode = Note; bytes = bytes })
+    else (if c == 91 then Some (record { mode = Codes; bytes = bytes })
+    else (if c == 42 then Some (record { mode = Zeros 0; bytes = bytes }) else None)))
+
+abbrev pub in_note : ℕ → List ℕ → Option State
+in_note c bytes = if c == line_end then Some (record { mode = Start; bytes = bytes }) else Some (record { mode = Note; bytes = bytes })
+
+abbrev pub in_zeros : ℕ → ℕ → List ℕ → Option State
+in_zeros count c bytes =
+    if c == line_end then Some (record { mode = Start; bytes = bytes ++ replicate count 0 })
+    else (if nat_le 48 c && nat_le c 57 && nat_le count most_zeros && nat_le (count * 10 + (c - 48)) most_zeros then Some (record { mode = Zeros (count * 10 + (c - 48)); bytes = bytes }) else None)
+
+abbrev pub with_code : Option ℕ → List ℕ → Option State
+with_code (Some code) bytes = Some (record { mode = Codes; bytes = bytes ++ code ∷ [] })
+with_code None bytes = None
+
+abbrev pub in_codes : ℕ → List ℕ → Option State
+in_codes c bytes =
+    if c == 93 then Some (record { mode = End; bytes = bytes })
+    else (if c == 92 then Some (record { mode = High; bytes = bytes }) else with_code (ebcdic_of c) bytes)
+
+abbrev pub with_high : Option ℕ → List ℕ → Option State
+with_high (Some high) bytes = Some (record { mode = Low high; bytes = bytes })
+with_high None bytes = None
+
+abbrev pub with_low : ℕ → Option ℕ → List ℕ → Option State
+with_low high (Some low) bytes = if nat_lt high 16 then Some (record { mode = Codes; bytes = bytes ++ (high * 16 + low) ∷ [] }) else None
+with_low high None bytes = None
+
+abbrev pub at_end : ℕ → List ℕ → Option State
+at_end c bytes = if c == line_end then Some (record { mode = Start; bytes = bytes }) else None
+
+-- one character more: # begins a note, * a number of zeros in decimal digits, and [ codes, up to ]. Among codes a card character is its
+-- code, and \ and two hexadecimal digits are a byte.
+abbrev pub step_by : Mode → ℕ → List ℕ → Option State
+step_by Start c bytes = at_start c bytes
+step_by Note c bytes = in_note c bytes
+step_by (Zeros count) c bytes = in_zeros count c bytes
+step_by Codes c bytes = in_codes c bytes
+step_by High c bytes = with_high (hex_value c) bytes
+step_by (Low high) c bytes = with_low high (hex_value c) bytes
+step_by End c bytes = at_end c bytes
+
+abbrev pub step : Option State → ℕ → Option State
+step None c = None
+step (Some state) c = step_by state.mode c state.bytes
+
+-- a dump ends with a whole line
+abbrev pub is_start : Mode → Bool
+is_start Start = true
+is_start Note = false
+is_start (Zeros count) = false
+is_start Codes = false
+is_start High = false
+is_start (Low high) = false
+is_start End = false
+
+abbrev pub whole : Option State → Option (List ℕ)
+whole None = None
+whole (Some state) = if is_start state.mode then Some state.bytes else None
+
+-- the bytes that a dump stands for; none if the text is no dump
+abbrev pub restored : List ℕ → Option (List ℕ)
+restored text = whole (fold step (Some begun) text)
+
+-- a text isn't restored: it stands for no bytes, or memory was refused
+abbrev pub IsRestoreFault : List ℕ → RestoreFault → Type 0
+IsRestoreFault text (NoDump line) = restored text ≡ None
+IsRestoreFault text NoMemory = ⊤

@@ -1,0 +1,194 @@
+//! Dumps read: the bytes that a text stands for.
+ghost use Rattle.std.specs.Prelude.{◌≡◌, ◌<◌, ℕ, List, Some, None, IfOk, IfErr, IfSome, IfNone};
+ghost use Rattle.s3_dump.specs.Inner.Dumps.{IsRestoreFault, hex_value as hex_value_spec, is_start as is_start_spec, restored, step_by};
+
+use crate::fault::RestoreFault;
+use s3_cards::code_of_byte;
+use std::alloc::{AllocError, Global};
+
+/// The longest run of zeros of one line.
+pub const MOST_ZEROS: u64 = 99_999_999;
+
+/// What the next character of a dump belongs to.
+#[derive(Clone, Copy)]
+pub enum Mode {
+    /// It is the first of a line.
+    Start,
+    /// It belongs to a note.
+    Note,
+    /// It belongs to a number of zeros, which is this so far.
+    Zeros(u64),
+    /// It is the next among codes.
+    Codes,
+    /// It is the first hexadecimal digit of a byte.
+    High,
+    /// It is the second hexadecimal digit of a byte, after one of this value.
+    Low(u8),
+    /// It is the end of a line of codes.
+    End,
+}
+
+/// The bytes that a dump stands for. Refused with `NoDump` if the text stands for none.
+#[tactic(auto, using(crate::proofs::DumpLemmas::one_more_read, crate::proofs::DumpLemmas::whole_read, crate::proofs::DumpLemmas::refused_here, crate::proofs::DumpLemmas::not_whole))]
+pub fn restore(alloc: Global, text: &[u8]) -> Result<Vec<u8>, RestoreFault>
+    ensures bytes { IfOk result (λ bytes. restored text.now ≡ Some bytes.items) }
+    ensures refused { IfErr result (IsRestoreFault text.now) }
+{
+    let mut bytes = Vec::new(alloc);
+    let mut mode = Mode::Start;
+    let mut line = 1u64;
+    for character in text {
+        match read(alloc, mode, *character, &mut bytes)? {
+            Some(next) => mode = next,
+            None => return Err(RestoreFault::NoDump(line)),
+        }
+        line = line_after(line, *character);
+    }
+    if is_start(mode) {
+        Ok(bytes)
+    } else {
+        Err(RestoreFault::NoDump(line))
+    }
+}
+
+/// Whether the next character is the first of a line.
+fn is_start(mode: Mode) -> bool
+    ensures { result ≡ is_start_spec mode }
+{
+    matches!(mode, Mode::Start)
+}
+
+/// The line of the next character.
+fn line_after(line: u64, character: u8) -> u64 {
+    if character == b'\n' {
+        line.saturating_add(1)
+    } else {
+        line
+    }
+}
+
+/// Reads a character, and adds the bytes that it ends. Returns what the next one belongs to; none if no dump has the character there.
+fn read(
+    alloc: Global,
+    mode: Mode,
+    character: u8,
+    bytes: &mut Vec<u8>,
+) -> Result<Option<Mode>, AllocError>
+    ensures next { IfOk result (λ next. IfSome next (λ next. step_by mode character bytes.old.items ≡ Some (record { mode = next; bytes = bytes.new.items }))) }
+    ensures none { IfOk result (λ next. IfNone next (step_by mode character bytes.old.items ≡ None)) }
+{
+    match mode {
+        Mode::Start => Ok(begun_by(character)),
+        Mode::Note => Ok(Some(if character == b'\n' {
+            Mode::Start
+        } else {
+            Mode::Note
+        })),
+        Mode::Zeros(count) => read_zeros(alloc, count, character, bytes),
+        Mode::Codes => read_code(character, bytes),
+        Mode::High => Ok(high_of(character)),
+        Mode::Low(high) => read_low(high, character, bytes),
+        Mode::End => Ok(if character == b'\n' {
+            Some(Mode::Start)
+        } else {
+            None
+        }),
+    }
+}
+
+/// What a line is that begins with a character.
+fn begun_by(character: u8) -> Option<Mode>
+    ensures next { (bytes : List ℕ) → IfSome result (λ next. step_by Mode.Start character bytes ≡ Some (record { mode = next; bytes = bytes })) }
+    ensures none { (bytes : List ℕ) → IfNone result (step_by Mode.Start character bytes ≡ None) }
+{
+    match character {
+        b'\n' => Some(Mode::Start),
+        b'#' => Some(Mode::Note),
+        b'[' => Some(Mode::Codes),
+        b'*' => Some(Mode::Zeros(0)),
+        _ => None,
+    }
+}
+
+/// Reads a character of a number of zeros.
+fn read_zeros(
+    alloc: Global,
+    count: u64,
+    character: u8,
+    bytes: &mut Vec<u8>,
+) -> Result<Option<Mode>, AllocError>
+    ensures next { IfOk result (λ next. IfSome next (λ next. step_by (Mode.Zeros count) character bytes.old.items ≡ Some (record { mode = next; bytes = bytes.new.items }))) }
+    ensures none { IfOk result (λ next. IfNone next (step_by (Mode.Zeros count) character bytes.old.items ≡ None)) }
+{
+    if character == b'\n' {
+        let zeros = vec![in alloc; 0u8; count as usize]?;
+        bytes.extend_from_slice(&zeros)?;
+        return Ok(Some(Mode::Start));
+    }
+    if !character.is_ascii_digit() || count > MOST_ZEROS {
+        return Ok(None);
+    }
+    let more = count * 10 + u64::from(character - b'0');
+    Ok(if more <= MOST_ZEROS {
+        Some(Mode::Zeros(more))
+    } else {
+        None
+    })
+}
+
+/// Reads a character among codes.
+fn read_code(character: u8, bytes: &mut Vec<u8>) -> Result<Option<Mode>, AllocError>
+    ensures next { IfOk result (λ next. IfSome next (λ next. step_by Mode.Codes character bytes.old.items ≡ Some (record { mode = next; bytes = bytes.new.items }))) }
+    ensures none { IfOk result (λ next. IfNone next (step_by Mode.Codes character bytes.old.items ≡ None)) }
+{
+    if character == b']' {
+        return Ok(Some(Mode::End));
+    }
+    if character == b'\\' {
+        return Ok(Some(Mode::High));
+    }
+    match code_of_byte(character) {
+        Some(code) => {
+            bytes.push(code)?;
+            Ok(Some(Mode::Codes))
+        }
+        None => Ok(None),
+    }
+}
+
+/// Reads the first digit of a byte.
+fn high_of(character: u8) -> Option<Mode>
+    ensures next { (bytes : List ℕ) → IfSome result (λ next. step_by Mode.High character bytes ≡ Some (record { mode = next; bytes = bytes })) }
+    ensures none { (bytes : List ℕ) → IfNone result (step_by Mode.High character bytes ≡ None) }
+{
+    match hex_value(character) {
+        Some(high) => Some(Mode::Low(high)),
+        None => None,
+    }
+}
+
+/// Reads the second digit of a byte.
+fn read_low(high: u8, character: u8, bytes: &mut Vec<u8>) -> Result<Option<Mode>, AllocError>
+    ensures next { IfOk result (λ next. IfSome next (λ next. step_by (Mode.Low high) character bytes.old.items ≡ Some (record { mode = next; bytes = bytes.new.items }))) }
+    ensures none { IfOk result (λ next. IfNone next (step_by (Mode.Low high) character bytes.old.items ≡ None)) }
+{
+    match hex_value(character) {
+        Some(low) if high < 16 => {
+            bytes.push(high * 16 + low)?;
+            Ok(Some(Mode::Codes))
+        }
+        _ => Ok(None),
+    }
+}
+
+/// The value of a hexadecimal digit.
+fn hex_value(character: u8) -> Option<u8>
+    ensures value { result ≡ hex_value_spec character }
+    ensures small { IfSome result (λ value. value < 16) }
+{
+    match character {
+        b'0'..=b'9' => Some(character - b'0'),
+        b'A'..=b'F' => Some(character - b'A' + 10),
+        _ => None,
+    }
+}

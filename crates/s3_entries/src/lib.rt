@@ -1,0 +1,21 @@
+//! The entries of the sheets: for each kind of card its entries, with their columns, the names that IBM's sheets print, and what may be
+//! in them. `bureau entries` lists them, and the editors' files are made from that list.
+//!
+//! What is proved: `entries_of` gives for each kind of card the columns of `specs/Inner/Spans.antt`, in ascending order. `s3_tests` has
+//! the proof that these are the columns that the sheets are read by, that tabs go to, and that diagnostics of entries mark. The names
+//! and the allowed values are tested.
+
+#![tactic(auto)]
+
+mod calculation;
+mod entry;
+mod file;
+mod form;
+mod header;
+mod input;
+mod output;
+mod tables;
+
+pub use entry::Entry;
+pub use form::CardForm;
+pub use tables::entries_of;

@@ -1,0 +1,53 @@
+//! A journal that is read.
+
+use crate::refusal::JournalRefusal;
+use s3_host_files::read_within;
+use s3_journal::{JournalFault, PostedDay, read_lines};
+use s3_refusals::Shown;
+use std::io::Write;
+
+/// The most bytes of a journal that is read.
+const JOURNAL_LIMIT: usize = 268_435_456;
+
+/// A journal that is read.
+#[derive(Drop)]
+pub struct Journal {
+    /// The days, the last one first.
+    pub days: Vec<PostedDay>,
+    /// The last line.
+    pub(crate) last: String,
+    /// How many bytes the lines have.
+    pub(crate) bytes: u64,
+}
+
+/// The lines of a journal. What is wrong with them is reported.
+pub fn read_journal<'a>(rt: &HostRuntime, name: &'a str) -> Result<Journal, JournalRefusal<'a>> {
+    let bytes = match read_within(rt, name, JOURNAL_LIMIT) {
+        Ok(bytes) => bytes,
+        Err(error) => return Err(JournalRefusal::of(&error, name)),
+    };
+    let Ok(text) = str::from_utf8(&bytes) else {
+        let name = Shown(name);
+        let _ = writeln!(
+            rt.stderr(),
+            "{name} is no journal, for it isn't text in UTF-8; give the file that --journal wrote, or a new name"
+        );
+        return Err(JournalRefusal::Malformed);
+    };
+    match read_lines(rt.alloc(), text) {
+        Ok(lines) => Ok(Journal {
+            days: lines.days,
+            last: String::from_str(rt.alloc(), lines.last)?,
+            bytes: lines.bytes as u64,
+        }),
+        Err(JournalFault::NoMemory) => Err(JournalRefusal::NoMemory),
+        Err(fault) => {
+            let name = Shown(name);
+            let _ = writeln!(
+                rt.stderr(),
+                "{name}: {fault}; restore the journal from a copy, or give --journal a new name"
+            );
+            Err(JournalRefusal::Malformed)
+        }
+    }
+}

@@ -1,0 +1,74 @@
+//! What is reported before a refusal: the line of the journal that is the reason, and what to do.
+
+use crate::file::GivenPack;
+use s3_journal::{PostedDay, Posting, day_with, posted_day};
+use s3_refusals::{Reason, Shown};
+use std::io;
+use std::io::Write;
+
+/// Reports that the pack is an old copy.
+pub(crate) fn report_old(
+    rt: &HostRuntime,
+    journal: &str,
+    days: &[PostedDay],
+    pack: GivenPack<'_, '_>,
+) {
+    if let (Some(day), Some(last)) = (day_with(days, pack.sum), days.first()) {
+        let (pack, journal) = (Shown(pack.name), Shown(journal));
+        let (number, at, last) = (day.number, day.at.as_str(), last.number);
+        let _ = writeln!(
+            rt.stderr(),
+            "{pack} is an old copy: {journal} has it at day {number}, {at}, and its last day is {last}; give the pack that day {last} left, or --again to begin from the old copy"
+        );
+    }
+}
+
+/// Reports that something else changed the pack.
+pub(crate) fn report_unknown(
+    rt: &HostRuntime,
+    journal: &str,
+    days: &[PostedDay],
+    pack: GivenPack<'_, '_>,
+) {
+    if let Some(last) = days.first() {
+        let (pack, journal) = (Shown(pack.name), Shown(journal));
+        let (number, at) = (last.number, last.at.as_str());
+        let _ = writeln!(
+            rt.stderr(),
+            "{pack} isn't the pack that day {number} left, {at}, and no other line of {journal} has it: something else changed it, or it is another pack; check both names, or give --again to begin from this pack"
+        );
+    }
+}
+
+/// Reports that what a command posts is posted, and what to do.
+pub(crate) fn report_posted(
+    rt: &HostRuntime,
+    days: &[PostedDay],
+    pack: GivenPack<'_, '_>,
+    posting: Posting<'_>,
+    cure: &str,
+) {
+    let Some(day) = posted_day(days, pack.sum, posting) else {
+        return;
+    };
+    let (number, at) = (day.number, day.at.as_str());
+    let _ = match posting {
+        Posting::Table { file, .. } => {
+            let file = Shown(file);
+            writeln!(
+                rt.stderr(),
+                "this table was added to {file} {at} as day {number}; {cure}"
+            )
+        }
+        _ => writeln!(
+            rt.stderr(),
+            "these decks were posted {at} as day {number}; {cure}"
+        ),
+    };
+}
+
+/// Reports why a journal didn't get its line.
+pub(crate) fn report_unwritten(rt: &HostRuntime, journal: &str, error: &io::Error) {
+    let (journal, reason) = (Shown(journal), Reason(*error));
+    let _ = writeln!(rt.stderr(), "{journal} can't be written: {reason}");
+}

@@ -1,0 +1,119 @@
+//! Completions for fish.
+
+use crate::draft::Draft;
+use crate::taken::{is_following, shown};
+use s3_command_line::commands;
+use s3_paper_commands::words::{Choice, CommandWords, Word};
+use std::alloc::{AllocError, Global};
+
+/// The script with which fish completes.
+pub fn fish_script(alloc: Global) -> Result<String, AllocError> {
+    let commands = commands();
+    let mut draft = Draft::new(alloc);
+    draft.put(START);
+    for command in &commands {
+        put_name(&mut draft, command);
+    }
+    draft.put("complete -c bureau -n '__fish_seen_subcommand_from help' -a '");
+    for command in &commands {
+        draft.put(command.name);
+        draft.put(" ");
+    }
+    draft.put("man completions'\n");
+    for command in &commands {
+        put_command(&mut draft, command);
+    }
+    draft.finish()
+}
+
+/// Appends a command with what it does.
+fn put_name(draft: &mut Draft, command: &CommandWords) {
+    draft.put("complete -c bureau -n __fish_use_subcommand -a ");
+    draft.put(command.name);
+    put_description(draft, command.about);
+}
+
+/// Appends what completes the words of a command.
+fn put_command(draft: &mut Draft, command: &CommandWords) {
+    for word in command.words {
+        put_word(draft, command.name, word);
+    }
+    put_start(draft, command.name);
+    draft.put(" -s h -l help -d 'Print help'\n");
+}
+
+/// Appends the beginning of a line that holds after a command.
+fn put_start(draft: &mut Draft, command: &str) {
+    draft.put("complete -c bureau -n '__fish_seen_subcommand_from ");
+    draft.put(command);
+    draft.put("'");
+}
+
+/// Appends what completes a word and its value.
+fn put_word(draft: &mut Draft, command: &str, word: &Word) {
+    put_start(draft, command);
+    if is_following(word.takes) {
+        draft.put(" -F\n");
+        return;
+    }
+    draft.put(" -l ");
+    draft.put(word.name);
+    put_value(draft, word);
+    put_description(draft, word.help);
+}
+
+/// Appends what completes the value of a word, if it takes one.
+fn put_value(draft: &mut Draft, word: &Word) {
+    if shown(word.takes).is_none() {
+        return;
+    }
+    if word.takes.is_file() {
+        draft.put(" -r -F");
+        return;
+    }
+    draft.put(" -x");
+    if let Some(choices) = word.takes.choices() {
+        put_choices(draft, choices);
+    }
+}
+
+fn put_choices(draft: &mut Draft, choices: &[Choice]) {
+    draft.put(" -a \"");
+    let mut before = "";
+    for choice in choices {
+        draft.put(before);
+        draft.put(choice.name);
+        draft.put("\\t'");
+        put_text(draft, choice.help);
+        draft.put("'");
+        before = "\\n";
+    }
+    draft.put("\"");
+}
+
+/// Appends the end of a line: a description.
+fn put_description(draft: &mut Draft, text: &str) {
+    draft.put(" -d '");
+    put_text(draft, text);
+    draft.put("'\n");
+}
+
+/// Appends a text as a part of a description in apostrophes.
+fn put_text(draft: &mut Draft, text: &str) {
+    for character in text.chars() {
+        if matches!(character, '\'' | '\\') {
+            draft.put("\\");
+        }
+        draft.put_char(character);
+    }
+}
+
+/// What comes before the commands.
+const START: &str =
+    "# Completions of bureau for fish. `bureau help completions fish` writes this file; fish reads it as bureau.fish.
+complete -c bureau -f
+complete -c bureau -n __fish_use_subcommand -s h -l help -d 'Print help'
+complete -c bureau -n __fish_use_subcommand -s V -l version -d 'Print version'
+complete -c bureau -n __fish_use_subcommand -a help -d 'Prints help, a page of the manual, or completions'
+complete -c bureau -n '__fish_seen_subcommand_from completions' -a 'bash zsh fish'
+";

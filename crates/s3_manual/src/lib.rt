@@ -1,0 +1,19 @@
+//! The manual of `bureau`, made of the table of its commands: the pages for `man`, what `--help` prints after the options, and
+//! completions for bash, zsh and fish.
+//!
+//! What is proved: each call is safe and returns. The texts are tested: `man` formats the pages, and bash completes.
+
+#![tactic(auto)]
+
+mod bash;
+mod draft;
+mod fish;
+mod manual;
+mod notes;
+mod pages;
+mod roff;
+mod taken;
+mod zsh;
+
+pub use manual::{Manual, is_manual, manual_of, manual_parser};
+pub use notes::help_notes;

@@ -1,0 +1,309 @@
+//! `bureau amend`: fields of one record of a file changed.
+ghost use Rattle.std.specs.Prelude.{◌≤◌, ◌<◌, IfOk};
+
+use crate::amend_sentences::mistake_sentence;
+use crate::shown_record::push_record;
+use clap::ArgMatches;
+use s3_amend::{AmendFault, Amended, AmendedRecord, Amendment, Mistake, Setting, Which, amend};
+use s3_cards::Name;
+use s3_data_commands::cells::{Reading, with_cells};
+use s3_data_commands::fault::Fault;
+use s3_data_commands::filled::Words;
+use s3_data_commands::inputs::layout_of;
+use s3_data_commands::journaling::journal_for;
+use s3_data_commands::pack_words::{
+    Save, area_number, keep_input, label_of, label_words, mount_words, pack_to_change, refused,
+    saved, tell_done, wrong_words,
+};
+use s3_data_commands::sentences::output_sentence;
+use s3_data_commands::words::{
+    AGAIN, AREA, DATE_FIELDS, DECIMAL, JOURNAL, LABEL, LAYOUT, LAYOUT_FILE, LAYOUT_TYPE,
+    LEVEL_ALIAS, OVERWRITE, PACK, SAVE,
+};
+use s3_host_files::StandardOutput;
+use s3_journal::{Posting, Work};
+use s3_layout::SourceLayout;
+use s3_paper_commands::status::{DONE, FILE_WRONG, NOTHING_SAVED, OPTIONS_WRONG, PACK_SAVED};
+use s3_paper_commands::words::{CommandWords, Example, Takes, Word, value_of};
+use s3_refusals::Shown;
+use std::alloc::{AllocError, Global};
+use std::io::Write;
+
+/// `bureau amend` and its options.
+pub const AMEND: CommandWords = CommandWords {
+    name: "amend",
+    about: "Changes fields of one record of a file, and prints the record before and after",
+    aliases: &[LEVEL_ALIAS],
+    statuses: &[PACK_SAVED, NOTHING_SAVED, OPTIONS_WRONG, FILE_WRONG],
+    examples: &[Example {
+        line: "bureau amend --pack shop.pack --save shop.pack --area 1 --label CUSTOM --layout custom.rpg --key 10042 DUE=0",
+        purpose: "Corrects a field of the record with a key",
+    }],
+    words: &[
+        PACK,
+        SAVE,
+        AREA,
+        LABEL,
+        Word {
+            takes: Takes::Needed("FILE"),
+            ..LAYOUT
+        },
+        LAYOUT_FILE,
+        Word {
+            help: "The type of the record, if the file has several",
+            ..LAYOUT_TYPE
+        },
+        Word {
+            name: "key",
+            takes: Takes::Value("KEY"),
+            help: "The key of the record",
+        },
+        Word {
+            name: "record",
+            takes: Takes::U32("N"),
+            help: "The number of the record in the file, from 1; instead of --key",
+        },
+        DECIMAL,
+        Word {
+            name: "thousands",
+            takes: Takes::Value("C"),
+            help: "The mark that a number may have between thousands: . or , or a blank or an apostrophe",
+        },
+        Word {
+            name: "capitals",
+            takes: Takes::Nothing,
+            help: "Takes small letters in texts as capitals",
+        },
+        DATE_FIELDS,
+        OVERWRITE,
+        JOURNAL,
+        AGAIN,
+        Word {
+            name: "values",
+            takes: Takes::Following("FIELD=VALUE"),
+            help: "A field of the layout, and its new value as `load` takes it",
+        },
+    ],
+};
+
+/// Does what the options of `bureau amend` ask, and gives the exit status: 0 if it is done, else that of the refusal, whose sentences it
+/// wrote on standard error. A refusal changes no pack, except for one of standard output, which is written after the pack is saved.
+pub fn amend_file(rt: &HostRuntime, matches: &ArgMatches<'_>) -> u8
+    ensures { result ≤ 4 }
+{
+    match amend_record(rt, matches) {
+        Ok(()) => DONE,
+        Err(fault) => fault.tell(&mut rt.stderr()),
+    }
+}
+
+/// What the options ask for, except for the layout and the values.
+#[derive(Clone, Copy)]
+struct Asked<'a> {
+    path: &'a str,
+    save: &'a str,
+    /// 0 for the masters, 1 or 2 for a level.
+    area: u16,
+    label: &'a str,
+    name: Name,
+    /// The deck that has the layout.
+    source: &'a str,
+    which: Which<'a>,
+    /// The text of the key, if one is given.
+    key: &'a str,
+    /// Whether a comma is before the decimals.
+    has_comma: bool,
+}
+
+impl<'a> Asked<'a> {
+    /// What the options ask for.
+    fn read(rt: &HostRuntime, matches: &ArgMatches<'a>) -> Result<Asked<'a>, Fault>
+        ensures { IfOk result (λ asked. asked.area < 3) }
+    {
+        let area = area_number(rt, value_of(matches, "area"))?;
+        let label = value_of(matches, "label");
+        let name = label_of(rt, label)?;
+        let which = which_of(rt, matches)?;
+        Ok(Asked {
+            path: value_of(matches, "pack"),
+            save: value_of(matches, "save"),
+            area,
+            label,
+            name,
+            source: value_of(matches, "layout"),
+            which,
+            key: value_of(matches, "key"),
+            has_comma: matches.get_str("decimal") == Some(","),
+        })
+    }
+}
+
+/// The record of --key or --record.
+fn which_of<'a>(rt: &HostRuntime, matches: &ArgMatches<'a>) -> Result<Which<'a>, Fault> {
+    match (matches.get_str("key"), matches.get_one::<u32>("record")) {
+        (Some(key), None) => Ok(Which::Key(key.as_bytes())),
+        (None, Some(number)) => Ok(Which::Number(number)),
+        _ => Err(wrong_words(
+            rt.alloc(),
+            "the record is that of --key or of --record; give one of them",
+        )),
+    }
+}
+
+/// The fields and values that the arguments give.
+fn settings_of<'a>(rt: &HostRuntime, matches: &ArgMatches<'a>) -> Result<Vec<Setting<'a>>, Fault> {
+    let mut settings = Vec::new(rt.alloc());
+    for text in matches.get_strs("values").unwrap_or(&[]) {
+        match (*text).split_once("=") {
+            Some((name, value)) => settings.push(Setting {
+                name: name.as_bytes(),
+                value: value.as_bytes(),
+            })?,
+            None => return Err(no_setting(rt.alloc(), *text)),
+        }
+    }
+    Ok(settings)
+}
+
+/// That an argument has no value.
+fn no_setting(alloc: Global, text: &str) -> Fault {
+    let text = Shown(text);
+    match format!(in alloc;
+        "{text} has no = before a value; give each field with its value, as NAME='SMITH, J'"
+    ) {
+        Ok(sentence) => Fault::Usage(sentence),
+        Err(_) => Fault::NoMemory,
+    }
+}
+
+fn amend_record(rt: &HostRuntime, matches: &ArgMatches<'_>) -> Result<(), Fault> {
+    let asked = Asked::read(rt, matches)?;
+    let settings = settings_of(rt, matches)?;
+    let layout = amended_layout(rt, matches, asked.source)?;
+    let (pack, locked) = pack_to_change(rt, matches, asked.path, asked.save)?;
+    keep_input(rt, asked.save, asked.source)?;
+    let journal = journal_for(rt, matches, asked.path, &pack, Posting::Nothing)?;
+    let Amended { pack, changed } = amended(rt, &asked, &layout, &settings, pack)?;
+    let save = Save {
+        locked,
+        journal,
+        work: Work::Amend,
+    };
+    let saved = saved(rt, matches, asked.save, save, &pack)?;
+    tell_done(rt, done_sentence(rt.alloc(), &asked, &changed), saved)?;
+    print_record(rt, &layout, &changed)
+}
+
+/// The layout of the deck, with the cells that the options ask for.
+fn amended_layout(
+    rt: &HostRuntime,
+    matches: &ArgMatches<'_>,
+    source: &str,
+) -> Result<SourceLayout, Fault> {
+    let reading = Reading {
+        capitals: matches.get_flag("capitals"),
+        thousands: matches.get_str("thousands"),
+    };
+    let layout = layout_of(rt, matches, source)?;
+    with_cells(rt, matches, source, layout, reading)
+}
+
+/// The pack with the record amended.
+fn amended(
+    rt: &HostRuntime,
+    asked: &Asked<'_>,
+    layout: &SourceLayout,
+    settings: &[Setting<'_>],
+    pack: Vec<u8>,
+) -> Result<Amended, Fault>
+    requires { asked.now.area < 3 }
+{
+    let amendment = Amendment {
+        area: asked.area,
+        name: asked.name,
+        layout: &layout.layout,
+        chosen: &layout.records,
+        which: asked.which,
+        settings,
+    };
+    match amend(rt.alloc(), pack, &amendment) {
+        Ok(amended) => Ok(amended),
+        Err(fault) => Err(fault_of(rt, asked, &fault)),
+    }
+}
+
+/// What a refusal is to the command. Mistakes are reported before it, a line each.
+fn fault_of(rt: &HostRuntime, asked: &Asked<'_>, fault: &AmendFault) -> Fault {
+    let words = Words::of_file(asked.path, asked.area, asked.label);
+    match fault {
+        AmendFault::NoMemory => Fault::NoMemory,
+        AmendFault::Mount(fault) => refused(words.fill(rt.alloc(), mount_words(*fault))),
+        AmendFault::Label(fault) => refused(words.fill(rt.alloc(), label_words(*fault))),
+        AmendFault::OtherLength(length) => refused(
+            words.with_number(u64::from(*length)).fill(
+                rt.alloc(),
+                "the records of {label} in area {area} of {path} have {number} bytes, and the layout's records have another length; give the source of a program that uses this file",
+            ),
+        ),
+        AmendFault::Mistakes(mistakes) => refuse_mistakes(rt, asked, mistakes),
+    }
+}
+
+/// Reports mistakes, a line each.
+fn refuse_mistakes(rt: &HostRuntime, asked: &Asked<'_>, mistakes: &[Mistake]) -> Fault {
+    for mistake in mistakes {
+        match mistake_sentence(rt.alloc(), mistake, asked.key, asked.has_comma) {
+            Ok(sentence) => {
+                let sentence = sentence.as_str();
+                let _ = writeln!(rt.stderr(), "{sentence}");
+            }
+            Err(_) => return Fault::NoMemory,
+        }
+    }
+    let count = mistakes.len() as u64;
+    let sentence = if count == 1 {
+        "the amendment has 1 error; nothing is changed"
+    } else {
+        "the amendment has {number} errors; nothing is changed"
+    };
+    refused(
+        Words::of_path("")
+            .with_number(count)
+            .fill(rt.alloc(), sentence),
+    )
+}
+
+/// Which record was amended.
+fn done_sentence(
+    alloc: Global,
+    asked: &Asked<'_>,
+    record: &AmendedRecord,
+) -> Result<String, AllocError> {
+    let number = u64::from(record.place) + 1;
+    Words::of_file(asked.save, asked.area, asked.label)
+        .with_number(number)
+        .fill(
+            alloc,
+            "record {number} of {label} in area {area} of {path} is amended",
+        )
+}
+
+/// Prints the record on standard output: a line for each field, with its value, or the one before and the one after.
+fn print_record(
+    rt: &HostRuntime,
+    layout: &SourceLayout,
+    record: &AmendedRecord,
+) -> Result<(), Fault> {
+    let mut text = Vec::new(rt.alloc());
+    push_record(
+        rt.alloc(),
+        &mut text,
+        &layout.layout,
+        &record.before,
+        &record.after,
+    )?;
+    match StandardOutput::new(rt).write_all(text.as_slice()) {
+        Ok(()) => Ok(()),
+        Err(_) => Err(Fault::File(output_sentence(rt.alloc())?)),
+    }
+}

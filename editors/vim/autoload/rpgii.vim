@@ -1,0 +1,127 @@
+" What the cards of an RPG II source have in which columns. The table is in rpgii_entries.vim, which `tools/editors` writes.
+
+" Whether lines are those of a source or of a deck that begins with one: between its statements, each line that isn't blank is a card of a
+" sheet, and there are two at least.
+function! rpgii#IsSource(lines) abort
+  let l:cards = 0
+  for l:line in a:lines
+    if l:line =~# '^/[*&]'
+      break
+    elseif l:line =~# '^//' || l:line =~# '^[#%]' || l:line =~# '^\s*$'
+      continue
+    elseif l:line !~? '^\%([ 0-9]\{5}\|\t\)[HFICO]'
+      return 0
+    endif
+    let l:cards += 1
+  endfor
+  return l:cards > 1
+endfunction
+
+" A line as its card has it: capitals, and tabs as blanks.
+function! rpgii#Card(line) abort
+  let l:card = ""
+  for l:character in split(toupper(a:line), '\zs')
+    if l:character ==# "\t"
+      let l:card .= repeat(" ", s:UpToStop(l:card))
+    else
+      let l:card .= l:character
+    endif
+  endfor
+  return l:card
+endfunction
+
+" How many blanks a tab after a card fills.
+function! s:UpToStop(card) abort
+  let l:width = strchars(a:card)
+  if a:card =~# '^//'
+    return 8 - l:width % 8
+  endif
+  let l:stops = l:width < 5 ? [6] : get(g:rpgii_entries#stops, strcharpart(a:card, 5, 1), [])
+  for l:stop in l:stops
+    if l:stop > l:width + 1
+      return l:stop - 1 - l:width
+    endif
+  endfor
+  return empty(l:stops) ? 8 - l:width % 8 : 1
+endfunction
+
+" Which kind of card a card is, as `C card` or `I field`; empty for a statement, a comment and data.
+function! rpgii#Kind(card) abort
+  let l:sheet = strcharpart(a:card, 5, 1)
+  if a:card =~# '^[/#%]' || strcharpart(a:card, 6, 1) ==# "*" || l:sheet !~# '^[HFICO]$'
+    return ""
+  elseif l:sheet =~# '[HFC]'
+    return l:sheet . " card"
+  elseif strcharpart(a:card, 6, 10) =~# '^ \{7}\%(AND\|OR\)'
+    return l:sheet . " group"
+  elseif strcharpart(a:card, 6, l:sheet ==# "I" ? 8 : 9) =~# '\S'
+    return l:sheet . " record"
+  endif
+  return l:sheet . " field"
+endfunction
+
+" The entry of a column of a card; empty if it has none. If two entries share the column, it is the one whose values the card has, or the
+" later one.
+function! rpgii#EntryAt(card, column) abort
+  let l:found = {}
+  for l:entry in get(g:rpgii_entries#cards, rpgii#Kind(a:card), [])
+    if l:entry.from <= a:column && a:column <= l:entry.to
+      let l:found = l:entry
+      if index(l:entry.values, trim(strcharpart(a:card, l:entry.from - 1, l:entry.to - l:entry.from + 1))) >= 0
+        return l:entry
+      endif
+    endif
+  endfor
+  return l:found
+endfunction
+
+" The column of the card at the cursor.
+function! s:Column() abort
+  return strchars(rpgii#Card(strpart(getline("."), 0, col(".") - 1))) + 1
+endfunction
+
+" The sheet, the columns and the name of the entry at the cursor, as `C 28-32 operation`.
+function! rpgii#Ruler() abort
+  let l:card = rpgii#Card(getline("."))
+  let l:entry = rpgii#EntryAt(l:card, s:Column())
+  if empty(l:entry)
+    return ""
+  endif
+  let l:columns = l:entry.from == l:entry.to ? l:entry.from : l:entry.from . "-" . l:entry.to
+  return strcharpart(l:card, 5, 1) . " " . l:columns . " " . l:entry.name
+endfunction
+
+" The blanks up to the next entry of the sheet; of a line that is no card, up to every eighth column.
+function! rpgii#Tab() abort
+  return repeat(" ", s:UpToStop(rpgii#Card(strpart(getline("."), 0, col(".") - 1))))
+endfunction
+
+" Shows the tabs of the file as the sheet of the line at the cursor has them.
+function! rpgii#SetStops() abort
+  let l:card = rpgii#Card(getline("."))
+  let l:stops = get(g:rpgii_entries#stops, strcharpart(l:card, 5, 1), [])
+  if l:card =~# '^//' || empty(l:stops)
+    let l:wanted = ""
+  else
+    let l:before = 1
+    let l:widths = []
+    for l:stop in [6] + l:stops
+      call add(l:widths, l:stop - l:before)
+      let l:before = l:stop
+    endfor
+    let l:wanted = join(l:widths + [8], ",")
+  endif
+  if &l:vartabstop !=# l:wanted
+    let &l:vartabstop = l:wanted
+  endif
+endfunction
+
+" Completes the values of the entry at the cursor.
+function! rpgii#Complete(is_first, base) abort
+  let l:entry = rpgii#EntryAt(rpgii#Card(getline(".")), s:Column())
+  if a:is_first
+    return empty(l:entry) || empty(l:entry.values) ? -3 : min([l:entry.from - 1, col(".") - 1])
+  endif
+  let l:base = toupper(trim(a:base))
+  return filter(copy(get(l:entry, "values", [])), {_, value -> stridx(value, l:base) == 0})
+endfunction
