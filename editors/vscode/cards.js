@@ -1,4 +1,4 @@
-// What the cards of an RPG II source have in which columns. The table is in entries.json, which `tools/editors` writes.
+// What the cards of an RPG II source have in which columns. The table is in entries.json, which `tools/check/editors` writes.
 "use strict";
 
 const { stops, entries } = require("./entries.json");

@@ -69,7 +69,8 @@ pub fn run_journaled(rt: &HostRuntime, matches: &ArgMatches<'_>) -> u8
     }
 }
 
-/// Runs standard input over the pack, and saves the pack once its journal has the line of the run.
+/// Runs standard input over the pack, and saves the pack once its journal has the line of the run. A journal that the run made is removed
+/// again if it got no line.
 fn run_once<'a>(
     rt: &HostRuntime,
     matches: &ArgMatches<'a>,
@@ -81,12 +82,29 @@ fn run_once<'a>(
     let limit = limit_of(rt, path)?;
     keep_journal_apart(rt, journal, &[path, Some(save)])?;
     let mut journal = JournalFile::open(rt, journal, limit)?;
+    match run_noted(rt, matches, path, pack, &mut journal) {
+        Ok(saved) => Ok(save_to(rt, save, locked, limit, path, &saved)?),
+        Err(refusal) => {
+            journal.remove_if_unused(rt);
+            Err(refusal)
+        }
+    }
+}
+
+/// The pack that the session of standard input leaves, once the journal has the line of the run.
+fn run_noted<'a>(
+    rt: &HostRuntime,
+    matches: &ArgMatches<'a>,
+    path: Option<&'a str>,
+    pack: Vec<u8>,
+    journal: &mut JournalFile<'a>,
+) -> Result<Vec<u8>, RunRefusal<'a>> {
     report_typed(rt);
     let input = input_of(rt, path)?;
     let ran = ran_of(rt, path, &input)?;
     let before = checksum_of(rt.alloc(), &pack)?;
     if !matches.get_flag("again") {
-        test_start(rt, &journal, path, before.as_str(), &ran)?;
+        test_start(rt, journal, path, before.as_str(), &ran)?;
     }
     let saved = session_of(rt, path, pack, &input)?;
     let after = checksum_of(rt.alloc(), &saved)?;
@@ -96,7 +114,7 @@ fn run_once<'a>(
         status: DONE,
     };
     journal.append(rt, line, Work::Run(ran))?;
-    Ok(save_to(rt, save, locked, limit, path, &saved)?)
+    Ok(saved)
 }
 
 /// All of standard input.

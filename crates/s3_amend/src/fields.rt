@@ -73,7 +73,7 @@ fn name_field(
     Ok(())
 }
 
-/// Tests the value of a setting on a record. That the field can't get it is added to the mistakes.
+/// Tests the value of a setting on a record. If the field can't have it, a mistake is added.
 #[tactic(auto, using(crate::proofs::SettingLemmas::named_lies))]
 fn test_value(
     alloc: Global,
@@ -92,7 +92,7 @@ fn test_value(
     }
 }
 
-/// Puts a value into a field of a record. That the field can't get it is added to the mistakes.
+/// Puts a value into a field of a record. If the field can't have it, a mistake is added.
 #[tactic(auto, using(s3_load::proofs::ColumnLemmas::none_told, crate::proofs::SettingLemmas::taken_long))]
 fn take_value(
     alloc: Global,

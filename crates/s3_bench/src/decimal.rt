@@ -329,7 +329,7 @@ fn edited(table: &Table, turn: u64) -> u64 {
     checksum
 }
 
-/// What an operation makes of a checksum over its table.
+/// The checksum of an operation over its table, after an earlier checksum.
 fn once(table: &Table, operation: &str, checksum: u64) -> u64 {
     match operation {
         "add" => added(table, checksum),

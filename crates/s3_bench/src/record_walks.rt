@@ -39,7 +39,7 @@ pub fn direct<P: Sectors>(pool: &mut P, calls: u32) -> Result<u64, FileFault>
     Ok(total)
 }
 
-/// Loads so many records, one behind another.
+/// Loads so many records, one after another.
 pub fn load<P: Sectors>(pool: &mut P, calls: u32) -> Result<u64, FileFault>
     requires { 24000 ≤ length (P.state pool.old).contents }
 {

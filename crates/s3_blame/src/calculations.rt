@@ -18,7 +18,7 @@ use s3_program::row::{Marking, Operand, Pairing, Row, Target};
 use s3_sheets::FaultyEntry;
 use std::alloc::{AllocError, Global};
 
-/// The entries to blame for a number of a C card. `is_cut` says that a C card follows, and doesn't go on with this one.
+/// The entries to blame for a number of a C card. `is_cut` says that a C card follows, and doesn't continue with this one.
 #[tactic(auto, using(crate::proofs::TableLemmas::calculation_10))]
 pub fn calculation_entries(
     alloc: Global,
@@ -56,7 +56,7 @@ fn is_unknown(known: &Known, operand: Operand, factor: Option<Factor>) -> bool {
     }
 }
 
-/// What 5 speaks of: each name that nothing defines, where the operation has a use for it.
+/// The entries of diagnostic 5: each name without a definition, if the operation uses it.
 #[tactic(auto, using(crate::proofs::TableLemmas::calculation_5))]
 fn undefined_parts(known: &Known, line: &CalculationLine) -> [Part; 3]
     ensures { map span result ≡ entries_tested kind.Calculation 5 }
@@ -99,8 +99,8 @@ fn is_second(known: &Known, card: u16, line: &CalculationLine) -> bool {
     }
 }
 
-/// What 6 speaks of: the name of a second tag or subroutine; a result that was defined otherwise, with the length or the decimals that
-/// differ; a date field that would be changed.
+/// The entries of diagnostic 6: the name of a second tag or subroutine; a result that was defined otherwise, with the length or
+/// the decimals that differ; a date field that would be changed.
 #[tactic(auto, using(crate::proofs::TableLemmas::calculation_6))]
 fn redefined_parts(known: &Known, card: u16, line: &CalculationLine) -> [Part; 4]
     ensures { map span result ≡ entries_tested kind.Calculation 6 }
@@ -114,7 +114,7 @@ fn redefined_parts(known: &Known, card: u16, line: &CalculationLine) -> [Part; 4
     ]
 }
 
-/// Whether the length of a result, and whether its decimals, are otherwise than where it was defined.
+/// Whether the length of a result, and whether its decimals, differ from its definition.
 fn redefined(known: &Known, line: &CalculationLine) -> (bool, bool) {
     let (Some(_), Some(name), Some(shape)) = (line.operation, line.result, line.definition) else {
         return (false, false);
@@ -140,7 +140,7 @@ fn is_overflow(indicator: Option<Indicator>) -> bool
     matches!(indicator, Some(Indicator::Overflow(_)))
 }
 
-/// What 7 speaks of: each overflow indicator.
+/// The entries of diagnostic 7: each overflow indicator.
 #[tactic(auto, using(crate::proofs::TableLemmas::calculation_7))]
 fn overflow_parts(line: &CalculationLine) -> [Part; 3]
     ensures { map span result ≡ entries_tested kind.Calculation 7 }
@@ -153,7 +153,7 @@ fn overflow_parts(line: &CalculationLine) -> [Part; 3]
     ]
 }
 
-/// What of an operation doesn't fit: each entry that is missing, surplus or of the wrong kind.
+/// The entries that don't fit an operation: each one that is missing, surplus or of the wrong kind.
 #[derive(Clone, Copy)]
 struct Unfit {
     factor1: bool,
@@ -202,7 +202,7 @@ impl Unfit {
         indicators: UnfitIndicators::NONE,
     };
 
-    /// What 8 speaks of.
+    /// The entries of diagnostic 8.
     #[tactic(auto, using(crate::proofs::TableLemmas::calculation_8))]
     fn parts(self) -> [Part; 11]
         ensures { map span result ≡ entries_tested kind.Calculation 8 }
@@ -224,8 +224,8 @@ impl Unfit {
     }
 }
 
-/// What of a card's operation doesn't fit: the operation that isn't known, or is missing where nothing goes on with the card, and the
-/// other entries.
+/// The entries of a card that don't fit its operation: an operation that isn't known, or is missing although no card continues
+/// this one, and the other entries.
 fn misfits(known: &Known, line: &CalculationLine, is_cut: bool) -> Unfit {
     match line.operation {
         Some(Operation::Unknown) => Unfit::OPERATION,
@@ -383,7 +383,7 @@ fn unfit_indicators(marking: Marking, line: &CalculationLine) -> UnfitIndicators
     }
 }
 
-/// Whether a level stands behind one that it goes before.
+/// Whether a level comes after one that must follow it.
 fn is_late(part: u8, time: CalculationTime) -> bool
     ensures { result ≡ is_late_spec part time }
 {
@@ -394,7 +394,7 @@ fn is_late(part: u8, time: CalculationTime) -> bool
     }
 }
 
-/// What 9 speaks of: the level that is out of order, that goes on with nothing or that stands outside of every subroutine; else the
+/// The entries of diagnostic 9: the level if it is out of order, continues no line or is outside of every subroutine; else the
 /// operation.
 #[tactic(auto, using(crate::proofs::TableLemmas::calculation_9))]
 fn misplaced_parts(walk: &Walk, line: &CalculationLine) -> [Part; 2]

@@ -12,9 +12,9 @@ use s3_lines::Diagnostic;
 use s3_sheets::{FaultyEntry, SheetFault, faulty_entries, read_sheets};
 use std::alloc::{AllocError, Global};
 
-/// The entries to blame for the diagnostics of the source that stands in a deck from place `from` up to but without place `to`, card by
-/// card: those that `faulty_entries` gives, or of a source without faults on its cards those of its lines (docs/LISTINGS.md). A number on
-/// the RUN card has none. It is refused only where memory runs out.
+/// The entries to blame for the diagnostics of a source, card by card. The source is in a deck from place `from` up to but
+/// without place `to`. If its cards have faults, these are the entries of `faulty_entries`; else those of its lines
+/// (docs/LISTINGS.md). A number on the RUN card has none. Refused only if memory runs out.
 pub fn entries_of(
     alloc: Global,
     deck: &Deck,

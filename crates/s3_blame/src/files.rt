@@ -10,7 +10,7 @@ use s3_lines::sheet::FileLine;
 use s3_sheets::FaultyEntry;
 use std::alloc::{AllocError, Global};
 
-/// What 6 speaks of on an F card: its name.
+/// The entries of diagnostic 6 on an F card: its name.
 #[tactic(auto, using(crate::proofs::TableLemmas::file_6))]
 fn name_part() -> [Part; 1]
     ensures { map span result ≡ entries_tested kind.File 6 }
@@ -18,7 +18,8 @@ fn name_part() -> [Part; 1]
     [entry(7, 14, true)]
 }
 
-/// What 12 speaks of on an F card: the device of a second card or print file, else all that the table of file uses looks at.
+/// The entries of diagnostic 12 on an F card: the device of a second card or print file, else all entries that the table of file
+/// uses tests.
 #[tactic(auto, using(crate::proofs::TableLemmas::file_12))]
 fn use_parts(file: &FileLine) -> [Part; 6]
     ensures { map span result ≡ entries_tested kind.File 12 }

@@ -93,7 +93,8 @@ fn field_entries(
     }
 }
 
-/// What 6 speaks of: the name, and of a field that was defined before what is otherwise than there, positions and P, or decimals.
+/// The entries of diagnostic 6: the name, and, if the field was defined before, what differs from that definition: positions and
+/// P, or decimals.
 #[tactic(auto, using(crate::proofs::TableLemmas::field_6))]
 fn shape_parts(known: &Known, field: &FieldLine) -> [Part; 3]
     ensures { map span result ≡ entries_tested kind.Field 6 }
@@ -106,7 +107,7 @@ fn shape_parts(known: &Known, field: &FieldLine) -> [Part; 3]
     ]
 }
 
-/// Whether the positions of a field, and whether its decimals, are otherwise than where it was defined. Of a date field neither counts.
+/// Whether the positions of a field, and whether its decimals, differ from its definition. For a date field both are false.
 fn redefined(known: &Known, field: &FieldLine) -> (bool, bool) {
     match known.field(field.name) {
         Some(first) if !is_date(field.name) => differences(first, shape_of_field(field)),
@@ -120,7 +121,7 @@ fn is_text(form: FieldForm) -> bool
     matches!(form, FieldForm::Alphanumeric | FieldForm::PackedText)
 }
 
-/// What 7 speaks of: a relation that isn't of the group; plus and minus of a text.
+/// The entries of diagnostic 7: a field record relation that isn't of the group; plus and minus of a text.
 #[tactic(auto, using(crate::proofs::TableLemmas::field_7))]
 fn indicator_parts(walk: &Walk, field: &FieldLine) -> [Part; 3]
     ensures { map span result ≡ entries_tested kind.Field 7 }
@@ -141,8 +142,8 @@ fn meet(one: Option<Indicator>, other: Option<Indicator>) -> bool {
     }
 }
 
-/// Whether a level of a field is at fault: its file is chained, it has another kind or length than the first field with that level, or
-/// a field above has it in the same type.
+/// Whether a level of a field is in error: its file is chained, it has another kind or length than the first field with that
+/// level, or a field above has it in the same type.
 fn is_bad_key(walk: &Walk, field: &FieldLine, key: Key) -> bool {
     let is_chained = match &walk.input_file {
         Some(file) => file.is_chained(),
@@ -164,7 +165,7 @@ fn is_given_twice(walk: &Walk, field: &FieldLine, key: Key) -> bool {
         })
 }
 
-/// What 11 speaks of: each level that is at fault.
+/// The entries of diagnostic 11: each level that is in error.
 #[tactic(auto, using(crate::proofs::TableLemmas::field_11))]
 fn level_parts(walk: &Walk, field: &FieldLine) -> [Part; 2]
     ensures { map span result ≡ entries_tested kind.Field 11 }
@@ -177,7 +178,7 @@ fn level_parts(walk: &Walk, field: &FieldLine) -> [Part; 2]
     ]
 }
 
-/// Whether a field has a level that is at fault.
+/// Whether a field has a level that is in error.
 fn has_bad_key(walk: &Walk, field: &FieldLine, key: Option<Key>) -> bool {
     match key {
         Some(key) => is_bad_key(walk, field, key),

@@ -1,4 +1,4 @@
-//! What the lines of a source define: the first definition of each name stands.
+//! What the lines of a source define: the first definition of each name counts.
 
 ghost use Rattle.std.specs.Prelude.{◌≡◌};
 ghost use Rattle.s3_program.specs.Redefined.{is_date as is_date_spec};
@@ -87,7 +87,7 @@ fn note<X: Copy + Drop>(
 }
 
 impl Known {
-    /// What some lines define. It is refused only where memory runs out.
+    /// What some lines define. It is refused only if memory runs out.
     pub fn of(alloc: Global, lines: &[Line]) -> Result<Known, AllocError> {
         let mut known = Known {
             files: IndexMap::new(alloc),

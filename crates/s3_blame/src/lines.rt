@@ -16,7 +16,7 @@ use s3_lines::sheet::{Line, SheetLine};
 use s3_sheets::FaultyEntry;
 use std::alloc::{AllocError, Global};
 
-/// The entries to blame for a number of the card of a line, behind which these lines stand.
+/// The entries to blame for a number of the card of a line that these lines follow.
 fn line_entries(
     alloc: Global,
     known: &Known,
@@ -57,7 +57,7 @@ fn from_card(told: &[Diagnostic], card: u16) -> &[Diagnostic] {
     told.get(before..).unwrap_or(&[])
 }
 
-/// The entries to blame for the diagnostics of a line's card, which stand in front of those of the cards behind it.
+/// The entries to blame for the diagnostics of a line's card. They come before the entries of the cards after it.
 fn entries_of_card(
     alloc: Global,
     known: &Known,

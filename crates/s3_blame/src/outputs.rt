@@ -45,7 +45,8 @@ fn word_entries(alloc: Global, card: u16, number: u8) -> Result<Vec<FaultyEntry>
     }
 }
 
-/// The entries to blame for a number of the first card of a line. 5: the file's name, also where it is that of the line before.
+/// The entries to blame for a number of the first card of a line. For 5 it is the file's name, also if the name is on the line
+/// before.
 #[tactic(auto, using(crate::proofs::TableLemmas::line_5))]
 fn line_entries(
     alloc: Global,
@@ -64,7 +65,8 @@ fn line_entries(
     }
 }
 
-/// What 12 speaks of: the file's name, with 16 to 18 where the file takes no such line; spaces and skips where they may not stand.
+/// The entries of diagnostic 12: the file's name, with 16 to 18 if the file takes no such line; spaces and skips where they
+/// aren't allowed.
 #[tactic(auto, using(crate::proofs::TableLemmas::line_12))]
 fn disallowed_parts(known: &Known, walk: &Walk, line: &OutputCard) -> [Part; 6]
     ensures { map span result ≡ entries_tested kind.OutputLine 12 }
@@ -92,7 +94,7 @@ fn disallowed_parts(known: &Known, walk: &Walk, line: &OutputCard) -> [Part; 6]
     ]
 }
 
-/// Whether an edit code can stand for a shape at all.
+/// Whether an edit code can be used for a shape at all.
 fn may_edit(code: EditCode, shape: Shape) -> bool {
     match shape {
         Shape::Alphanumeric(_) => false,
@@ -123,7 +125,7 @@ fn field_entries(
     }
 }
 
-/// What 8 speaks of: an edit code or P that can't stand for the field, else its end position with the edit code.
+/// The entries of diagnostic 8: an edit code or P that can't be used for the field, else its end position with the edit code.
 #[tactic(auto, using(crate::proofs::TableLemmas::put_8))]
 fn editing_parts(known: &Known, field: &OutputField) -> [Part; 3]
     ensures { map span result ≡ entries_tested kind.OutputField 8 }

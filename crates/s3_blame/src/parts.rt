@@ -1,11 +1,11 @@
-//! What the condition of a number speaks of on a card, entry by entry.
+//! The entries that the condition of a number tests on a card.
 ghost use Rattle.std.specs.Prelude.{◌≡◌, true, [], ◌∷◌, map, filter, IfOk};
 ghost use Rattle.s3_blame.specs.Inner.Marks.{span, fails, entry_of, are_of};
 
 use s3_sheets::FaultyEntry;
 use std::alloc::{AllocError, Global};
 
-/// An entry that a number's condition speaks of, and whether it is at fault.
+/// An entry that a number's condition tests, and whether it is in error.
 #[derive(Clone, Copy)]
 pub struct Part {
     /// Its first column, from 1.
@@ -16,7 +16,7 @@ pub struct Part {
     pub is_at_fault: bool,
 }
 
-/// An entry that a number's condition speaks of.
+/// An entry that a number's condition tests.
 pub fn entry(from: usize, to: usize, is_at_fault: bool) -> Part
     ensures from { result.from ≡ from }
     ensures to { result.to ≡ to }
@@ -29,14 +29,14 @@ pub fn entry(from: usize, to: usize, is_at_fault: bool) -> Part
     }
 }
 
-/// What a number speaks of that blames one entry alone.
+/// The entry of a number that blames one entry alone.
 pub fn entry_alone(from: usize, to: usize) -> [Part; 1]
     ensures { map span result ≡ (from, to) ∷ [] }
 {
     [entry(from, to, true)]
 }
 
-/// Those parts that are at fault, as the entries to blame for a number of a card.
+/// Those parts that are in error, as the entries to blame for a number of a card.
 fn entries_of_parts(
     alloc: Global,
     card: u16,
@@ -57,8 +57,8 @@ fn entries_of_parts(
         .collect(alloc)
 }
 
-/// The entries to blame for a number of a card: of what its condition speaks of, those that are at fault. It is refused only where memory
-/// runs out.
+/// The entries to blame for a number of a card: those that its condition tests and that are in error. Refused only if memory runs
+/// out.
 #[tactic(auto, using(crate::proofs::PartLemmas::at_fault_are_parts))]
 pub fn at_fault(
     alloc: Global,

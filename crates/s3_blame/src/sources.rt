@@ -27,9 +27,9 @@ fn told_of_lines(
     }
 }
 
-/// The diagnostics of the source that stands in a deck from place `from` up to but without place `to`, by card and then number: 1 to
-/// 4 and 13 where there are any, else 5 to 12. One on the whole program bears the number of the RUN card. There may be none. It is
-/// refused only where memory runs out.
+/// The diagnostics of the source in a deck from place `from` up to but without place `to`, by card and then number: 1 to 4 and 13
+/// if there are any, else 5 to 12. A diagnostic on the whole program has the number of the RUN card. There may be none. Refused
+/// only if memory runs out.
 #[tactic(auto, using(crate::proofs::SourceLemmas::cards_at_fault, crate::proofs::SourceLemmas::no_card_at_fault))]
 pub fn told(
     alloc: Global,

@@ -32,9 +32,9 @@ pub struct GivenKey {
 pub struct Walk {
     /// The file of the last record line, if it is defined.
     pub input_file: Option<FileLine>,
-    /// The indicators of the types of the last record line and of the OR lines that go on with it.
+    /// The indicators of the types of the last record line and of the OR lines that continue with it.
     pub types: Vec<Indicator>,
-    /// The levels that fields behind that record line have.
+    /// The levels that fields after that record line have.
     pub keys: Vec<GivenKey>,
     /// The first shape of each level, by all fields above.
     pub shapes: Vec<(Key, Shape)>,
@@ -65,7 +65,7 @@ impl Walk {
         }
     }
 
-    /// Goes on behind a line.
+    /// Continues after a line.
     pub fn pass(&mut self, alloc: Global, known: &Known, line: &Line) -> Result<(), AllocError> {
         match &line.sheet {
             SheetLine::Header(_) | SheetLine::File(_) => Ok(()),
@@ -149,7 +149,7 @@ impl Walk {
         }
     }
 
-    /// The level of a C line's group: its own, or that of the group that it goes on with.
+    /// The level of a C line's group: its own, or the level of the group that it continues.
     pub fn time_of(&self, line: &CalculationLine) -> Option<CalculationTime> {
         match line.time {
             CalculationTime::And | CalculationTime::Or => self.group,

@@ -180,7 +180,7 @@ impl<S: PackStore> Bureau<S> {
 
     /// A bureau over the pack on a store, with a deck for each level, before its first entry.
     ///
-    /// It is refused by the pack's header alone, and where memory or the store fails; the store then comes back as it was.
+    /// Refused only by the pack's header, and if memory or the store fails; then the store is given back as it was.
     pub fn open(
         alloc: Global,
         store: S,
@@ -199,7 +199,7 @@ impl<S: PackStore> Bureau<S> {
         ensures rest { IfOk result (λ bureau. (level : LevelId) → rests level bureau) }
         ensures entries { IfOk result (λ bureau. is_open bureau ≡ true) }
 
-        // The labels of a level say its slots, unless a slot is entangled.
+        // The labels of a level say its slots, unless a label overlaps or is a duplicate.
         ensures said { IfOk result (λ bureau. (level : LevelId) → IsUntangled (header_of bureau).format (region_of level (header_of bureau)) (area_of level) (S.contents store) → IsSaid level bureau) }
 
         ensures refused { IfErr result (λ refused. IsRefusal (mounted (S.contents store)) refused.fault) }
@@ -251,7 +251,7 @@ impl<S: PackStore> Bureau<S> {
 
     /// Performs one entry of a script, and answers what it did (docs/RUNNING.md, "The script").
     ///
-    /// Where memory runs out it answers `Stop::NoMemory`, and where a transfer of the store fails `Stop::Device`. Nothing more is
+    /// If memory runs out it answers `Stop::NoMemory`, and if a transfer of the store fails `Stop::Device`. Nothing more is
     /// done then: each later call answers `Stop::Stopped`, as it does after `finish`.
     pub fn step(&mut self, entry: Entry) -> Result<Did, Stop>
         // The level's own world takes that entry, with this answer.
@@ -264,7 +264,7 @@ impl<S: PackStore> Bureau<S> {
         // Labels that say their level's slots still do.
         ensures said { OnOk result ((level : LevelId) → IsSaid level self.old → IsSaid level self.new) }
 
-        // An entry that is idle or refused changes neither the pack nor a queue, nor what is in the store.
+        // An entry that is idle or refused changes nothing: not the pack, a queue or the store.
         ensures quiet { IfOk result (λ did. did ≢ Acted → self.new.beside ≡ self.old.beside) }
 
         // Whatever the answer is, the other level stays as it is, with its queue and its labels as they were judged; and so do the
@@ -281,8 +281,8 @@ impl<S: PackStore> Bureau<S> {
         ensures stops { OnErr result (is_open self.new ≡ false) }
         ensures holds_none { OnErr result (is_open self.old ≡ true → has_worlds self.new.phase ≡ false) }
 
-        // Only an entry that acts can stop it. A device has failed where the answer says so, and only there. The drained lines of both
-        // levels stay where it stops.
+        // Only an entry that acts can stop it. A device has failed if the answer says so, and only there. The drained lines of both
+        // levels stay if it stops.
         ensures memory { OnErr result (is_open self.old ≡ true → (w : World) → HoldsFor entry.level self.old w → (step_of w entry.action).did ≡ Acted) }
         ensures failures { self.new.beside.state.failures ≡ self.old.beside.state.failures + failed_stop result }
         ensures lines { OnErr result ((level : LevelId) → lines_at level self.new ≡ lines_at level self.old) }
@@ -290,10 +290,10 @@ impl<S: PackStore> Bureau<S> {
         Ok(self.repeat(entry, NonZeroU16::MIN)?.did)
     }
 
-    /// Performs one entry of a script at most `most` times and at least once. Only turns are several: they go on as long as they
+    /// Performs one entry of a script at most `most` times and at least once. Only turns are several: they continue as long as they
     /// act, up to the one in which a job ends. It answers how often the entry was performed, and what it did each time.
     ///
-    /// Where memory runs out it answers `Stop::NoMemory`, and where a transfer of the store fails `Stop::Device`. Nothing more is
+    /// If memory runs out it answers `Stop::NoMemory`, and if a transfer of the store fails `Stop::Device`. Nothing more is
     /// done then: each later call answers `Stop::Stopped`, as it does after `finish`.
     pub fn repeat(&mut self, entry: Entry, most: NonZeroU16) -> Result<Taken, Stop>
         ensures times { IfOk result (λ taken. IsUpTo (non_zero_u16_get most) taken) }
@@ -301,10 +301,10 @@ impl<S: PackStore> Bureau<S> {
         // The level's own world takes so many such entries, each with this answer.
         ensures own { IfOk result (λ taken. Repeats entry.action taken.times taken.did (HoldsFor entry.level self.old) (HoldsFor entry.level self.new)) }
 
-        // They stop where a job ends.
+        // They stop when a job ends.
         ensures job_ends { IfOk result (λ taken. StopsAtEnd entry.action taken.times (HoldsFor entry.level self.old)) }
 
-        // What else changes, what stays, and how it stops is as `step` says.
+        // All other changes, what stays, and how it stops are as `step` says.
         ensures other { OnOk result ((w : World) → HoldsFor (other entry.level) self.old w → HoldsFor (other entry.level) self.new w) }
         ensures no_other { OnOk result ((w : World) → HoldsFor (other entry.level) self.new w → HoldsFor (other entry.level) self.old w) }
         ensures said { OnOk result ((level : LevelId) → IsSaid level self.old → IsSaid level self.new) }
@@ -371,7 +371,7 @@ impl<S: PackStore> Bureau<S> {
         ensures closes { OnOk result ((level : LevelId) (w : World) → HoldsFor level self.old w → HoldsFor level self.new (closed w)) }
         ensures flushed { OnOk result (self.new.beside.state.stored ≡ self.new.beside.state.contents) }
 
-        // Where the labels of a level said its slots, a mount of the store judges them as its world has them, and none of them entangled.
+        // If the labels of a level said its slots, a mount of the store finds them as its world has them, none overlapping.
         ensures mounts { OnOk result ((level : LevelId) (w : World) → IsSaid level self.old → HoldsFor level self.new w → slots_of (header_of self.new).format (region_of level (header_of self.new)) (area_of level) self.new.beside.state.contents ≡ w.pack.own.slots) }
         ensures untangled { OnOk result ((level : LevelId) → IsSaid level self.old → IsUntangled (header_of self.new).format (region_of level (header_of self.new)) (area_of level) self.new.beside.state.contents) }
 
@@ -384,7 +384,7 @@ impl<S: PackStore> Bureau<S> {
         ensures stopped { is_open self.old ≡ false → (result ≡ Err Stop.Stopped) × (self.new ≡ self.old) }
         ensures not_before { is_open self.old ≡ true → result ≢ Err Stop.Stopped }
 
-        // Memory runs out only where work is left, a job or a queued line.
+        // Memory runs out only if work is left, a job or a queued line.
         ensures memory { ((level : LevelId) → HasNoWork level self.old) → result ≢ Err Stop.NoMemory }
         ensures failures { self.new.beside.state.failures ≡ self.old.beside.state.failures + failed_stop result }
         ensures holds_none { OnErr result (is_open self.old ≡ true → has_worlds self.new.phase ≡ false) }
@@ -462,10 +462,10 @@ impl<S: PackStore> Bureau<S> {
         &self.pack.areas
     }
 
-    /// Reads a sector of the pack as it now stands, and answers whether there is one of this number. No sector changes, and no
+    /// Reads a sector of the pack as it is now, and answers whether there is one of this number. No sector changes, and no
     /// world that is held.
     ///
-    /// Where memory runs out it answers `Stop::NoMemory`, and where a transfer of the store fails `Stop::Device`. Nothing more is
+    /// If memory runs out it answers `Stop::NoMemory`, and if a transfer of the store fails `Stop::Device`. Nothing more is
     /// done then, as after a stop of `step`.
     pub fn read_sector(&mut self, n: u16, bytes: &mut [u8; 256]) -> Result<bool, Stop>
         ensures found { IfOk result (λ found. IsFound found (slice_get self.old.beside.state.contents n) bytes.new) }
@@ -510,7 +510,7 @@ impl<S: PackStore> Bureau<S> {
         }
     }
 
-    /// The store as it stands: what the pool alone holds is lost, which after `finish` is nothing.
+    /// The store as it is. What only the pool holds is lost; after `finish` that is nothing.
     pub fn into_store(self) -> S
         ensures contents { S.contents result ≡ self.beside.state.stored }
         ensures failures { S.failures result ≡ self.beside.state.failures }

@@ -7,8 +7,8 @@ use s3_cards::push_number;
 use s3_operator::{Halt, letters};
 use std::alloc::{AllocError, Global};
 
-/// The text of a level's halts (docs/RUNNING.md, "The output"). Where its deck was refused, the number of the card at fault and
-/// of its fault go first, as of job 000. It is refused only where memory runs out.
+/// The text of a level's halts (docs/RUNNING.md, "The output"). If its deck was refused, the number of the card in error and
+/// of its fault go first, as of job 000. It is refused only if memory runs out.
 pub fn halt_text(
     alloc: Global,
     refusal: Option<(u16, u8)>,

@@ -52,14 +52,14 @@ pub fn halt_texts_are_written()
     ensures replies { halt_text_of None (shown 1 FaultySource ((8, 8) ∷ (8, 10) ∷ []) (Some 2) ∷ shown 2 (HaltIndicator 1) [] (Some 0) ∷ shown 3 NoSpace [] (Some 3) ∷ []) ≡ codes "001 CE 2\n001 0008 08\n001 0008 10\n002 H1 0\n003 NS 3\n" }
 {}
 
-/// Where two bureaus agree for a level, they agree for it after any entries among which its own are the same, and these get the
+/// If two bureaus agree for a level, they agree for it after any entries among which its own are the same, and these get the
 /// same answers: whatever the other level does.
 pub fn other_entries_make_no_difference()
     ensures { AgreesAfter }
 {}
 
 /// After any steps that answered `Ok`, in whatever order the entries of the two levels came, each world that was held for a level has
-/// taken that level's own entries, and these got the answers of the solo run. A level without an entry among them holds the worlds that
+/// taken that level's own entries, and these got the reference model's answers. A level without an entry among them holds the worlds that
 /// it held, and stays with its sectors; so do the header and the masters.
 pub fn each_level_takes_its_own_entries()
     ensures { EachTakesItsOwn }
@@ -80,8 +80,8 @@ pub fn no_level_learns_of_the_other()
     ensures runs { NoLevelLearns }
 {}
 
-/// A run over a migrated pack leaves each level's world as the same run over the old one does, but for the format, and gives the
-/// same texts, where no halt NS (no space) is shown.
+/// A run over a migrated pack leaves each level's world as the same run over the old one, except for the format, and gives the
+/// same texts, if no halt NS (no space) is shown.
 pub fn a_migrated_pack_gives_the_same_texts()
     ensures worlds { (old new : List ℕ) (header : Header) (level : LevelId) (deck : List (List ℕ)) (actions : List Action) → mounted (contents_of old) ≡ Ok header → migrated old ≡ Ok new → shows_no_space (run_alone level header (contents_of old) deck actions).halts ≡ false → run_alone level (in_second header) (contents_of new) deck actions ≡ over_second (run_alone level header (contents_of old) deck actions) }
     ensures level { (old new : List ℕ) (header : Header) (level : LevelId) (deck : List ℕ) (actions : List Action) → mounted (contents_of old) ≡ Ok header → migrated old ≡ Ok new → shows_no_space (run_alone level header (contents_of old) (cards_of (deck_of deck)) actions).halts ≡ false → level_texts level (in_second header) (contents_of new) deck actions ≡ level_texts level header (contents_of old) deck actions }
@@ -89,8 +89,8 @@ pub fn a_migrated_pack_gives_the_same_texts()
 {}
 
 /// A run over a migrated pack leaves the records of the masters, and of a level, as the same run over the old one does: of a level
-/// without an entry; and of one to which no halt NS (no space) was shown over the old pack, with its labels where no slot of it was
-/// entangled. A slot that wasn't entangled isn't so on the migrated pack.
+/// without an entry; and of one to which no halt NS (no space) was shown over the old pack, with its labels if no slot of it was
+/// overlapping or duplicate. The migrated pack has no such slot that the old one didn't have.
 pub fn a_migrated_pack_keeps_the_records()
     ensures untangled { MigratedIsUntangled }
     ensures runs { MigratedRunsKeepRecords }

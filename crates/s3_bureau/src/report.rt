@@ -9,7 +9,7 @@ use itoa::Buffer;
 use s3_cards::{PRINT_POSITIONS, PrintLine, host_byte, trim_end};
 use std::alloc::{AllocError, Global};
 
-/// The most bytes of a line of a report: page and line in up to five digits with a blank behind each, the text, and what ends it.
+/// The most bytes of a line of a report: page and line in up to five digits with a blank after each, the text, and what ends it.
 const LONGEST_LINE: usize = 12 + PRINT_POSITIONS + 1;
 
 /// A report gets room for so many bytes of each line at first.
@@ -30,7 +30,7 @@ pub struct ReportTables {
 }
 
 /// The report of these printed lines: for each the page, its line on the page, and its text (docs/RUNNING.md, "The output"). It
-/// is refused only where memory runs out.
+/// is refused only if memory runs out.
 pub fn report_text(alloc: Global, lines: &[PrintLine]) -> Result<Vec<u8>, AllocError>
     ensures { IfOk result (λ text. text.items ≡ report_of lines.now) }
 {
@@ -50,7 +50,7 @@ pub fn report_text(alloc: Global, lines: &[PrintLine]) -> Result<Vec<u8>, AllocE
 }
 
 impl ReportTables {
-    /// Makes the tables; refused only where memory runs out.
+    /// Makes the tables; refused only if memory runs out.
     pub fn new(alloc: Global) -> Result<ReportTables, AllocError>
         ensures { IfOk result AreTables }
     {
@@ -61,7 +61,7 @@ impl ReportTables {
         })
     }
 
-    /// Lays out the report of the first of these lines, of as many as have room, and answers where it ends, with the lines that are
+    /// Lays out the report of the first of these lines, as many as fit, and answers where it ends, with the lines that are
     /// left.
     pub fn lay_lines<'l>(
         &self,
@@ -86,7 +86,7 @@ impl ReportTables {
     }
 }
 
-/// Lays out a printed line from a place on, and answers where it ends.
+/// Lays out a printed line from a place on, and answers the place at which it ends.
 #[tactic(auto, using(crate::proofs::Laying::line_whole), unfolding(crate::specs::Texts::report_line))]
 fn lay_line(
     room: &mut [u8; REPORT_ROOM],
@@ -104,7 +104,7 @@ fn lay_line(
     lay(room, end, b"\n")
 }
 
-/// Copies bytes to a place, and answers where they end.
+/// Copies bytes to a place, and answers the place at which they end.
 fn lay(room: &mut [u8; REPORT_ROOM], at: usize, bytes: &[u8]) -> usize
     requires { at + length bytes.now ≤ 2048 }
     ensures { IsLaid at result room.old room.new bytes.now }
@@ -162,7 +162,7 @@ fn shown_pair(shown: &[u16], codes: [u8; 2]) -> [u8; 2]
     shown[usize::from(u16::from_le_bytes(codes))].to_le_bytes()
 }
 
-/// Lays out the page of a printed line and its line there, with a blank behind each.
+/// Lays out the page of a printed line and its line there, with a blank after each.
 fn lay_place(
     room: &mut [u8; REPORT_ROOM],
     at: usize,
@@ -208,7 +208,7 @@ fn lay_number(room: &mut [u8; REPORT_ROOM], at: usize, number: u16, width: usize
     lay(room, first, digits)
 }
 
-/// A page of at most four digits and a line of at most two, with a blank behind each.
+/// A page of at most four digits and a line of at most two, with a blank after each.
 fn place_in_eight(tables: &ReportTables, page: u16, line: u8) -> [u8; 8]
     requires tables { AreTables tables.now }
     requires page { page < 10000 }
@@ -242,7 +242,7 @@ fn shown_pairs(alloc: Global) -> Result<Vec<u16>, AllocError>
     Ok(pairs)
 }
 
-/// The bytes that show each code with this byte behind it.
+/// The bytes that show each code with this byte after it.
 fn shown_row(shown: &[u8; 256], second: u8) -> [u16; 256]
     requires { ShowsCodes shown.now }
     ensures { ShowsPairsWith second result }

@@ -124,7 +124,7 @@ pub fn fault_of(stop: Stop) -> RunFault
     }
 }
 
-/// Finishes a bureau after the entries of all commands, and gives the halt texts of both levels, where each level's deck was refused
+/// Finishes a bureau after the entries of all commands, and gives the halt texts of both levels, whether each level's deck was refused
 /// or not.
 fn served<S: PackStore>(
     alloc: Global,
@@ -146,7 +146,7 @@ fn served<S: PackStore>(
     finish_halts(alloc, bureau, refusal1, refusal2)
 }
 
-/// Finishes a bureau, and gives the halt texts of both levels, where each level's deck was refused or not.
+/// Finishes a bureau, and gives the halt texts of both levels, whether or not a level's deck was refused.
 pub fn finish_halts<S: PackStore>(
     alloc: Global,
     bureau: &mut Bureau<S>,
@@ -171,7 +171,7 @@ pub fn finish_halts<S: PackStore>(
     Ok((one, two))
 }
 
-/// The cards of a deck, and the number of the card at fault and of its fault where the deck is refused and counts as empty.
+/// The cards of a deck. If the deck is refused, it counts as empty, with the number of the card in error and of its fault.
 pub fn read_deck(alloc: Global, text: &[u8]) -> Result<(Deck, Option<(u16, u8)>), AllocError>
     ensures { IfOk result (λ read. ReadsDeck text.now read.0 read.1) }
 {
@@ -212,14 +212,14 @@ fn repeat<S: PackStore>(bureau: &mut Bureau<S>, entry: Entry, count: u16) -> Res
 {
     let mut left = count;
     while let Some(most) = NonZeroU16::new(left) {
-        // What the entries did stands nowhere: a turn, a reply or a drain that was idle or refused leaves no mark in the texts.
+        // What the entries did is kept nowhere: a turn, a reply or a drain that was idle or refused leaves no mark in the texts.
         let taken = bureau.repeat(entry, most)?;
         left = left_behind(taken, left);
     }
     Ok(())
 }
 
-/// How many of a command's entries are left to be performed behind these. Where these did nothing it is none: nothing has changed
+/// How many of a command's entries are left to be performed after these. None are left if these did nothing: nothing has changed
 /// then, and so the others would do nothing either.
 fn left_behind(taken: Taken, left: u16) -> u16
     requires some { 1 ≤ taken.times }

@@ -90,7 +90,7 @@ fn level_named_by(digit: u8) -> Option<LevelId>
     }
 }
 
-/// How many times what stands before is done: once, or as a count after a blank says.
+/// How many times an entry is done: once, or as often as the count after a blank says.
 fn times(rest: &[u8]) -> Option<u16>
     ensures { result ≡ times_of rest.now }
 {
@@ -115,7 +115,7 @@ fn count(digits: &[u8]) -> Option<u16>
     }
 }
 
-/// The digit that stands alone after a blank.
+/// The only digit after a blank.
 fn digit_after_blank(rest: &[u8]) -> Option<u8>
     ensures { result ≡ digit_behind rest.now }
 {

@@ -31,7 +31,7 @@ impl Unwritten {
         self.bureau.lines(level)
     }
 
-    /// What the run hands out, with both reports written. It is refused only where memory runs out.
+    /// What the run hands out, with both reports written. It is refused only if memory runs out.
     pub fn written(self, alloc: Global) -> Result<Outcome, AllocError>
         ensures texts { IfOk result (λ outcome. outcome_texts outcome ≡ unwritten_texts self) }
         ensures pack { IfOk result (λ outcome. SavesAs self outcome.pack.items) }

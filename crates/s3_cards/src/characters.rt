@@ -59,7 +59,7 @@ fn hosts() -> &'static [u8; 256]
     &HOSTS
 }
 
-/// The EBCDIC code of a byte of a text, or 0 where the byte is no card character.
+/// The EBCDIC code of a byte of a text, or 0 if the byte is no card character.
 #[inline]
 #[tactic(auto, using(crate::proofs::CodeLemmas::its_code_or_zero))]
 pub(crate) fn code_or_zero(byte: u8) -> u8
@@ -68,7 +68,7 @@ pub(crate) fn code_or_zero(byte: u8) -> u8
     codes()[byte as usize]
 }
 
-/// The EBCDIC code of a byte of a text, or `None` where the byte is no card character.
+/// The EBCDIC code of a byte of a text, or `None` if the byte is no card character.
 #[inline]
 #[tactic(auto, using(crate::proofs::CodeLemmas::no_code, crate::proofs::CodeLemmas::its_code))]
 pub fn code_of_byte(byte: u8) -> Option<u8>
@@ -80,7 +80,7 @@ pub fn code_of_byte(byte: u8) -> Option<u8>
     }
 }
 
-/// The EBCDIC code of a character, or `None` where it is no card character.
+/// The EBCDIC code of a character, or `None` if it is no card character.
 #[tactic(auto, using(crate::proofs::CodeLemmas::no_code_past))]
 pub fn to_ebcdic(character: char) -> Option<u8>
     ensures { result ≡ ebcdic_of character }
@@ -92,7 +92,7 @@ pub fn to_ebcdic(character: char) -> Option<u8>
     }
 }
 
-/// The character of an EBCDIC code, or `None` where the code has none.
+/// The character of an EBCDIC code, or `None` if the code has none.
 #[tactic(auto, using(crate::proofs::CodeLemmas::no_host, crate::proofs::CodeLemmas::its_host))]
 pub fn to_host(code: u8) -> Option<char>
     ensures { result ≡ host_of code }
@@ -103,7 +103,7 @@ pub fn to_host(code: u8) -> Option<char>
     }
 }
 
-/// The byte that shows an EBCDIC code in a text: its character, or `?` where it has none.
+/// The byte that shows an EBCDIC code in a text: its character, or `?` if it has none.
 #[inline]
 #[tactic(auto, using(crate::proofs::CodeLemmas::no_host, crate::proofs::CodeLemmas::its_host))]
 pub fn host_byte(code: u8) -> u8
@@ -115,7 +115,7 @@ pub fn host_byte(code: u8) -> u8
     }
 }
 
-/// The two translators undo each other: a character has a code exactly where that code has this character.
+/// The two translators undo each other: a character has a code exactly if that code has this character.
 pub fn codes_and_characters()
     ensures { (character code : ℕ) → (ebcdic_of character ≡ Some code) ↔ (host_of code ≡ Some character) }
 {}

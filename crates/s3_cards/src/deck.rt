@@ -54,12 +54,12 @@ impl CardFault {
 pub enum DeckFault {
     /// There is no memory for the cards.
     NoMemory,
-    /// The number of the first card at fault, from 1, and what is wrong with it; of too many cards, 9,999.
+    /// The number of the first card in error, from 1, and what is wrong with it. The number is 9,999 if there are too many cards.
     At(u16, CardFault),
 }
 
 impl DeckFault {
-    /// The number of the card at fault and the number of its fault; none where memory ran out.
+    /// The number of the card in error and the number of its fault; none if memory ran out.
     pub fn detail(&self) -> Option<(u16, u8)>
         ensures { result ≡ detail_of self.now }
     {
@@ -145,7 +145,7 @@ impl Deck {
         Ok(Deck { cards })
     }
 
-    /// The card at a place, from 0; `None` behind the last one.
+    /// The card at a place, from 0; `None` after the last one.
     pub fn card(&self, place: usize) -> Option<&Card>
         ensures { option_copied result ≡ slice_get self.now place }
     {
@@ -176,8 +176,8 @@ impl Deck {
     }
 }
 
-/// Punches the first line of a text that isn't empty into a card, or gives its fault. Answers how wide the line is, and the
-/// text after it. It is tried first with a likely width, that of the line before, so that its end isn't searched for.
+/// Punches the first line of a text that isn't empty into a card, or gives its fault. Answers the width of the line and the text
+/// after it. The width of the line before is tried first, so that the end of the line needn't be searched for.
 fn punch_first<'a>(
     text: &'a [u8],
     likely: usize,
@@ -198,8 +198,8 @@ fn punch_first<'a>(
     Ok((line.len(), after))
 }
 
-/// Punches the first line of a text into a card if it is so wide and has no fault, and answers the text after it. Where each
-/// byte in front of a newline is a card character, none of them is a newline, nor a carriage return.
+/// Punches the first line of a text into a card if the line has this width and no fault, and answers the text after it. If each
+/// byte before a newline is a card character, none of them is a newline or a carriage return.
 #[tactic(auto, using(crate::proofs::DeckLemmas::likely_line))]
 fn punch_likely<'a>(text: &'a [u8], width: usize, card: &mut Card) -> Option<&'a [u8]>
     ensures card { IfSome result (λ after. StartsWithCard text.now card.new after.now) }
@@ -214,8 +214,8 @@ fn punch_likely<'a>(text: &'a [u8], width: usize, card: &mut Card) -> Option<&'a
     }
 }
 
-/// Punches a line into a card, or gives its fault. The card is written where it lies: a result with a card in it would be
-/// copied again and again.
+/// Punches a line into a card, or gives its fault. The caller owns the card: a result with a card in it would be copied again and
+/// again.
 #[tactic(auto, unfolding(crate::specs::Deck::fault_of))]
 fn punch(line: &[u8], card: &mut Card) -> Result<(), CardFault>
     ensures ok { OnOk result (card.new ≡ card_of line.now) }
@@ -232,7 +232,7 @@ fn punch(line: &[u8], card: &mut Card) -> Result<(), CardFault>
     Ok(())
 }
 
-/// Whether a column has 0, which is no code. All columns are looked at, so that many are looked at at once.
+/// Whether a column has 0, which is no code. All columns are tested, without an early return, so that many are tested at once.
 fn lacks_code(card: &Card) -> bool
     ensures { result ≡ list_any (λ code. code == 0) card.now }
 {
@@ -243,7 +243,7 @@ fn lacks_code(card: &Card) -> bool
     lacks
 }
 
-/// Punches the codes of a line's bytes, 0 for each that is no card character, and blanks behind them.
+/// Punches the codes of a line's bytes, 0 for each that is no card character, and blanks after them.
 fn translate(line: &[u8], card: &mut Card)
     requires { length line.now ≤ 96 }
     ensures { card.new ≡ codes_and_blanks line.now }
@@ -254,8 +254,8 @@ fn translate(line: &[u8], card: &mut Card)
     translate_groups::<1>(line, fours, card);
 }
 
-/// Punches the codes of a line's bytes from a column on, as many as make whole groups of a size, and answers where they end. The
-/// bytes of a group go without a test in between.
+/// Punches the codes of a line's bytes from a column on, in whole groups of a size, and answers the column at which they end.
+/// There is no test within a group.
 #[tactic(auto, using(crate::proofs::DeckLemmas::byte_more))]
 fn translate_groups<const SIZE: usize>(line: &[u8], from: usize, card: &mut Card) -> usize
     requires some { 1 ≤ SIZE }
@@ -295,7 +295,7 @@ pub fn without_carriage_return(line: &[u8]) -> &[u8]
 }
 
 /// The first line of a text, and the text after it; `None` for the empty text. Lines end with a line feed, and one carriage
-/// return before it is dropped; a last line without line feed is one as it stands.
+/// return before it is dropped; a last line without a line feed counts as it is.
 #[tactic(auto, using(crate::proofs::DeckLemmas::lines_after_newline, crate::proofs::DeckLemmas::lines_last))]
 pub fn first_line(text: &[u8]) -> Option<(&[u8], &[u8])>
     ensures line { MatchOption result (lines text.now ≡ []) (λ x. lines text.now ≡ x.0.now ∷ lines x.1.now) }

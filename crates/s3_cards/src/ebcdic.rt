@@ -130,7 +130,7 @@ pub const DIGIT_8: u8 = 0xf8;
 /// The code of `9`.
 pub const DIGIT_9: u8 = 0xf9;
 
-/// Each named code is that of the character that it is named for.
+/// Each named code is the code of the character in its name.
 #[tactic(auto, unfolding(crate::specs::Codes::ebcdic, crate::specs::Codes::code_page))]
 pub fn codes_as_named()
     ensures { map (λ run. run.0) named_runs ≡ map (λ run. ebcdic run.1) named_runs }

@@ -50,14 +50,14 @@ pub fn begins_name(code: u8) -> bool
     is_letter(code) || matches!(code, DOLLAR | NUMBER_SIGN | AT_SIGN)
 }
 
-/// Whether a code may stand in a name behind its first one.
+/// Whether a code is allowed in a name after the first one.
 pub fn goes_on_in_name(code: u8) -> bool
     ensures { result ≡ goes_on_spec code }
 {
     begins_name(code) || is_digit(code)
 }
 
-/// Whether each of these codes may stand in a name behind its first one.
+/// Whether each of these codes is allowed in a name after the first one.
 pub fn go_on_in_name(codes: &[u8]) -> bool
     ensures { result ≡ list_all goes_on_spec codes.now }
 {
@@ -75,7 +75,7 @@ pub fn is_word(text: &[u8]) -> bool
     }
 }
 
-/// Whether a field of EBCDIC codes has a word on its left and blanks behind it.
+/// Whether a field of EBCDIC codes has a word on its left and blanks after it.
 pub fn is_name(codes: &[u8]) -> bool
     ensures { result ≡ name_spec codes.now }
 {

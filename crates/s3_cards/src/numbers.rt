@@ -14,9 +14,9 @@ fn is_one_of_ten(zero: u8, code: u8) -> bool
     zero <= code && code <= zero + 9
 }
 
-/// The number that at most nine digits spell; `None` where one of them is no digit. No digits spell 0.
+/// The number that at most nine digits spell; `None` if one of them is no digit. No digits spell 0.
 ///
-/// `zero` is the code of 0, behind which those of 1 to 9 lie in order: `DIGIT_0` on cards, and `b'0'` in texts.
+/// `zero` is the code of 0, and the codes of 1 to 9 follow it in order: `DIGIT_0` on cards, and `b'0'` in texts.
 #[tactic(auto, using(crate::proofs::NumberLemmas::none_yet, crate::proofs::NumberLemmas::number_next, crate::proofs::NumberLemmas::fits, crate::proofs::NumberLemmas::digits_wrong, crate::proofs::NumberLemmas::digits_right))]
 pub fn number_spelled(zero: u8, digits: &[u8]) -> Option<u32>
     requires zero { zero ≤ 246 }
@@ -35,7 +35,7 @@ pub fn number_spelled(zero: u8, digits: &[u8]) -> Option<u32>
 }
 
 /// Appends a number to a text in decimal digits, with zeros in front up to a width; a longer number has all its digits. It is
-/// refused only where memory runs out.
+/// refused only if memory runs out.
 #[tactic(auto, using(crate::proofs::NumberLemmas::one_more_zero))]
 pub fn push_number(text: &mut Vec<u8>, number: u64, width: usize) -> Result<(), AllocError>
     ensures { OnOk result (text.new.items ≡ text.old.items ++ in_digits width number) }

@@ -14,7 +14,7 @@ pub struct PrintLine {
     page: u16,
     line: u8,
     width: u8,
-    /// The text, and blanks behind it.
+    /// The text, and blanks after it.
     positions: [u8; PRINT_POSITIONS],
 }
 
@@ -55,7 +55,7 @@ fn lay(positions: &mut [u8], text: &[u8])
 impl PrintLine {
     ghost use Rattle.s3_cards.specs.Printed.{Printed};
 
-    /// A line of a page, whose text is the first `width` of the positions, 1 to 132; the positions behind it are blanks.
+    /// A line of a page, whose text is the first `width` of the positions, 1 to 132; the positions after it are blanks.
     pub fn new(page: u16, line: u8, width: u8, positions: [u8; PRINT_POSITIONS]) -> PrintLine
         requires printed { 0 < width }
         requires fits { width ≤ 132 }

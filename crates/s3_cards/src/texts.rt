@@ -10,7 +10,7 @@ use super::ebcdic::BLANK;
 use crate::characters::host_byte;
 use std::alloc::AllocError;
 
-/// How many blanks stand at the front of a text of EBCDIC codes.
+/// The number of blanks at the front of a text of EBCDIC codes.
 pub fn blanks_in_front(text: &[u8]) -> usize
     ensures within { result ≤ length text.now }
     ensures value { result ≡ prefix_len blank_spec text.now }
@@ -18,7 +18,7 @@ pub fn blanks_in_front(text: &[u8]) -> usize
     text.iter().take_while(|code| **code == BLANK).count()
 }
 
-/// How many codes stand before the first blank of a text, or all of them where it has none.
+/// The number of codes before the first blank of a text, or of all codes if it has no blank.
 pub fn word_len(text: &[u8]) -> usize
     ensures within { result ≤ length text.now }
     ensures value { result ≡ prefix_len is_mark text.now }
@@ -48,7 +48,7 @@ pub fn are_same_eight(codes: &[u8; 8], others: &[u8; 8]) -> bool
     u64::from_be_bytes(*codes) == u64::from_be_bytes(*others)
 }
 
-/// A text without those blanks at its end that stand by sixteens, as in the 132 positions of a short line.
+/// A text without whole groups of sixteen blanks at its end, as the 132 positions of a short line have them.
 fn trim_sixteens(text: &[u8]) -> &[u8]
     ensures value { trimmed result.now ≡ trimmed text.now }
     ensures shorter { length result.now ≤ length text.now }
@@ -63,7 +63,7 @@ fn trim_sixteens(text: &[u8]) -> &[u8]
     rest
 }
 
-/// A text without those blanks at its end that stand by fours.
+/// A text without whole groups of four blanks at its end.
 fn trim_fours(text: &[u8]) -> &[u8]
     ensures value { trimmed result.now ≡ trimmed text.now }
     ensures shorter { length result.now ≤ length text.now }

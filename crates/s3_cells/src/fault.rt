@@ -36,7 +36,7 @@ pub enum CellFault {
     /// The number has more decimals than the field.
     #[error("the number has more decimals than the field")]
     TooManyDecimals,
-    /// The number has more digits in front of the point than the field.
+    /// The number has more digits before the point than the field.
     #[error("the number has more digits than the field")]
     TooLarge,
     /// The text is longer than the field.

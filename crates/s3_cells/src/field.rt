@@ -29,8 +29,8 @@ impl Field {
     ghost use Rattle.s3_cells.specs.Inner.Refusals.{IsHidden, IsRefusal};
 
     /// Appends the cell that shows the field's value in a record. Refused with `NoCharacter` at a byte of a text that no card
-    /// has, and with `NoNumber` where a number has a digit above 9, and with `NoDate` where a date isn't one
-    /// of the calendar; then the cell may be longer than it was.
+    /// has, and with `NoNumber` if a number has a digit above 9, and with `NoDate` if a date isn't one of the calendar; then the
+    /// cell may be longer than it was.
     pub fn show(&self, record_bytes: &[u8], cell: &mut Vec<u8>) -> Result<(), ShowFault>
         requires { self.now.start + self.now.width ≤ length record_bytes.now }
         ensures ok { OnOk result (cell.new.items ≡ cell.old.items ++ cell_of self.now record_bytes.now) }

@@ -39,7 +39,7 @@ pub fn show_text(
     Ok(())
 }
 
-/// Puts an apostrophe before the text from a place on, where it needs one.
+/// Puts an apostrophe before the text from a place on, if it needs one.
 fn guard(cells: TextCells, before: usize, cell: &mut Vec<u8>) -> Result<(), AllocError>
     requires { before ≤ length cell.old.items }
     ensures { OnOk result (cell.new.items ≡ take before cell.old.items ++ guarded cells (drop before cell.old.items)) }
@@ -208,7 +208,7 @@ fn take_packed(
     Ok(())
 }
 
-/// The number that a cell says, in units of the last of so many decimals, where it has at most so many digits.
+/// The number of a cell, in units of the last of so many decimals, if it has at most so many digits.
 fn read_cell(
     alloc: Global,
     cells: NumberCells,

@@ -1,18 +1,11 @@
 //! The fields of a file's records, and their values as cells of a table.
 //!
-//! What is proved, for every field, record and cell:
-//!
-//! - `Field::show` writes the cell of the value that the field has in a record, and refuses exactly a text with a byte that
-//!   no card has, and a number with a digit above 9;
-//! - `Field::take` puts the bytes of the value that a cell says into a record and changes no other byte, and refuses exactly
-//!   a cell that says none, or one that the field can't hold;
-//! - the two undo each other: the bytes of a value show that value (`what_is_taken_is_shown`), bytes as the machine writes
-//!   them are those of the value that they show (`what_is_shown_is_taken`), and a cell of a value reads as that value
-//!   (`a_cell_reads_back`), in each way of writing cells: with a point or a comma before decimals, with marks between thousands, with
-//!   apostrophes before formulas, with small letters, and as dates;
-//! - `Layout::with_cells` changes how cells are written, and nothing else of the fields.
-//!
-//! Only tested: which fault a cell that isn't taken is told by, the position of a byte without a character, and the words of faults.
+//! `Field::show` is proved to write the cell of a field's value, and to refuse exactly a text with a byte that no card has and a
+//! number with a digit above 9. `Field::take` is proved to put the value of a cell into the field's bytes and no others, and to
+//! refuse exactly a cell without a value or with one that the field can't hold. The two are proved to undo each other
+//! (`what_is_taken_is_shown`, `what_is_shown_is_taken`, `a_cell_reads_back`) in each format of cells: point or comma, thousands,
+//! apostrophes before formulas, small letters, and dates. `Layout::with_cells` is proved to change only the format. Only tested:
+//! which fault is reported for a cell that is refused, the position of a byte without a character, and the texts of faults.
 #![tactic(auto)]
 
 mod dates;

@@ -21,7 +21,7 @@ pub enum DecimalMark {
 pub enum Thousands {
     /// Nothing.
     Nothing,
-    /// Of comma and point the one that isn't before the decimals.
+    /// The point or the comma, whichever isn't before the decimals.
     OtherMark,
     /// A blank.
     Blank,
@@ -41,7 +41,7 @@ pub struct NumberCells {
 /// How the cells of texts are written.
 #[derive(Clone, Copy)]
 pub struct TextCells {
-    /// Whether an apostrophe stands before a text that a spreadsheet would take for a formula.
+    /// Whether an apostrophe is put before a text that a spreadsheet would take for a formula.
     pub safe: bool,
     /// Whether small letters in a cell are taken as capitals.
     pub capitals: bool,
@@ -56,7 +56,7 @@ impl NumberCells {
 }
 
 impl TextCells {
-    /// As the texts are.
+    /// The texts as they are.
     pub const PLAIN: TextCells = TextCells {
         safe: false,
         capitals: false,
@@ -73,7 +73,7 @@ pub fn mark(decimal: DecimalMark) -> u8
     }
 }
 
-/// A character of a number, with point and comma in each other's place where a comma is before the decimals.
+/// A character of a number, with point and comma exchanged if a comma is before the decimals.
 fn swapped(decimal: DecimalMark, byte: u8) -> u8
     ensures { result ≡ swapped_spec decimal byte }
 {
@@ -102,7 +102,7 @@ pub fn is_plain(cells: NumberCells) -> bool
 }
 
 /// The plain text of a number that a cell shows: with a point before the decimals, and without the marks between the thousands,
-/// where each of them is in its place.
+/// if each of them is in its place.
 pub fn plain_number(alloc: Global, cells: NumberCells, cell: &[u8]) -> Result<Vec<u8>, AllocError>
     ensures { IfOk result (λ plain. plain.items ≡ plain_number_spec cells cell.now) }
 {
@@ -124,7 +124,7 @@ fn with_point(alloc: Global, decimal: DecimalMark, cell: &[u8]) -> Result<Vec<u8
     Ok(text)
 }
 
-/// The mark between thousands, if there is one, where a point is before the decimals.
+/// The mark between thousands, if there is one, when a point is before the decimals.
 fn mark_between(thousands: Thousands) -> Option<u8>
     ensures { result ≡ mark_in thousands }
 {
@@ -136,7 +136,7 @@ fn mark_between(thousands: Thousands) -> Option<u8>
     }
 }
 
-/// A number without the marks between its thousands, where each of them is in its place.
+/// A number without the marks between its thousands, if each of them is in its place.
 fn ungrouped(alloc: Global, mark: u8, text: Vec<u8>) -> Result<Vec<u8>, AllocError>
     ensures { IfOk result (λ plain. plain.items ≡ ungrouped_spec mark text.items) }
 {

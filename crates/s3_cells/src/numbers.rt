@@ -39,7 +39,7 @@ pub fn push_number(
     Ok(())
 }
 
-/// Appends a minus sign to a text where a number is negative.
+/// Appends a minus sign to a text if a number is negative.
 fn push_sign(text: &mut Vec<u8>, negative: bool) -> Result<(), AllocError>
     ensures { OnOk result (text.new.items ≡ text.old.items ++ sign_text negative) }
 {
@@ -67,7 +67,7 @@ fn digits_of(magnitude: u64) -> [u8; 15]
     zoned
 }
 
-/// Digits without the zeros in front, but for the last one.
+/// Digits without leading zeros; the last digit stays.
 #[tactic(auto, using(crate::proofs::NumberLemmas::zero_dropped, crate::proofs::NumberLemmas::last_digit, crate::proofs::NumberLemmas::first_digit, crate::proofs::NumberLemmas::no_digit))]
 fn significant(zoned: &[u8]) -> &[u8]
     ensures { result.now ≡ significant_spec zoned.now }
@@ -88,7 +88,7 @@ fn push_digits(text: &mut Vec<u8>, zoned: &[u8]) -> Result<(), AllocError>
     Ok(())
 }
 
-/// Appends a mark and the decimals behind it, if there are any.
+/// Appends a mark and the decimals after it, if there are any.
 fn push_decimals(text: &mut Vec<u8>, zoned: &[u8], mark: u8) -> Result<(), AllocError>
     ensures { OnOk result (text.new.items ≡ text.old.items ++ decimals_with mark zoned.now) }
 {
@@ -99,7 +99,7 @@ fn push_decimals(text: &mut Vec<u8>, zoned: &[u8], mark: u8) -> Result<(), Alloc
     push_digits(text, zoned)
 }
 
-/// The number that a text says, in units of the last of so many decimals, where it has at most so many digits.
+/// The number that a text spells, in units of the last of so many decimals, if it has at most so many digits.
 pub fn read_number(text: &[u8], digits: u8, decimals: u8) -> Result<i64, CellFault>
     requires { digits ≤ 15 }
     ensures ok { IfOk result (λ value. number_read decimals text.now ≡ Some value) }
@@ -151,7 +151,7 @@ fn read_magnitude(text: &[u8], decimals: u8) -> Result<u64, CellFault>
     Ok(with_zeros(magnitude, usize::from(decimals) - fraction.len()))
 }
 
-/// The digits in front of the first point, and those behind it.
+/// The digits before the first point, and those after it.
 #[tactic(auto, using(crate::proofs::NumberLemmas::whole_before, crate::proofs::NumberLemmas::decimals_behind, crate::proofs::NumberLemmas::no_point, crate::proofs::NumberLemmas::no_decimals))]
 pub fn parts_of(text: &[u8]) -> (&[u8], &[u8])
     ensures whole { result.0.now ≡ before_first is_point text.now }
@@ -202,7 +202,7 @@ fn with_digit(magnitude: u64, digit: u8) -> u64
     (magnitude * 10 + u64::from(digit)).min(LIMIT)
 }
 
-/// A magnitude with these digits behind its own.
+/// A magnitude with these digits after its own.
 fn with_digits(magnitude: u64, digits: &[u8]) -> u64
     requires { magnitude ≤ 10 ^ 15 }
     ensures value { (before : List ℕ) → magnitude ≡ min (number_of before) (10 ^ 15) → result ≡ min (number_of (before ++ map digit_value digits.now)) (10 ^ 15) }
@@ -215,7 +215,7 @@ fn with_digits(magnitude: u64, digits: &[u8]) -> u64
     whole
 }
 
-/// A magnitude with so many zeros behind its digits.
+/// A magnitude with so many zeros after its digits.
 fn with_zeros(magnitude: u64, count: usize) -> u64
     requires { magnitude ≤ 10 ^ 15 }
     ensures value { (before : List ℕ) → magnitude ≡ min (number_of before) (10 ^ 15) → result ≡ min (number_of (before ++ replicate count 0)) (10 ^ 15) }

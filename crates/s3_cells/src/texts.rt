@@ -8,7 +8,7 @@ use s3_cards::ebcdic::BLANK;
 use s3_cards::{code_of_byte, push_characters, to_host};
 use std::alloc::AllocError;
 
-/// How many bytes of a text stand in front of the blanks at its end.
+/// The number of bytes of a text before the blanks at its end.
 #[tactic(auto, using(crate::proofs::TextLemmas::blank_before, crate::proofs::TextLemmas::mark_before, crate::proofs::TextLemmas::nothing_left))]
 fn trimmed_len(text: &[u8]) -> usize
     ensures value { take result text.now ≡ trimmed_spec text.now }
@@ -42,7 +42,7 @@ pub fn place_without_character(codes: &[u8]) -> Option<usize>
     None
 }
 
-/// Appends the characters of codes, but for the blanks at their end.
+/// Appends the characters of codes, without the blanks at their end.
 #[tactic(auto, using(crate::proofs::TextLemmas::kept_text))]
 pub fn push_text(text: &mut Vec<u8>, codes: &[u8]) -> Result<(), AllocError>
     ensures { OnOk result (text.new.items ≡ text.old.items ++ trimmed_spec (map shown_byte codes.now)) }
@@ -61,7 +61,7 @@ pub fn have_codes(text: &[u8]) -> bool
     text.iter().all(|byte| code_of_byte(*byte).is_some())
 }
 
-/// Writes the codes of the characters of a text over these bytes, with blanks behind them.
+/// Writes the codes of the characters of a text over these bytes, with blanks after them.
 #[tactic(auto, using(crate::proofs::TextLemmas::one_more_code))]
 pub fn put_text(text: &[u8], bytes: &mut [u8])
     requires { length text.now ≤ length bytes.old }

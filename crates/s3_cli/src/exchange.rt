@@ -18,8 +18,8 @@ pub const INPUT_LIMIT: u32 = 4_194_304;
 /// Reads an input to its end, runs its decks and its script over a pack, writes the reports and the halt texts, and gives
 /// the pack as the run leaves it.
 ///
-/// Nothing is written where it refuses, but for a write that failed: `Input` where a marker is missing or out of order or
-/// there are over 4,194,304 bytes, `File` where a read or the write failed and nowhere else, and else as the run does.
+/// A refused call writes nothing, unless a write failed. Refused with `Input` if a marker is missing or out of order or there are
+/// over 4,194,304 bytes, with `File` exactly if a read or the write failed, and else as the run is refused.
 pub fn session<R: Source, W: Sink>(
     alloc: Global,
     pack: &[u8],
@@ -39,8 +39,8 @@ pub fn session<R: Source, W: Sink>(
 /// Reads an input to its end, runs its decks and its script over a pack, writes the reports and the halt texts, and gives
 /// the pack as the run leaves it. The pack is handed over, and so isn't copied.
 ///
-/// Nothing is written where it refuses, but for a write that failed: `Input` where a marker is missing or out of order or
-/// there are over 4,194,304 bytes, `File` where a read or the write failed and nowhere else, and else as the run does.
+/// A refused call writes nothing, unless a write failed. Refused with `Input` if a marker is missing or out of order or there are
+/// over 4,194,304 bytes, with `File` exactly if a read or the write failed, and else as the run is refused.
 pub fn session_on<R: Source, W: Sink>(
     alloc: Global,
     pack: Vec<u8>,

@@ -103,7 +103,7 @@ fn migrate_words(fault: MigrateFault) -> PackWords {
 }
 
 impl CliFault {
-    /// The exit status that stands for the refusal: 3 for a file, an input or an output that failed, else 1.
+    /// The exit status of the refusal: 3 for a file, an input or an output that failed, else 1.
     pub fn status(&self) -> u8
         ensures { result ≡ status_of self.now }
     {
@@ -114,7 +114,7 @@ impl CliFault {
     }
 }
 
-/// Writes a refusal's line, `bureau: ` and its words, and gives its exit status whatever the writer answers.
+/// Writes a refusal's line, `bureau: ` and its text, and returns its exit status whatever the writer answers.
 pub fn tell<W: Write>(writer: &mut W, fault: &CliFault) -> u8
     ensures { result ≡ status_of fault.now }
 {

@@ -28,8 +28,8 @@ impl From<AllocError> for ReadFault {
     }
 }
 
-/// Reads all that a reader gives, if that is at most `limit` bytes. `Failed` is answered where a read failed, and nowhere else;
-/// no failed read is tried again. Room for `limit` bytes is asked for at once, so that what was read is never copied to more room.
+/// Reads all that a reader gives, if that is at most `limit` bytes. Refused with `Failed` exactly if a read failed; no failed
+/// read is tried again. Space for `limit` bytes is allocated at once, so that the bytes are never copied.
 pub fn read_within<R: Source>(
     alloc: Global,
     reader: &mut R,

@@ -10,8 +10,8 @@ use std::io::Write;
 
 /// Writes a line for each used slot of a pack: of the masters, of level 1 and of level 2, in slot order.
 ///
-/// Nothing is written where it refuses, but for a write that failed: `Run` where the pack isn't mounted or memory ran out,
-/// `File` where the write failed.
+/// A refused call writes nothing, unless a write failed. Refused with `Run` if the pack isn't mounted or memory ran out, and with
+/// `File` if the write failed.
 pub fn list<W: Write>(alloc: Global, pack: &[u8], writer: &mut W) -> Result<(), SessionFault>
     ensures wrote { OnOk result (WritesText (listing pack.now) (W.contents writer.old) (W.contents writer.new)) }
     ensures refused { IfErr result (IsListRefusal (listing pack.now)) }

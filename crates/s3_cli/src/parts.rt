@@ -31,7 +31,7 @@ fn line_length(text: &[u8]) -> usize
     }
 }
 
-/// What stands on a line, without the LF, or CR and LF, that ends it.
+/// The text of a line, without the LF, or CR and LF, that ends it.
 fn content(line: &[u8]) -> &[u8]
     ensures { result.now ≡ content_of line.now }
 {
@@ -48,7 +48,7 @@ fn is_marker_line(word: &[u8], line: &[u8]) -> bool
     content(line) == word
 }
 
-/// Where the last line of a text begins, be it whole or not: at its end where the text ends with an LF.
+/// The place at which the last line of a text begins, whole or not. It is the end of the text if the text ends with an LF.
 fn last_line_start(text: &[u8]) -> usize
     ensures within { result ≤ length text.now }
     ensures behind { 0 < result → slice_index text.now (result - 1) ≡ 10 }
@@ -81,7 +81,7 @@ fn split_at_marker<'a>(text: &'a [u8], word: &[u8]) -> Option<(&'a [u8], &'a [u8
     None
 }
 
-/// The parts of a session's input (docs/RUNNING.md, "The input"); none where a marker is missing or out of order.
+/// The parts of a session's input (docs/RUNNING.md, "The input"); none if a marker is missing or out of order.
 #[tactic(auto, unfolding(crate::specs::Parts::parts_of))]
 pub fn split_parts(input: &[u8]) -> Option<Parts<'_>>
     ensures { option_map parts_view result ≡ parts_of input.entry.now }

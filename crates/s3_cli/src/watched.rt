@@ -9,13 +9,13 @@ use std::io::{Read, Write};
 
 /// Bytes that are read one after another. Unlike the library's readers it says whether a read has failed.
 pub trait Source {
-    /// The bytes that reads will give from here on, where they are known.
+    /// The bytes that reads will give from here on, if they are known.
     ghost remaining: { Self → Option (List ℕ) } = { λ _. None };
 
     /// Whether a read has failed.
     ghost has_failed: { Self → Bool };
 
-    /// Reads bytes to the front of `bytes` and answers how many: none only at the end, or where there is no room for any.
+    /// Reads bytes to the front of `bytes` and answers how many: none only at the end, or if there is no room for any.
     fn read(&mut self, bytes: &mut [u8]) -> io::Result<usize>
         ensures bound { ReadsAtMost result bytes.new }
         ensures bytes { ReadConsumes (remaining self.old) (remaining self.new) result bytes.new }
@@ -25,13 +25,13 @@ pub trait Source {
 
 /// Where bytes are written one after another. Unlike the library's writers it says whether a write has failed.
 pub trait Sink {
-    /// The bytes that were written, where they are known.
+    /// The bytes that were written, if they are known.
     ghost contents: { Self → Option (List ℕ) } = { λ _. None };
 
     /// Whether a write has failed.
     ghost has_failed: { Self → Bool };
 
-    /// Writes all of these bytes; where it fails, some of them may be written.
+    /// Writes all of these bytes. If it fails, some of them may be written.
     fn write_all(&mut self, bytes: &[u8]) -> io::Result<()>
         ensures bytes { OnOk result (Appends (contents self.old) (contents self.new) bytes.now) }
         ensures ok { OnOk result (has_failed self.new ≡ has_failed self.old) }

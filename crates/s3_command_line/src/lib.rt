@@ -1,6 +1,6 @@
 //! The command line of `bureau`: the commands with their options, as the help lists them, and what a run or a day has by default.
 //!
-//! What is proved: each call is safe and returns. The words, the help and the defaults are tested, by rows.
+//! Each call is proved to be safe and to return. The options, the help and the defaults are tested with golden tests.
 
 #![tactic(auto)]
 

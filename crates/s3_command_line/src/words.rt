@@ -601,7 +601,7 @@ fn is_error_value(rt: &HostRuntime, name: Option<&str>) -> bool {
     }
 }
 
-/// Whether a name leads to the file that standard error is, or stands for standard input, which is that file.
+/// Whether a name leads to the file of standard error, or means standard input, which is that file.
 fn is_error_name(rt: &HostRuntime, name: &str) -> bool {
     if name == STANDARD_INPUT {
         is_input_standard_error(rt)

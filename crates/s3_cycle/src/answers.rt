@@ -37,7 +37,7 @@ impl Stepper {
         }
     }
 
-    /// Lines from one on, and the steps behind them.
+    /// Lines from one on, and the steps after them.
     #[inline(always)]
     fn put_walk(&mut self, walk: Walk, next: usize)
         requires running { IsRunning self.old }
@@ -52,7 +52,7 @@ impl Stepper {
         }
     }
 
-    /// T lines from one on, and the steps behind them.
+    /// T lines from one on, and the steps after them.
     #[inline(never)]
     pub fn put_time_totals(&mut self, next: usize)
         requires running { IsRunning self.old }
@@ -66,7 +66,7 @@ impl Stepper {
         }
     }
 
-    /// The lines at overflow from one on, and the steps behind them.
+    /// The lines at overflow from one on, and the steps after them.
     #[inline(never)]
     pub fn put_time_overflow(&mut self, next: usize)
         requires running { IsRunning self.old }

@@ -105,7 +105,7 @@ impl Stepper {
         }
     }
 
-    /// Goes on where no record is found.
+    /// Continues if no record is found.
     #[inline(never)]
     pub fn chain_missed(&mut self, missing: Option<Indicator>)
         requires running { IsRunning self.old }

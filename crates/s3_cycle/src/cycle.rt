@@ -80,7 +80,7 @@ impl Cycle {
         &self.stepper.request
     }
 
-    /// The text of the line, or the record, that the request puts out. A line that is to be printed has 1 to 132 bytes.
+    /// The text of the line, or the record, that the request writes. A line that is to be printed has 1 to 132 bytes.
     pub fn record(&self) -> &[u8]
         ensures value { result.now ≡ filled (put self.now) }
         ensures line { IsLine (asked self.now) result.now }
@@ -103,7 +103,7 @@ impl Cycle {
         self.stepper.program.name
     }
 
-    /// Where a run that halts stands in its source: after reply 0 it goes on as the meaning does behind that card.
+    /// The place of a halted run in its source: after reply 0 it continues as the meaning does after that card.
     pub fn stand(&self) -> Stand
         ensures value { result ≡ stand_of self.now }
         ensures card { (source : Source) → AsksAt source self.now result }
@@ -111,21 +111,21 @@ impl Cycle {
         self.stepper.stand()
     }
 
-    /// The bytes of the record whose field the run stands at, or that it puts out; none where it stands at neither.
+    /// The bytes of the record whose field the run is at, or that it writes; none if it is at neither.
     pub fn record_there(&self) -> &[u8]
         ensures { result.now ≡ record_at self.now (stand_of self.now) }
     {
         self.stepper.record_there()
     }
 
-    /// What the CHAIN that the run stands at seeks with the values that it holds, if it stands at one.
+    /// The key or number that the CHAIN at the run's place seeks, with the run's values; none if the run isn't at a CHAIN.
     pub fn sought_there(&self) -> Option<Sought>
         ensures { option_map sought_of result ≡ option_and_then (sought_by self.now) (chain_of self.now.program (stand_of self.now)) }
     {
         self.stepper.sought_there()
     }
 
-    /// The slot of the file that the run stands at: that of a record, of a CHAIN or of an output line.
+    /// The slot of the file at which the run is: the file of a record, of a CHAIN or of an output line.
     pub fn file_there(&self) -> Option<usize>
         ensures { result ≡ file_of self.now.program (stand_of self.now) }
     {
@@ -140,7 +140,7 @@ impl Cycle {
         self.stepper.go_on(&answer);
     }
 
-    /// Goes on past the jump that pends, as after the answer `Done`, and past those behind it, so many at most; how many it was.
+    /// Continues past the pending jump, as after the answer `Done`, and past the jumps after it, at most `most`; answers how many.
     /// It takes no memory.
     pub fn pass_jumps(&mut self, most: NonZeroU16) -> u16
         requires jump { asked self.old ≡ Jump }

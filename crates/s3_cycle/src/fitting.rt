@@ -23,7 +23,7 @@ fn is_record_or_none(length: usize, answer: &Answer<'_>) -> bool
     }
 }
 
-/// Whether an answer says that it is done, where nothing can refuse it.
+/// Whether an answer says that it is done, if nothing can refuse it.
 #[tactic(auto, unfolding(crate::specs::Inner::Requests::answer_of))]
 fn is_done(answer: &Answer<'_>) -> bool
     ensures { result ≡ fits_done refuses_never (answer_of answer.now) }
@@ -31,7 +31,7 @@ fn is_done(answer: &Answer<'_>) -> bool
     matches!(answer, Answer::Done)
 }
 
-/// Whether an answer says that it is done, or is a refusal of a record behind the last one.
+/// Whether an answer says that it is done, or is a refusal of a record after the last one.
 #[tactic(auto, unfolding(crate::specs::Inner::Requests::answer_of))]
 fn is_appended_or_refused(answer: &Answer<'_>) -> bool
     ensures { result ≡ fits_done refuses_append (answer_of answer.now) }
@@ -92,7 +92,7 @@ fn fits_call(call: &FileCall, answer: &Answer<'_>) -> bool
 }
 
 /// Whether an answer fits a request, as `Cycle::resume` demands of an answer to the pending one: a record of its file's length, a
-/// card's 96 bytes, or none, where one is asked for; for a record that is put out, that it is done or for which halt it isn't; a
+/// card's 96 bytes, or none, if one is asked for; for a record that is written, that it is done or for which halt it isn't; a
 /// digit that is allowed, for a halt; and for a line or a jump that it is done. No answer fits the end.
 #[tactic(auto, unfolding(crate::specs::Inner::Requests::request_of))]
 pub fn fits(request: &Request, answer: &Answer<'_>) -> bool

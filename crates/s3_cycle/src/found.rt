@@ -21,7 +21,7 @@ impl Model for FoundRecord {
 impl FoundRecord {
     ghost use Rattle.std.specs.Prelude.{◌≡◌, ◌≤◌, length};
 
-    /// No record is found yet; refused only where memory runs out.
+    /// No record is found yet; refused only if memory runs out.
     pub fn none(alloc: Global) -> Result<FoundRecord, AllocError> {
         Ok(FoundRecord {
             record: Box::new(alloc, Record::new())?,

@@ -1,4 +1,4 @@
-//! Step 1: heading and detail lines; behind them 1P goes off, and each of H1 to H9 that is on halts.
+//! Step 1: heading and detail lines; after them 1P is turned off, and each of H1 to H9 that is on halts.
 ghost use Rattle.std.specs.Prelude.{◌≡◌, ◌+◌, true, false, IfSome, IfNone};
 ghost use Rattle.s3_lines.specs.Ranges.{is_between};
 ghost use Rattle.s3_lines.specs.declared.indicator.Indicator.TheVariants.{Halt};
@@ -19,7 +19,7 @@ use s3_program::starts::Walk;
 const LAST_HALT: u8 = 9;
 
 impl Stepper {
-    /// Step 1 from a line on, and the steps behind it.
+    /// Step 1 from a line on, and the steps after it.
     pub fn put_headings(&mut self, next: usize)
         requires running { IsRunning self.old }
         requires begins { CanBegin self.old.program self.old.progress }
@@ -71,7 +71,7 @@ impl Stepper {
         }
     }
 
-    /// Those of H1 to H9 from a number on, and the steps behind them.
+    /// Those of H1 to H9 from a number on, and the steps after them.
     fn show_halts(&mut self, from: u8)
         requires running { IsRunning self.old }
         requires begins { CanBegin self.old.program self.old.progress }
@@ -87,7 +87,7 @@ impl Stepper {
         }
     }
 
-    /// Goes on behind the halt of one of H1 to H9, which goes off.
+    /// Continues after the halt of one of H1 to H9, which is turned off.
     pub fn show_later_halts(&mut self, number: u8)
         requires running { IsRunning self.old }
         requires begins { CanBegin self.old.program self.old.progress }

@@ -12,7 +12,7 @@ use crate::stepper::Stepper;
 use std::num::NonZeroU16;
 
 impl Stepper {
-    /// Passes the jump that pends and, where it is one to calculations, those to calculations behind it, so many at most: how many
+    /// Passes the pending jump and, if it is one to calculations, the jumps to calculations after it, so many at most: how many
     /// they were.
     pub fn pass_jumps(&mut self, most: NonZeroU16) -> u16
         requires waiting { IsWaiting self.old }

@@ -40,7 +40,7 @@ impl Stepper {
         self.wait(request, Point::Lines { walk, next });
     }
 
-    /// Puts the carriage where it has moved to; the overflow indicator goes on with overflow.
+    /// Puts the carriage where it has moved to; overflow turns the overflow indicator on.
     fn move_carriage(&mut self, to: Moved)
         requires { IsRunning self.old }
         ensures { Changes self.old self.new (λ source. put_carriage source (place_moved to)) }
@@ -51,7 +51,7 @@ impl Stepper {
         }
     }
 
-    /// The carriage stands there.
+    /// Puts the carriage there.
     fn put_carriage(&mut self, to: Carriage)
         requires { AreSound self.old.program self.old.state }
         ensures { Changes self.old self.new (λ source e. record e { page = to.page; line = to.line }) }

@@ -22,7 +22,7 @@ use s3_operator::HaltCode;
 use s3_program::starts::TypeStart;
 
 impl Stepper {
-    /// Step 2, and the steps behind it.
+    /// Step 2, and the steps after it.
     pub fn begin_reading(&mut self)
         requires running { IsRunning self.old }
         requires begins { CanBegin self.old.program self.old.progress }
@@ -71,7 +71,7 @@ impl Stepper {
         }
     }
 
-    /// Reads the files behind a place, and selects a record. The head of a file alone needs no search, if it has no match fields.
+    /// Reads the files after a place, and selects a record. The head of a file alone needs no search, if it has no match fields.
     fn read_behind(&mut self, place: usize)
         requires running { IsRunning self.old }
         requires within { place < length self.old.progress.reading.files.items }
@@ -104,7 +104,7 @@ impl Stepper {
         self.wait(request, Point::Head { place });
     }
 
-    /// Goes on where a file has ended.
+    /// Continues if a file has ended.
     #[inline(never)]
     pub fn end_file(&mut self, place: usize)
         requires running { IsRunning self.old }

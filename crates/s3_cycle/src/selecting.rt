@@ -55,7 +55,7 @@ impl Stepper {
         selection
     }
 
-    /// Steps 4 and 5 with the head of a file, and the steps behind them.
+    /// Steps 4 and 5 with the head of a file, and the steps after them.
     #[inline(always)]
     pub fn process(&mut self, place: usize)
         requires running { IsRunning self.old }

@@ -1,4 +1,4 @@
-//! Where a run that halts stands in its source, and what it holds there.
+//! The place of a halted run in its source, and what it holds there.
 ghost use Rattle.std.specs.Prelude.{◌≡◌, option_map};
 ghost use Rattle.std.specs.Option.{option_and_then, option_copied};
 ghost use Rattle.s3_cycle.specs.Inner.Requests.{sought_of};
@@ -13,7 +13,7 @@ use crate::stepper::Stepper;
 use s3_instructions::calculation::{Asked, Chained};
 use s3_program::starts::Walk;
 
-/// Where a run that halts stands in its source: a line by its place among those of its sheet, from 0, a file by its slot, in the
+/// The place of a halted run in its source: a line by its place among the lines of its sheet, from 0, a file by its slot, in the
 /// order of the F sheet.
 #[derive(Clone, Copy)]
 pub enum Stand {
@@ -65,7 +65,7 @@ fn chained(asked: &Asked) -> Option<&Chained>
 }
 
 impl Stepper {
-    /// The output line before the next one of those that are put out together.
+    /// The output line before the next one of the lines that are written together.
     fn output_before(&self, walk: Walk, next: usize) -> Stand
         ensures { result ≡ output_before self.now.program walk next }
     {
@@ -108,7 +108,7 @@ impl Stepper {
         }
     }
 
-    /// Where a run stands that waits for a reply, by what it would do after reply 0.
+    /// The place of a run that waits for a reply, by what it would do after reply 0.
     fn stand_before(&self, then: Continuation) -> Stand
         ensures { result ≡ stand_before self.now.program self.now.progress then }
     {
@@ -131,7 +131,7 @@ impl Stepper {
         }
     }
 
-    /// Where a run that halts stands.
+    /// The place of a halted run.
     pub fn stand(&self) -> Stand
         ensures { result ≡ stand_of self.now }
     {
@@ -154,7 +154,7 @@ impl Stepper {
         }
     }
 
-    /// The bytes of the record whose field a run stands at, or that it puts out; none where it stands at neither.
+    /// The bytes of the record whose field a run is at, or that it writes; none if it is at neither.
     pub fn record_there(&self) -> &[u8]
         ensures { result.now ≡ record_at self.now (stand_of self.now) }
     {
@@ -188,7 +188,7 @@ impl Stepper {
         }
     }
 
-    /// What the CHAIN that a run stands at seeks, if it stands at one.
+    /// The key or number that the CHAIN at a run's place seeks; none if the run isn't at a CHAIN.
     pub fn sought_there(&self) -> Option<Sought>
         requires { IsRunning self.now }
         ensures { option_map sought_of result ≡ option_and_then (sought_by self.now) (chain_of self.now.program (stand_of self.now)) }
@@ -210,7 +210,7 @@ impl Stepper {
         }
     }
 
-    /// The slot of the file that a run stands at: that of a record, of a CHAIN or of an output line.
+    /// The slot of the file at which a run is: the file of a record, of a CHAIN or of an output line.
     pub fn file_there(&self) -> Option<usize>
         requires { IsRunning self.now }
         ensures { result ≡ file_of self.now.program (stand_of self.now) }

@@ -31,13 +31,13 @@ pub struct Stepper {
     pub outputs: OutputSheet,
     /// The request that waits for an answer.
     pub request: Request,
-    /// What goes on with the answer.
+    /// What continues with the answer.
     pub point: Point,
     /// What the run holds.
     pub state: State,
     /// How far it has come.
     pub progress: Progress,
-    /// The line that is put out, as it is composed.
+    /// The line that is written, as it is composed.
     pub composition: Composition,
 }
 

@@ -54,7 +54,7 @@ impl Stepper {
         }
     }
 
-    /// The totals before the selected record, and the steps behind them.
+    /// The totals before the selected record, and the steps after them.
     pub fn total(&mut self, selection: Selection)
         requires running { IsRunning self.old }
         requires taken { IsTaken self.old.program self.old.progress selection }
@@ -79,7 +79,7 @@ impl Stepper {
         }
     }
 
-    /// T lines before the selected record from one on, and the steps behind them.
+    /// T lines before the selected record from one on, and the steps after them.
     #[inline(never)]
     pub fn put_totals(&mut self, next: usize)
         requires running { IsRunning self.old }
@@ -108,7 +108,7 @@ impl Stepper {
         }
     }
 
-    /// Step 9 where the overflow indicator is on, and the steps behind it.
+    /// Step 9 when the overflow indicator is on, and the steps after it.
     #[inline(always)]
     pub fn begin_overflow(&mut self, selection: Selection)
         requires running { IsRunning self.old }
@@ -123,7 +123,7 @@ impl Stepper {
         }
     }
 
-    /// The lines at overflow from one on; then the overflow indicator goes off, and the steps behind follow.
+    /// The lines at overflow from one on; then the overflow indicator is turned off, and the steps after them follow.
     pub fn put_overflow(&mut self, selection: Selection, next: usize)
         requires running { IsRunning self.old }
         requires taken { IsTaken self.old.program self.old.progress selection }

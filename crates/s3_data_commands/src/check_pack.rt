@@ -43,8 +43,8 @@ pub const CHECK: CommandWords = CommandWords {
     words: &[PACK, JSON],
 };
 
-/// Does what the options of `bureau check` ask, and gives the exit status: 0 where nothing is wrong with the pack, 4 where something
-/// is, which standard output tells a line each; else that of the refusal, whose sentence it wrote on standard error.
+/// Runs `bureau check`, and returns the exit status: 0 if nothing is wrong with the pack, 4 if something is, with a line for each
+/// finding on standard output. After a refusal it is the status of the refusal, whose sentence was written on standard error.
 pub fn check(rt: &HostRuntime, matches: &ArgMatches<'_>) -> u8
     ensures { result ≤ 4 }
 {
@@ -85,7 +85,7 @@ fn write_wrongs(rt: &HostRuntime, wrongs: &[Wrong]) -> Result<(), Fault> {
     }
 }
 
-/// That so many slots of a pack need a person.
+/// The refusal of a pack with this number of slots that need a person.
 pub fn waits(alloc: Global, path: &str, count: usize) -> Fault {
     match waiting_sentence(alloc, path, count) {
         Ok(sentence) => Fault::Waits(sentence),

@@ -2,7 +2,7 @@
 ghost use Rattle.std.specs.Prelude.{◌≤◌, ◌<◌, IfOk};
 
 use crate::fault::Fault;
-use crate::journaling::journal_for;
+use crate::journaling::{journal_for, unmade_if_refused};
 use crate::pack_words::{
     Save, area_number, care_sentence, keep_input, label_of, no_room_for_copy, pack_of,
     pack_to_change, refused, saved, tell_done,
@@ -65,8 +65,8 @@ pub const COPY: CommandWords = CommandWords {
     ],
 };
 
-/// Does what the options of `bureau copy` ask, and gives the exit status: 0 where it is done, else that of the refusal, whose
-/// sentence it wrote on standard error; then nothing was saved.
+/// Runs `bureau copy`, and returns the exit status: 0 if it is done, else the status of the refusal, whose sentence was written
+/// on standard error; then nothing was saved.
 pub fn copy(rt: &HostRuntime, matches: &ArgMatches<'_>) -> u8
     ensures { result ≤ 4 }
 {
@@ -126,7 +126,7 @@ fn copy_file(rt: &HostRuntime, matches: &ArgMatches<'_>) -> Result<(), Fault> {
         keep_input(rt, order.save, order.path)?;
     }
     let journal = journal_for(rt, matches, order.into, &into, Posting::Nothing)?;
-    let pack = with_copy(rt, order, into)?;
+    let pack = unmade_if_refused(rt, &journal, with_copy(rt, order, into))?;
     let save = Save {
         locked,
         journal,

@@ -3,7 +3,7 @@ ghost use Rattle.std.specs.Prelude.{◌≤◌, ◌<◌};
 
 use crate::fault::Fault;
 use crate::filled::push_name;
-use crate::journaling::journal_for;
+use crate::journaling::{journal_for, unmade_if_refused};
 use crate::pack_words::{
     Save, area_number, care_sentence, label_of, pack_to_change, refused, saved, tell_done,
     wrong_words,
@@ -58,8 +58,8 @@ pub const DELETE: CommandWords = CommandWords {
     ],
 };
 
-/// Does what the options of `bureau delete` ask, and gives the exit status: 0 where it is done, else that of the refusal, whose
-/// sentence it wrote on standard error; then nothing was saved.
+/// Runs `bureau delete`, and returns the exit status: 0 if it is done, else the status of the refusal, whose sentence was written
+/// on standard error; then nothing was saved.
 pub fn delete(rt: &HostRuntime, matches: &ArgMatches<'_>) -> u8
     ensures { result ≤ 4 }
 {
@@ -77,7 +77,8 @@ fn delete_file(rt: &HostRuntime, matches: &ArgMatches<'_>) -> Result<(), Fault> 
     let (pack, locked) = pack_to_change(rt, matches, path, save)?;
     let journal = journal_for(rt, matches, path, &pack, Posting::Nothing)?;
     let freed = freed_file(rt.alloc(), area, chosen, &pack);
-    let pack = without(rt.alloc(), matches, area, chosen, pack)?;
+    let done = without(rt.alloc(), matches, area, chosen, pack);
+    let pack = unmade_if_refused(rt, &journal, done)?;
     let how = Save {
         locked,
         journal,

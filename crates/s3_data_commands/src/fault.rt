@@ -44,8 +44,9 @@ impl<T: Drop> From<AllocFailed<T>> for Fault {
 }
 
 impl Fault {
-    /// Writes the sentence of a refusal, and gives its exit status: 2 for words, 3 for files, 4 where it is done up to what a
-    /// person has to look at, else 1. Nothing is written if standard error is a file of the command, or if the line is written.
+    /// Writes the sentence of a refusal, and returns its exit status: 2 for options, 3 for files, 4 if the work is done up to
+    /// what a person has to look at, else 1. Nothing is written if standard error is a file of the command, or if the line is
+    /// written.
     pub fn tell<W: Write>(&self, writer: &mut W) -> u8
         ensures { result ≤ 4 }
     {
@@ -103,7 +104,7 @@ fn push_call(
     })
 }
 
-/// What helps where a file can't be read.
+/// The cure if a file can't be read.
 fn read_cure(kind: ErrorKind) -> &'static str {
     match kind {
         ErrorKind::NotFound | ErrorKind::NotADirectory =>
@@ -115,7 +116,7 @@ fn read_cure(kind: ErrorKind) -> &'static str {
     }
 }
 
-/// What helps where a file can't be saved.
+/// The cure if a file can't be saved.
 fn save_cure(kind: ErrorKind) -> &'static str {
     match kind {
         ErrorKind::NotFound | ErrorKind::NotADirectory =>

@@ -234,8 +234,8 @@ fn no_indicator(rt: &HostRuntime, text: &str) -> Fault {
     }
 }
 
-/// The places of the cards of a deck's first source, from one up to but without another: those of the first job that compiles one, or,
-/// of a deck that doesn't begin with a statement, all cards up to one that ends a source. None where there are none.
+/// The places of the cards of a deck's first source, from one up to but without another: those of the first job that compiles
+/// one, or, of a deck that doesn't begin with a statement, all cards up to one that ends a source. None if there are none.
 fn source_of(rt: &HostRuntime, deck: &Deck) -> Result<Option<CardRange>, AllocError>
     ensures order { IfOk result (λ source. IfSome source (λ range. range.from ≤ range.to)) }
     ensures within { IfOk result (λ source. IfSome source (λ range. range.to ≤ length deck.now)) }

@@ -31,16 +31,33 @@ pub fn journal_for<'a>(
     };
     keep_apart(rt, matches, name)?;
     let limit = limit_of(rt, matches)?;
+    let before = checksum_of(rt.alloc(), pack)?;
     let file = match JournalFile::open(rt, name, limit) {
         Ok(file) => file,
         Err(refusal) => return Err(of_journal(rt, &refusal)),
     };
-    let before = checksum_of(rt.alloc(), pack)?;
     let journal = OpenJournal { file, before };
     if !matches.get_flag("again") {
         journal.test_start(rt, path, posting)?;
     }
     Ok(Some(journal))
+}
+
+/// What a command did before its line is written. If it was refused, a journal that it made is removed again.
+pub fn unmade_if_refused<T: Drop>(
+    rt: &HostRuntime,
+    journal: &Option<OpenJournal<'_>>,
+    done: Result<T, Fault>,
+) -> Result<T, Fault> {
+    match done {
+        Ok(done) => Ok(done),
+        Err(fault) => {
+            if let Some(journal) = journal {
+                journal.file.remove_if_unused(rt);
+            }
+            Err(fault)
+        }
+    }
 }
 
 /// No journal; `--again` alone is refused.
@@ -82,7 +99,8 @@ impl<'a> OpenJournal<'a> {
         }
     }
 
-    /// Appends the line of what the command did, given the pack that it leaves, and brings the line to the disk.
+    /// Appends the line of what the command did, given the pack that it leaves, and brings the line to the disk. A journal that got no
+    /// line and was made by the command is removed again.
     pub fn append(&mut self, rt: &HostRuntime, pack: &[u8], work: Work) -> Result<(), Fault> {
         let after = checksum_of(rt.alloc(), pack)?;
         let line = NewLine {
@@ -92,7 +110,10 @@ impl<'a> OpenJournal<'a> {
         };
         match self.file.append(rt, line, work) {
             Ok(()) => Ok(()),
-            Err(refusal) => Err(of_journal(rt, &refusal)),
+            Err(refusal) => {
+                self.file.remove_if_unused(rt);
+                Err(of_journal(rt, &refusal))
+            }
         }
     }
 }

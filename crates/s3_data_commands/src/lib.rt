@@ -1,11 +1,11 @@
-//! The commands `check`, `copy`, `delete`, `sort`, `unload` and `load`: their words, over real files, standard input and standard
-//! output. docs/PACK_CARE.md and docs/DATA.md have them. `words` has those that other commands over a pack take too.
+//! The commands `check`, `copy`, `delete`, `sort`, `unload` and `load`: their options, over real files, standard input and
+//! standard output. docs/PACK_CARE.md and docs/DATA.md have them. `words` has the options that other commands over a pack take
+//! too.
 //!
-//! Each call is proved safe and returns, and a status is at most 4. What is reported of a pack is proved in `s3_pack_check`, what becomes of
-//! one in `s3_pack_care`, what is written of a file in `s3_unload` and `s3_cells`, what a table gives in `s3_load`, and what the lines of a
-//! journal let begin in `s3_journal`.
-//! That the options are followed, which source of a deck is the layout, and the texts of refusals are tested with rows. What files,
-//! standard input and standard output give and take isn't claimed: they are used as the toolchain offers them.
+//! Each call is proved to be safe and to return, and a status is at most 4. The work of the commands is proved in other crates:
+//! `s3_pack_check`, `s3_pack_care`, `s3_unload`, `s3_cells`, `s3_load` and `s3_journal`. That the options are followed, which
+//! source of a deck is the layout, and the texts of refusals are tested with golden tests. What files, standard input and
+//! standard output give and take isn't claimed: they are used as the toolchain offers them.
 #![tactic(auto)]
 
 pub mod cells;

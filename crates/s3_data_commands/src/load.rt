@@ -5,7 +5,7 @@ use crate::cells::{Reading, with_cells};
 use crate::fault::Fault;
 use crate::filled::{Words, push_shown_name};
 use crate::inputs::{delimiter_of, layout_of};
-use crate::journaling::{OpenJournal, journal_for};
+use crate::journaling::{OpenJournal, journal_for, unmade_if_refused};
 use crate::load_sentences::{heading_sentence, load_sentence, value_sentence};
 use crate::pack_words::{
     Save, keep_input, label_of, level_of, no_room_sentence, number_of, pack_to_change, refused,
@@ -137,8 +137,8 @@ pub const LOAD: CommandWords = CommandWords {
     ],
 };
 
-/// Does what the options of `bureau load` ask, and gives the exit status: 0 where it is done, else that of the refusal, whose
-/// sentences it wrote on standard error; then no pack is changed.
+/// Runs `bureau load`, and returns the exit status: 0 if it is done, else the status of the refusal, whose sentences were written
+/// on standard error; then no pack is changed.
 pub fn load(rt: &HostRuntime, matches: &ArgMatches<'_>) -> u8
     ensures { result ≤ 4 }
 {
@@ -231,7 +231,8 @@ fn load_journaled<'a>(
         return append_once(rt, matches, words, layout, pack);
     }
     let journal = journal_for(rt, matches, words.path, pack, Posting::Nothing)?;
-    let loaded = loaded(rt, words, layout, pack, rt.stdin())?;
+    let done = loaded(rt, words, layout, pack, rt.stdin());
+    let loaded = unmade_if_refused(rt, &journal, done)?;
     Ok((loaded, journal, Work::Load))
 }
 
@@ -251,7 +252,8 @@ fn append_once<'a>(
         file: added.file.as_str(),
     };
     let journal = journal_for(rt, matches, words.path, pack, posting)?;
-    let loaded = loaded(rt, words, layout, pack, table.as_slice())?;
+    let done = loaded(rt, words, layout, pack, table.as_slice());
+    let loaded = unmade_if_refused(rt, &journal, done)?;
     Ok((loaded, journal, Work::Append(added)))
 }
 
@@ -502,7 +504,7 @@ fn two_digits(tens: u8, ones: u8) -> u8 {
     (tens % 16).saturating_mul(10).saturating_add(ones % 16)
 }
 
-/// Refuses words for a new file where the records go after those of one that is there.
+/// Refuses options for a new file if the records are added to an existing one.
 fn test_words(rt: &HostRuntime, matches: &ArgMatches<'_>) -> Result<(), Fault> {
     let is_new = matches.get_one::<u32>("records").is_some()
         || matches.get_one::<u16>("tracks").is_some()
@@ -595,7 +597,7 @@ fn tell_values(
     Ok(())
 }
 
-/// Tells how many faults of so many aren't told.
+/// Reports how many of so many faults aren't reported.
 fn tell_others(rt: &HostRuntime, count: u64) {
     let others = count.saturating_sub(MOST_TOLD as u64);
     if others == 1 {

@@ -12,7 +12,7 @@ use s3_record_types::TypeFault;
 use s3_refusals::Shown;
 use std::alloc::{AllocError, Global};
 
-/// The characters that other programs put between the cells of a table, each with what to say where it is there.
+/// The characters that other programs put between the cells of a table, each with what to report if a table has it.
 const DELIMITER_CURES: [(u8, &str); 3] = [
     (
         b'\t',
@@ -160,8 +160,8 @@ fn push_unknown(text: &mut String, column: usize, name: &[u8]) -> Result<(), All
     text.push_str(unknown_cure(name))
 }
 
-/// What mends a name in the heading that no field has: where a character that other programs put between cells is in it, that
-/// character is reported as the delimiter that may be meant.
+/// The cure of a name in the heading that no field has. If the name has a character that other programs put between cells, the
+/// cure names it as a possible delimiter.
 fn unknown_cure(name: &[u8]) -> &'static str {
     for (delimiter, cure) in DELIMITER_CURES {
         if name.contains(&delimiter) {
@@ -332,8 +332,8 @@ pub fn push_quoted(text: &mut String, cell: &[u8]) -> Result<(), AllocError> {
     text.push('"')
 }
 
-/// Appends the text of a cell, up to its 40th character, as a terminal shows it: a control character as `\x` and its code. Of a cell
-/// that is no text of UTF-8, each byte that isn't ASCII is shown so.
+/// Appends the text of a cell, up to its 40th character, as a terminal shows it: a control character as `\x` and its code. If a
+/// cell isn't UTF-8, each byte that isn't ASCII is shown in this way.
 fn push_shown(text: &mut String, cell: &[u8]) -> Result<(), AllocError> {
     match str::from_utf8(cell) {
         Ok(shown) => push_start(text, shown),

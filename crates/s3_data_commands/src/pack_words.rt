@@ -1,4 +1,4 @@
-//! What the words for the care of a pack give, and the sentences of its refusals.
+//! The values of the options for the care of a pack, and the sentences of its refusals.
 ghost use Rattle.std.specs.Prelude.{◌≤◌, ◌<◌, IfOk};
 
 use crate::fault::{Fault, Use, of_call, of_pack};
@@ -166,7 +166,7 @@ pub fn refuse_file_there(rt: &HostRuntime, save: &str) -> Result<(), Fault> {
     }
 }
 
-/// Why a pack isn't saved where a file is, and what helps: `--overwrite` writes over packs and empty files only.
+/// Why a pack isn't saved over an existing file, and the cure: `--overwrite` writes only over packs and empty files.
 fn there_words(rt: &HostRuntime, save: &str) -> &'static str {
     if is_pack_at(rt, Path::new(save)) {
         "{path} is there already; give another name, or --overwrite to write over it"
@@ -177,7 +177,7 @@ fn there_words(rt: &HostRuntime, save: &str) -> &'static str {
     }
 }
 
-/// Refuses to save over a file that the command reads beside the pack that it changes: whatever else is in it would be lost.
+/// Refuses to save over a file that the command reads in addition to the pack that it changes: its other contents would be lost.
 pub fn keep_input(rt: &HostRuntime, save: &str, input: &str) -> Result<(), Fault> {
     if !is_same_file(rt, save, input) {
         return Ok(());
@@ -298,9 +298,9 @@ pub struct Save<'j> {
     pub work: Work,
 }
 
-/// Saves a pack, whole or not at all, once its journal has the line of the command. Without `--overwrite` a file that has appeared by
-/// now isn't overwritten. A new file lets nobody do more than the pack that was read. The packs that were read aren't taken for leftovers
-/// of a save.
+/// Saves a pack, whole or not at all, once its journal has the line of the command. Without `--overwrite` a file that has
+/// appeared by now isn't overwritten. A new file has no more permissions than the pack that was read. The packs that were read
+/// aren't taken for leftovers of a save.
 pub fn saved<'a>(
     rt: &HostRuntime,
     matches: &ArgMatches<'_>,
@@ -384,8 +384,8 @@ pub fn label_words(fault: LabelFault) -> &'static str {
     }
 }
 
-/// Why an area has no space for a file that takes so many tracks, if that is known: with the tracks that are free there, and what
-/// helps beside the deletion of another file.
+/// Why an area has no space for a file that takes so many tracks, if that is known: with the tracks that are free there, and the
+/// cures other than the deletion of another file.
 pub fn no_room_sentence(
     alloc: Global,
     words: Words<'_>,
@@ -419,7 +419,7 @@ fn push_no_room(
     )
 }
 
-/// That a copy of a file has no room in an area of a pack.
+/// The refusal of a copy for which an area of a pack has no space.
 pub fn no_room_for_copy<'a>(
     rt: &HostRuntime,
     from: &str,
@@ -456,7 +456,7 @@ fn tracks_of(rt: &HostRuntime, path: &str, area: u16, name: Name) -> Result<Opti
     }
 }
 
-/// How much room an area of the pack at a path has, if that can be told.
+/// The free space of an area of the pack at a path; none if it isn't known.
 pub fn room_in(rt: &HostRuntime, path: &str, area: u16) -> Result<Option<FreeRoom>, Fault> {
     let pack = pack_of(rt, path)?;
     Ok(free_room(rt.alloc(), &pack, area).ok())

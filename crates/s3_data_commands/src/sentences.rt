@@ -83,7 +83,7 @@ pub fn unload_sentence<'a>(
     }
 }
 
-/// How many records of a file are of other types than the one of its table.
+/// The sentence that reports how many records of a file are of other types than its table.
 pub fn others_sentence<'a>(
     alloc: Global,
     path: &'a str,

@@ -3,7 +3,7 @@ ghost use Rattle.std.specs.Prelude.{◌≤◌, ◌<◌, IfOk};
 
 use crate::fault::Fault;
 use crate::filled::Words;
-use crate::journaling::journal_for;
+use crate::journaling::{journal_for, unmade_if_refused};
 use crate::pack_words::{
     Save, care_sentence, label_of, label_words, level_of, mount_words, no_room_for_copy, number_of,
     pack_to_change, refused, saved, tell_done,
@@ -51,8 +51,8 @@ pub const SORT: CommandWords = CommandWords {
     ],
 };
 
-/// Does what the options of `bureau sort` ask, and gives the exit status: 0 where it is done, else that of the refusal, whose
-/// sentence it wrote on standard error; then nothing was saved.
+/// Runs `bureau sort`, and returns the exit status: 0 if it is done, else the status of the refusal, whose sentence was written
+/// on standard error; then nothing was saved.
 pub fn sort(rt: &HostRuntime, matches: &ArgMatches<'_>) -> u8
     ensures { result ≤ 4 }
 {
@@ -62,7 +62,7 @@ pub fn sort(rt: &HostRuntime, matches: &ArgMatches<'_>) -> u8
     }
 }
 
-/// What is sorted, and by what.
+/// What is sorted, and its fields.
 #[derive(Drop)]
 struct Order<'a> {
     path: &'a str,
@@ -112,11 +112,11 @@ fn sort_file(rt: &HostRuntime, matches: &ArgMatches<'_>) -> Result<(), Fault> {
     let (pack, locked) = pack_to_change(rt, matches, order.path, order.save)?;
     let journal = journal_for(rt, matches, order.path, &pack, Posting::Nothing)?;
     let pack = if order.is_copied {
-        with_copy(rt, &order, pack)?
+        unmade_if_refused(rt, &journal, with_copy(rt, &order, pack))?
     } else {
         pack
     };
-    let pack = sorted(rt.alloc(), &order, pack)?;
+    let pack = unmade_if_refused(rt, &journal, sorted(rt.alloc(), &order, pack))?;
     let save = Save {
         locked,
         journal,
@@ -126,7 +126,7 @@ fn sort_file(rt: &HostRuntime, matches: &ArgMatches<'_>) -> Result<(), Fault> {
     tell_done(rt, sorted_sentence(rt.alloc(), &order), saved)
 }
 
-/// A pack with a copy of a file of a level beside it.
+/// A pack with a copy of a file of a level in addition to it.
 fn with_copy(rt: &HostRuntime, order: &Order<'_>, pack: Vec<u8>) -> Result<Vec<u8>, Fault>
     requires { order.now.level < 3 }
 {
@@ -197,7 +197,7 @@ fn fields_of(alloc: Global, text: &str) -> Result<Vec<SortField>, Fault> {
     )?))
 }
 
-/// Appends what is wrong with a part, with a comma before it where it isn't the first.
+/// Appends what is wrong with a part, with a comma before it if it isn't the first.
 fn push_wrong(wrong: &mut String, part: &str, reason: &'static str) -> Result<(), AllocError> {
     if !wrong.is_empty() {
         wrong.push_str(", ")?;
@@ -278,7 +278,7 @@ fn form_of(text: &str) -> (&str, Form) {
     }
 }
 
-/// The place in a record that a text of digits gives; 65,535 for each that is larger, which is beyond every record.
+/// The place in a record that a text of digits gives; 65,535, which is beyond every record, for any larger place.
 fn place_of(text: &str) -> Option<u16> {
     let is_signed = text.starts_with("+");
     if is_signed {

@@ -84,8 +84,8 @@ pub const UNLOAD: CommandWords = CommandWords {
     ],
 };
 
-/// Does what the options of `bureau unload` ask, and gives the exit status: 0 where it is done, 4 where a value can't be shown and
-/// the rows before it are written; else that of the refusal, whose sentence it wrote on standard error.
+/// Runs `bureau unload`, and returns the exit status: 0 if it is done, 4 if a value can't be shown and the rows before it are
+/// written. After a refusal it is the status of the refusal, whose sentence was written on standard error.
 pub fn unload(rt: &HostRuntime, matches: &ArgMatches<'_>) -> u8
     ensures { result ≤ 4 }
 {
@@ -142,7 +142,7 @@ fn unload_lines(
     }
 }
 
-/// Writes the table of a file. Returns how many records are of other types than the one that is asked for, and have no row.
+/// Writes the table of a file. Returns the number of records of other types than the requested one, which have no row.
 fn unload_table(
     rt: &HostRuntime,
     matches: &ArgMatches<'_>,
@@ -199,7 +199,8 @@ fn form_of(rt: &HostRuntime, matches: &ArgMatches<'_>) -> Result<Option<LineForm
     }
 }
 
-/// Refuses words that would do nothing: those that choose in a layout where there is none, and a delimiter where there are no cells.
+/// Refuses options that would have no effect: those that choose in a layout if there is none, and a delimiter if there are no
+/// cells.
 fn test_words(
     rt: &HostRuntime,
     matches: &ArgMatches<'_>,

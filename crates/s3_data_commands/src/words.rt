@@ -69,7 +69,7 @@ pub const LEVEL_AREA: Word = Word {
     help: "The area of the file, a level",
 };
 
-/// What else `LEVEL_AREA` is called.
+/// Another name of `LEVEL_AREA`.
 pub const LEVEL_ALIAS: Alias = Alias {
     word: "area",
     name: "level",

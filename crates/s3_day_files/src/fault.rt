@@ -84,7 +84,7 @@ pub enum DayFault<'a> {
     Deck(LevelId),
     /// This output would overwrite a file.
     Exists(&'a str),
-    /// The pack would be saved over this file, which isn't the pack that is read.
+    /// The pack would be saved over this file, which isn't the pack that was read.
     OtherPack(&'a str),
     /// This output is the same file as another output, or as a file that is read.
     Same(&'a str),
@@ -100,7 +100,7 @@ pub enum DayFault<'a> {
     Restore(&'a str),
     /// The day can't be taken up at that line.
     NoTakingUp,
-    /// The day isn't that of the log.
+    /// The day isn't the day of the log.
     Redo,
     /// The journal doesn't let the day begin, or didn't get its line.
     Journal(JournalRefusal<'a>),

@@ -149,7 +149,7 @@ impl<'a> Decks<'a> {
         take_up(rt, order, LevelId::Two, &mut self.two)
     }
 
-    /// Reports jobs that go on over statements of the next ones. Whether the day is begun all the same, and whether level 1's deck can
+    /// Reports jobs that continue over statements of later jobs. Whether the day is begun all the same, and whether level 1's deck can
     /// be read.
     pub fn look(&self, rt: &HostRuntime, order: &Order<'a>) -> Result<Looked, DayFault<'a>> {
         look_for_strays(rt, order, &self.one, &self.two)

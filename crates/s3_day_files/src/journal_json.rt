@@ -1,15 +1,16 @@
 //! `bureau journal --json`: a line of JSON for each line of a journal.
 
 use json::Writer;
-use s3_journal::{LevelCount, PostedDay, Work};
+use s3_journal::{LevelCount, PostedDay, Saved, Work};
 use std::alloc::{AllocError, Global};
 
-/// A line of a journal as an object, with the line feed, given the name of the journal and the file in which the pack is kept that the
-/// line's command left, if one is known.
+/// A line of a journal as an object, with the line feed, given the name of the journal, whether the pack was saved that the line's command
+/// left, and the file in which it is kept, if one is known.
 pub fn json_line(
     alloc: Global,
     journal: &str,
     day: &PostedDay,
+    saved: Saved,
     kept: Option<&str>,
 ) -> Result<String, AllocError> {
     let mut object = Object {
@@ -19,6 +20,7 @@ pub fn json_line(
     object.text("journal", journal)?;
     object.day(day)?;
     object.done(&day.work)?;
+    object.saved(saved)?;
     object.optional("kept", kept)?;
     object.json.end_object()?;
     object.ended()
@@ -80,6 +82,16 @@ impl Object {
         self.level("level1", one)?;
         self.level("level2", two)?;
         self.optional("file", file_of(work))
+    }
+
+    /// Whether the pack was saved that the command left; null if this isn't known.
+    fn saved(&mut self, saved: Saved) -> Result<(), AllocError> {
+        self.json.key("saved")?;
+        match saved {
+            Saved::IsSaved => self.json.boolean(true),
+            Saved::NotSaved => self.json.boolean(false),
+            Saved::NotKnown => self.json.null(),
+        }
     }
 
     fn level(&mut self, name: &str, count: Option<LevelCount>) -> Result<(), AllocError> {

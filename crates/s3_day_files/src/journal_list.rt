@@ -10,7 +10,7 @@ use clap::ArgMatches;
 use s3_cards::LevelId;
 use s3_command_line::FILE;
 use s3_host_files::StandardOutput;
-use s3_journal::{LevelCount, PostedDay, Work};
+use s3_journal::{LevelCount, PostedDay, Saved, Work, saved_of};
 use s3_journal_files::read_journal;
 use s3_paper_commands::status::DONE;
 use s3_refusals::Shown;
@@ -81,7 +81,7 @@ fn list_journals<'a>(rt: &HostRuntime, matches: &ArgMatches<'a>) -> Result<(), D
     Ok(())
 }
 
-/// A pack and those that are kept beside it; none if no pack is named.
+/// A pack and its kept packs; none if no pack is named.
 fn kept_beside<'a>(rt: &HostRuntime, pack: Option<&'a str>) -> Result<Vec<KeptPack>, DayFault<'a>> {
     let Some(name) = pack else {
         return Ok(Vec::new(rt.alloc()));
@@ -145,12 +145,25 @@ fn push_objects(
     days: &[PostedDay],
     kept: &[KeptPack],
 ) -> Result<(), AllocError> {
-    for day in days.iter().rev() {
-        let path = kept_with(kept, day.after.as_str()).map(|pack| pack.path.as_str());
-        let object = json_line(rt.alloc(), journal, day, path)?;
-        text.push_str(object.as_str())?;
+    for place in 0..days.len() {
+        let place = days.len() - 1 - place;
+        if let Some(day) = days.get(place) {
+            let saved = saved_of(day, pack_after(days, place, kept));
+            let path = kept_with(kept, day.after.as_str()).map(|pack| pack.path.as_str());
+            let object = json_line(rt.alloc(), journal, day, saved, path)?;
+            text.push_str(object.as_str())?;
+        }
     }
     Ok(())
+}
+
+/// The checksum of the pack over which the command of the next line began; after the last line, that of the pack that is there, which is
+/// the first one of those that are kept. `None` if none is known.
+fn pack_after<'d>(days: &'d [PostedDay], place: usize, kept: &'d [KeptPack]) -> Option<&'d str> {
+    match place.checked_sub(1) {
+        Some(later) => days.get(later).map(|next| next.before.as_str()),
+        None => kept.first().map(|pack| pack.sum.as_str()),
+    }
 }
 
 /// Appends a line for each of these days, which are listed from the last one to the first, the first one first.
@@ -158,13 +171,24 @@ fn push_days(text: &mut String, days: &[PostedDay], kept: &[KeptPack]) -> Result
     for place in 0..days.len() {
         let place = days.len() - 1 - place;
         if let Some(day) = days.get(place) {
-            let next = place.checked_sub(1).and_then(|later| days.get(later));
-            push_day(text, day, next)?;
+            push_day(text, day)?;
+            let saved = saved_of(day, pack_after(days, place, kept));
+            text.push_str(pack_words(saved, place == 0))?;
             push_kept(text, day, kept)?;
             text.push('\n')?;
         }
     }
     Ok(())
+}
+
+/// What a line says of the pack that its command left, given whether it is the last line.
+fn pack_words(saved: Saved, is_last: bool) -> &'static str {
+    match saved {
+        Saved::IsSaved => "",
+        Saved::NotSaved => "; not saved",
+        Saved::NotKnown if is_last => "",
+        Saved::NotKnown => "; the next day began on another pack",
+    }
 }
 
 /// Appends in which file the pack is kept that a day left, if one is known.
@@ -176,21 +200,11 @@ fn push_kept(text: &mut String, day: &PostedDay, kept: &[KeptPack]) -> Result<()
     Ok(())
 }
 
-/// Appends what a line says of a day, given the next day.
-fn push_day(
-    text: &mut String,
-    day: &PostedDay,
-    next: Option<&PostedDay>,
-) -> Result<(), AllocError> {
+/// Appends what a line says of a day.
+fn push_day(text: &mut String, day: &PostedDay) -> Result<(), AllocError> {
     let (number, at) = (day.number, day.at.as_str());
     write!(text, "day {number}, {at}, ")?;
-    push_work(text, day)?;
-    if let Some(next) = next
-        && next.before != day.after
-    {
-        text.push_str("; the next day began on another pack")?;
-    }
-    Ok(())
+    push_work(text, day)
 }
 
 /// Appends what the command of a line did.

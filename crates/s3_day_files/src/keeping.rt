@@ -1,4 +1,4 @@
-//! The packs that saves have replaced, kept beside the file of a pack: of `P` the newest one is `P.1`, the one before it `P.2`.
+//! The packs that saves have replaced, kept in the folder of a pack: of `P` the newest one is `P.1`, the one before it `P.2`.
 //!
 //! A save that keeps the pack which it replaces goes these steps:
 //!
@@ -282,7 +282,7 @@ pub fn take_back(rt: &HostRuntime, aside: &Option<SetAside>) {
     }
 }
 
-/// The path of a file, with no link at its end. Packs are kept beside it.
+/// The path of a file, with no link at its end. Packs are kept in its folder.
 pub fn place_of(rt: &HostRuntime, name: &str) -> Result<PathBuf, AllocError> {
     let mut place = Path::new(name).to_path_buf(rt.alloc())?;
     for _link in 0..LINK_LIMIT {
@@ -327,7 +327,7 @@ fn folder_of<'n>(place: Path<'n>) -> Path<'n> {
     }
 }
 
-/// Whether a name is that of a pack.
+/// Whether a name is the name of a pack.
 pub fn is_pack_of(rt: &HostRuntime, name: &str) -> bool {
     matches!(at_name(rt, name), Ok(AtName::Pack))
 }

@@ -1,4 +1,4 @@
-//! The packs that are kept beside the file of a pack, known by their checksums.
+//! The packs that are kept in a pack's folder, known by their checksums.
 
 use crate::fault::DayFault;
 use crate::keeping::{MOST_KEPT, is_pack_of, kept_name};
@@ -15,7 +15,7 @@ pub struct KeptPack {
     pub sum: String,
 }
 
-/// The packs that are kept beside a pack, the newest one first.
+/// The packs that are kept for a pack, the newest one first.
 pub fn kept_packs<'a>(
     rt: &HostRuntime,
     name: &'a str,

@@ -3,7 +3,7 @@
 //!
 //! What is proved: each call is safe and returns, and the status that `--exit-zero` gives (`ExitZero::status_for`). Which file is refused
 //! for what, in which order, and the sentences are tested, by rows and by failed calls. That a kill loses no kept pack is tested by
-//! `tools/test-keep`. What files, the terminal and the clock give isn't claimed: they are used as the toolchain offers them.
+//! `tools/search/test-keep`. What files, the terminal and the clock give isn't claimed: they are used as the toolchain offers them.
 
 #![tactic(auto)]
 

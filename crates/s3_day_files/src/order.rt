@@ -17,7 +17,7 @@ const TURNS: u32 = 1_000_000_000;
 /// The most lines of a level, if the options don't say it.
 const LINES: u32 = 1_000_000;
 
-/// What stands for standard input where a file of rules is named.
+/// The name that means standard input in the place of a file of rules.
 const STANDARD_INPUT: &str = "-";
 
 /// Why `--replies` isn't taken.
@@ -38,7 +38,7 @@ pub struct Order<'a> {
     pub deck2: Vec<&'a str>,
     /// The rules.
     pub rules: Option<&'a str>,
-    /// The one who is asked where no rule answers.
+    /// Who is asked if no rule answers.
     pub questioned: Questioned,
     /// How far each level goes at most.
     pub bounds: Bounds,
@@ -58,7 +58,7 @@ pub struct Order<'a> {
     pub deck_out2: Option<&'a str>,
     /// Where each job's pages are written, and how.
     pub paper: Option<Paper<'a>>,
-    /// The pack is saved also where a level isn't done.
+    /// The pack is saved also if a level isn't done.
     pub saves_unfinished: bool,
     /// The journal of the pack.
     pub journal: Option<&'a str>,
@@ -68,7 +68,7 @@ pub struct Order<'a> {
     pub is_once: bool,
     /// What is there is written over.
     pub overwrites: bool,
-    /// Neither progress is reported, nor what rules answer.
+    /// Whether progress and the answers of rules aren't reported.
     pub is_quiet: bool,
     /// In place of which exit statuses the command ends with 0.
     pub exit_zero: ExitZero,
@@ -118,7 +118,7 @@ impl<'a> Order<'a> {
         })
     }
 
-    /// Where a level is taken up, if it is.
+    /// The place at which a level is taken up, if it is.
     pub fn from(&self, level: LevelId) -> Option<Position<'a>> {
         match level {
             LevelId::One => self.from1,
@@ -169,7 +169,7 @@ fn keep_of(words: &ArgMatches<'_>) -> Result<u16, &'static str> {
     }
 }
 
-/// The one who is asked where no rule answers.
+/// Who is asked if no rule answers.
 fn questioned(rt: &HostRuntime, has_lines: bool) -> Questioned {
     if has_lines {
         Questioned::Lines

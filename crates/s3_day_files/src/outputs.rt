@@ -7,7 +7,7 @@ use crate::paper::Paper;
 pub use s3_host_files::Output;
 use s3_host_files::{
     FileFault, Kept, Limit, LockedFolder, LockedPack, STREAMS, StandardStream, Target, WRITTEN,
-    is_empty_at, is_pack_at, prepare_save, stream_at,
+    is_empty_at, is_pack_at, prepare_save,
 };
 use std::alloc::Global;
 use std::fs::Metadata;
@@ -73,13 +73,14 @@ fn found<'a>(
     name: &'a str,
     streams: &[StandardStream],
 ) -> Result<Named<'a>, DayFault<'a>> {
-    if let Some(stream) = stream_at(rt, name, streams) {
+    let target = match Target::find(rt, name) {
+        Ok(target) => target,
+        Err(error) => return Err(DayFault::of(&error, name)),
+    };
+    if let Some(stream) = target.stream(rt, streams) {
         return Err(DayFault::Stream(name, stream));
     }
-    match Target::find(rt, name) {
-        Ok(target) => Ok(Named { name, target }),
-        Err(error) => Err(DayFault::of(&error, name)),
-    }
+    Ok(Named { name, target })
 }
 
 /// Refuses:
@@ -152,7 +153,7 @@ impl<'a> Files<'a> {
         self.add_numbered(rt, name, place.as_path(), order.keep)
     }
 
-    /// Adds the names under which so many packs are kept beside a file.
+    /// Adds the names under which so many packs are kept for a file.
     fn add_numbered(
         &mut self,
         rt: &HostRuntime,
@@ -351,7 +352,7 @@ impl<'a> Outputs<'a> {
         }
     }
 
-    /// Opens all outputs beside the file that the pack is saved to, if the pack can be kept that is replaced.
+    /// Opens all outputs except the file that the pack is saved to, if the replaced pack can be kept.
     fn open_kept(
         rt: &HostRuntime,
         order: &Order<'a>,
@@ -364,7 +365,7 @@ impl<'a> Outputs<'a> {
         }
     }
 
-    /// Opens all outputs beside the file that the pack is saved to.
+    /// Opens all outputs except the file that the pack is saved to.
     fn open_beside(
         rt: &HostRuntime,
         order: &Order<'a>,

@@ -26,7 +26,7 @@ pub struct Restoring<'a> {
 /// The pack that is replaced.
 #[derive(Drop)]
 struct Replaced {
-    /// Its checksum; that of an empty text if no file is there.
+    /// Its checksum; the checksum of an empty text if no file is there.
     sum: String,
     /// The lock on its file.
     locked: Option<LockedPack>,
@@ -106,7 +106,7 @@ fn sum_after(days: &[PostedDay], day: u32) -> Option<&str> {
     }
 }
 
-/// Whether a pack is the one with this checksum, and the last line left it.
+/// Whether a pack has this checksum, and the last line left it.
 fn is_last(days: &[PostedDay], pack: &Replaced, sum: &str) -> bool {
     match days.first() {
         Some(last) => last.after.as_str() == sum && pack.sum.as_str() == sum,
@@ -200,7 +200,7 @@ fn report_no_day(rt: &HostRuntime, asked: Restoring<'_>, lines: usize) {
     );
 }
 
-/// Reports that no pack that is kept is that of the day.
+/// Reports that no kept pack is the pack of the day.
 fn report_not_kept(rt: &HostRuntime, asked: Restoring<'_>) {
     let (journal, save) = (Shown(asked.journal), Shown(asked.save));
     let _ = write!(rt.stderr(), "no pack that is kept beside {save} is ");
@@ -227,7 +227,7 @@ fn report_restored(rt: &HostRuntime, asked: Restoring<'_>) {
     let _ = writeln!(rt.stderr(), " again");
 }
 
-/// Writes which pack is that of a day.
+/// Writes which pack is the pack of a day.
 fn write_day(rt: &HostRuntime, day: u32) {
     let _ = match day {
         0 => write!(rt.stderr(), "the pack before day 1"),

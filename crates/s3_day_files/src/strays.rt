@@ -1,4 +1,4 @@
-//! Jobs of a day that go on over statements of the next ones, since `/*` and `/&` may be missing.
+//! Jobs of a day that continue over statements of later jobs, since `/*` and `/&` may be missing.
 
 use crate::fault::DayFault;
 use crate::order::Order;
@@ -34,7 +34,7 @@ pub struct Looked {
     pub is_one_read: bool,
 }
 
-/// Reports the jobs of both decks that go on over statements of the next ones, one a line. Whether the day is begun: if there are such
+/// Reports the jobs of both decks that continue over statements of later jobs, one a line. Whether the day is begun: if there are such
 /// jobs, a person at a terminal is asked, unless rules are given or the day of a log is done again.
 pub fn look_for_strays<'a>(
     rt: &HostRuntime,
@@ -75,7 +75,7 @@ fn is_person_asked(order: &Order<'_>) -> bool {
     matches!(order.questioned, Questioned::Person) && order.rules.is_none() && order.redo.is_none()
 }
 
-/// Reports the jobs of both decks that go on over statements of the next ones.
+/// Reports the jobs of both decks that continue over statements of later jobs.
 pub fn report_strays<'a>(
     rt: &HostRuntime,
     one: &DayDeck<'a>,
@@ -121,7 +121,7 @@ fn report_cards<'a>(
     Ok(count)
 }
 
-/// Whether one of these jobs goes on over statements of the next ones.
+/// Whether one of these jobs continues over statements of later jobs.
 fn have_strays(rt: &HostRuntime, cards: &Deck, jobs: &[JobEntry]) -> Result<bool, AllocError> {
     for job in jobs {
         if !strays_of(rt.alloc(), cards, job)?.is_empty() {

@@ -109,7 +109,7 @@ fn taken_up_at<'a>(
     Ok(DayDeck::TakenUp(text.without(alloc, &left_out)?))
 }
 
-/// Lists the jobs of both decks on standard output, and reports those that go on over statements of the next ones.
+/// Lists the jobs of both decks on standard output, and reports those that continue over statements of later jobs.
 pub fn list_jobs<'a>(
     rt: &HostRuntime,
     one: &DayDeck<'a>,

@@ -4,3 +4,5 @@ pub mod LogLemmas
 pub mod WritingLemmas
 pub mod TextLemmas
 pub mod RoundTrip
+pub mod DeckLemmas
+pub mod EndingLemmas

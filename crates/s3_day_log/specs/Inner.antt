@@ -4,5 +4,6 @@ pub mod Events
 pub mod Lines
 pub mod Logged
 pub mod Members
+pub mod Tested
 pub mod Views
 pub mod Written

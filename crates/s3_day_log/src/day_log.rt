@@ -1,11 +1,13 @@
 //! A log that is read, so that its day can be done again.
-ghost use Rattle.std.specs.Prelude.{◌≡◌, map, option_map, slice_get};
+ghost use Rattle.std.specs.Prelude.{◌≡◌, ◌≤◌, ◌⊎◌, map, option_map, slice_get};
 ghost use Rattle.std.specs.List.{list_all};
 ghost use Rattle.std.specs.Option.{option_copied};
+ghost use Rattle.std.specs.Str.{bytes_eq};
 ghost use Rattle.std.specs.String.{string_bytes};
 ghost use Rattle.s3_day_log.specs.Inner.Events.{day_of, file_of, said_of};
 ghost use Rattle.s3_day_log.specs.Inner.Logged.{Follows, IsRead, IsReadAfter, Takes, answered, continued, ended, events_in, has_checksum, has_checksum_if_any, is_hexadecimal as is_hexadecimal_spec, is_checksum as is_checksum_spec, is_sound as is_sound_spec, log_in, replies_at, taken, taken_if_said, with_pack};
 ghost use Rattle.s3_day_log.specs.Inner.Lines.{said_on};
+ghost use Rattle.s3_day_log.specs.Inner.Tested.{HasPack, IsTested, Matches, is_same_pack, is_saved_pack, sum_of};
 
 use crate::event::{Begun, DayOver, Event, LoggedReply, NamedFile};
 use crate::reading::event_of;
@@ -80,12 +82,12 @@ pub struct DayLog {
     pub saved: Option<String>,
     /// Whether the operator answered that the pack isn't to be saved.
     pub is_declined: bool,
-    /// The exit status; none where the desk was killed.
+    /// The exit status; none if the desk was killed.
     pub status: Option<u8>,
 }
 
 impl DayLog {
-    /// The log of a text: what its lines say. A last line without its end is that of a desk that was killed, and isn't looked at. The
+    /// The log of a text: what its lines say. A last line without its end was left by a desk that was killed, and is ignored. The
     /// first line must begin the day. A text is refused with the number of its first line that is no event, or comes too early or too
     /// late: only the first line begins the day, only the last one ends it, after the answer about saving only that one follows, a reply is
     /// one that its halt allows, and each file that is read or saved has a checksum.
@@ -230,24 +232,28 @@ impl DayLog {
     }
 
     /// Whether a pack and the files of both decks are those of the log, by their checksums, in their order; or what differs
-    /// first. Names don't count: a file may have another one now. No checksum of a pack stands for a new pack. Another pack that is the
+    /// first. Names don't count: a file may have another one now. No checksum of a pack means a new pack. Another pack that is the
     /// one which the day has saved is reported as that.
     pub fn test(
         &self,
         pack: Option<&str>,
         deck1: &[String],
         deck2: &[String],
-    ) -> Result<(), Refused> {
+    ) -> Result<(), Refused>
+        ensures { IsTested self.now (option_map (λ sum. sum.now) pack.entry) (map string_bytes deck1.now) (map string_bytes deck2.now) result }
+    {
         self.test_pack(pack)?;
         test_deck(&self.begun.deck1, deck1, 1)?;
         test_deck(&self.begun.deck2, deck2, 2)
     }
 
-    /// Whether a pack is that of the log, by its checksum.
-    fn test_pack(&self, pack: Option<&str>) -> Result<(), Refused> {
-        let logged = self.begun.pack.as_ref().map(|file| file.sha256.as_str());
-        let saved = self.saved.as_ref().map(|sum| sum.as_str());
-        match standing_of(logged == pack, pack.is_some() && saved == pack) {
+    /// Whether a pack is the pack of the log, by its checksum.
+    fn test_pack(&self, pack: Option<&str>) -> Result<(), Refused>
+        ensures { HasPack self.now (option_map (λ sum. sum.now) pack.entry) result }
+    {
+        let is_first = is_same_pack(&self.begun.pack, pack);
+        let is_saved = is_saved_pack(&self.saved, pack);
+        match standing_of(is_first, is_saved) {
             Standing::First => Ok(()),
             Standing::Saved => Err(Refused::IsSaved),
             Standing::Other => Err(Refused::Pack),
@@ -255,18 +261,57 @@ impl DayLog {
     }
 }
 
+/// Whether a pack is the one with which a day was begun, by its checksum; without a pack, whether the day was begun without one.
+fn is_same_pack(begun: &Option<NamedFile>, pack: Option<&str>) -> bool
+    ensures { result ≡ is_same_pack (option_map sum_of begun.now) (option_map (λ sum. sum.now) pack.entry) }
+{
+    match (begun, pack) {
+        (Some(file), Some(sum)) => is_of_sum(&file.sha256, sum),
+        (None, None) => true,
+        _ => false,
+    }
+}
+
+/// Whether a pack is the one that a day has saved.
+fn is_saved_pack(saved: &Option<String>, pack: Option<&str>) -> bool
+    ensures { result ≡ is_saved_pack (option_map string_bytes saved.now) (option_map (λ sum. sum.now) pack.entry) }
+{
+    match (saved, pack) {
+        (Some(saved), Some(sum)) => is_of_sum(saved, sum),
+        _ => false,
+    }
+}
+
+/// Whether a checksum is this one.
+fn is_of_sum(logged: &String, sum: &str) -> bool
+    ensures { result ≡ bytes_eq (string_bytes logged.now) sum.now }
+{
+    logged.as_str() == sum
+}
+
+/// The lower of two numbers.
+fn shorter_of(one: usize, two: usize) -> usize
+    ensures within_one { result ≤ one }
+    ensures within_two { result ≤ two }
+    ensures either { (result ≡ one) ⊎ (result ≡ two) }
+{
+    if one < two { one } else { two }
+}
+
 /// Whether the files of a level's deck are those of the log, or which isn't.
-fn test_deck(logged: &[NamedFile], given: &[String], level: u8) -> Result<(), Refused> {
-    for (place, file) in logged.iter().enumerate() {
-        match given.get(place) {
-            Some(checksum) if *checksum == file.sha256 => {}
-            _ => return Err(Refused::Deck(level, place + 1)),
+fn test_deck(logged: &[NamedFile], given: &[String], level: u8) -> Result<(), Refused>
+    ensures { Matches level (map sum_of logged.now) (map string_bytes given.now) result }
+{
+    let common = shorter_of(logged.len(), given.len());
+    for place in 0..common {
+        if !is_of_sum(&logged[place].sha256, given[place].as_str()) {
+            return Err(Refused::Deck(level, place + 1));
         }
     }
-    if given.len() > logged.len() {
-        return Err(Refused::Deck(level, logged.len() + 1));
+    if logged.len() == given.len() {
+        return Ok(());
     }
-    Ok(())
+    Err(Refused::Deck(level, common + 1))
 }
 
 /// Whether each file of a day has a checksum.

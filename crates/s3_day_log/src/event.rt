@@ -17,7 +17,7 @@ pub struct NamedFile {
 pub struct Begun {
     /// Each word of the command but the names of outputs.
     pub words: Vec<String>,
-    /// The pack; none where the day had a new one in memory.
+    /// The pack; none if the day had a new one in memory.
     pub pack: Option<NamedFile>,
     /// The files of level 1's deck, in their order.
     pub deck1: Vec<NamedFile>,
@@ -84,7 +84,7 @@ pub struct LoggedHalt {
     pub job: u16,
     /// What it halts for.
     pub code: HaltCode,
-    /// The number of the last data card that was read, or of the first detail's card; none where there is neither.
+    /// The number of the last data card that was read, or of the first detail's card; none if there is neither.
     pub card: Option<u16>,
 }
 

@@ -1,6 +1,6 @@
 //! The jobs of a level's deck, as they begin and end.
-ghost use Rattle.std.specs.Prelude.{◌≡◌};
-ghost use Rattle.s3_day_log.specs.Inner.Endings.{behind_reply, has_passed};
+ghost use Rattle.std.specs.Prelude.{◌≡◌, None, IfOk, IfSome, OnOk};
+ghost use Rattle.s3_day_log.specs.Inner.Endings.{Begins, begins_one, behind_reply, endings, has_passed, is_open_behind};
 
 use s3_cards::{Deck, Name};
 use s3_decks::{JobEntry, Statements, jobs_of, program_of};
@@ -49,7 +49,7 @@ pub struct BegunJob {
 pub struct Ledger {
     jobs: Vec<JobEntry>,
     begun: Vec<BegunJob>,
-    /// The place in the deck behind the last job that was begun.
+    /// The place in the deck after the last job that was begun.
     place: usize,
     /// Whether the last job that was begun is at work, or its halt waits.
     is_open: bool,
@@ -98,7 +98,7 @@ impl Ledger {
         }
     }
 
-    /// The number of the last data card, from 1, that the job at work has read; `None` where there is none.
+    /// The number of the last data card, from 1, that the job at work has read; `None` if there is none.
     pub fn last_card(&self, level: &Level) -> Option<u16> {
         let cards = level.unread()?;
         let entry = self.jobs.get(self.begun.len().checked_sub(1)?)?;
@@ -128,30 +128,59 @@ impl Ledger {
     }
 
     /// Looks at a level that has gone on, with how many lines it has printed, those that are queued among them.
-    pub fn follow(&mut self, level: &Level, lines: usize) -> Result<(), AllocError> {
+    #[tactic(auto, using(crate::proofs::EndingLemmas::begins_none, crate::proofs::EndingLemmas::begins_around))]
+    pub fn follow(&mut self, level: &Level, lines: usize) -> Result<(), AllocError>
+        ensures { OnOk result (Begins self.old.begun.items self.new.begun.items) }
+    {
         let is_open = level.is_at_work() || level.waits().is_some();
         if level.place() == self.place && is_open == self.is_open {
             return Ok(());
         }
+        self.count_open(lines);
+        self.place = level.place();
+        self.is_open = is_open;
+        self.begin_all(level.deck())?;
+        self.count_begun(lines);
+        Ok(())
+    }
+
+    /// Counts the lines of the last job that was begun, unless it is over.
+    fn count_open(&mut self, lines: usize)
+        ensures { endings self.new.begun.items ≡ endings self.old.begun.items }
+    {
         if self.is_open {
             self.count_lines(lines);
         }
-        self.place = level.place();
-        self.is_open = is_open;
-        for _job in 0..self.jobs.len() {
-            if !self.begin_next(level.deck())? {
-                break;
-            }
-        }
-        if !is_open {
+    }
+
+    /// Counts the lines of the job that was begun last, which is over unless it is at work or its halt waits.
+    fn count_begun(&mut self, lines: usize)
+        ensures { endings self.new.begun.items ≡ endings self.old.begun.items }
+    {
+        if !self.is_open {
             self.mark_last_over();
         }
         self.count_lines(lines);
+    }
+
+    /// Takes note of each further job that has begun.
+    fn begin_all(&mut self, deck: &Deck) -> Result<(), AllocError>
+        ensures { OnOk result (Begins self.old.begun.items self.new.begun.items) }
+    {
+        for _job in 0..self.jobs.len() {
+            if !self.begin_next(deck)? {
+                return Ok(());
+            }
+        }
         Ok(())
     }
 
     /// Counts the lines that were printed since the last count for the job that was begun last.
-    fn count_lines(&mut self, lines: usize) {
+    #[tactic(auto, using(crate::proofs::EndingLemmas::endings_set))]
+    fn count_lines(&mut self, lines: usize)
+        ensures endings { endings self.new.begun.items ≡ endings self.old.begun.items }
+        ensures counted { self.new.counted ≡ lines }
+    {
         let new = lines.saturating_sub(self.counted);
         if let Some(job) = self.begun.last_mut() {
             job.lines = job.lines.saturating_add(new as u64);
@@ -160,7 +189,9 @@ impl Ledger {
     }
 
     /// Takes note of the next job, if it has begun. Whether it has.
-    fn begin_next(&mut self, deck: &Deck) -> Result<bool, AllocError> {
+    fn begin_next(&mut self, deck: &Deck) -> Result<bool, AllocError>
+        ensures { IfOk result (λ has_begun. endings self.new.begun.items ≡ begins_one has_begun (endings self.old.begun.items)) }
+    {
         let Some(job) = self.next_begun(deck) else {
             return Ok(false);
         };
@@ -170,7 +201,9 @@ impl Ledger {
     }
 
     /// The next job, if it has begun.
-    fn next_begun(&self, deck: &Deck) -> Option<BegunJob> {
+    fn next_begun(&self, deck: &Deck) -> Option<BegunJob>
+        ensures { IfSome result (λ job. job.ending ≡ None) }
+    {
         let entry = self.jobs.get(self.begun.len())?;
         if entry.after() > self.place {
             return None;
@@ -185,7 +218,10 @@ impl Ledger {
     }
 
     /// Marks the last job that was begun as over.
-    fn mark_last_over(&mut self) {
+    #[tactic(auto, using(crate::proofs::EndingLemmas::endings_set))]
+    fn mark_last_over(&mut self)
+        ensures { endings self.new.begun.items ≡ endings self.old.begun.items }
+    {
         if let Some(job) = self.begun.last_mut() {
             job.is_over = true;
         }
@@ -193,7 +229,8 @@ impl Ledger {
 
     /// Takes note of a reply to the halt of the last job that was begun.
     pub fn reply(&mut self, code: HaltCode, digit: u8)
-        ensures { self.new.begun.items ≡ behind_reply code digit self.old.begun.items }
+        ensures jobs { self.new.begun.items ≡ behind_reply code digit self.old.begun.items }
+        ensures open { self.new.is_open ≡ is_open_behind code digit self.old.is_open }
     {
         if digit == 0 {
             return;
@@ -216,16 +253,18 @@ impl Ledger {
     }
 
     /// The last job that was begun is over.
-    fn close_last(&mut self) {
+    fn close_last(&mut self)
+        ensures { endings self.new.begun.items ≡ endings self.old.begun.items }
+    {
         self.is_open = false;
         self.mark_last_over();
     }
 
-    /// Ends the ledger of a level that has printed so many lines in all, and has no job at work where it is done.
-    pub fn close(&mut self, lines: usize, is_done: bool) {
-        if self.is_open {
-            self.count_lines(lines);
-        }
+    /// Ends the job accounting of a level that has printed so many lines in all, and has no job at work if it is done.
+    pub fn close(&mut self, lines: usize, is_done: bool)
+        ensures { endings self.new.begun.items ≡ endings self.old.begun.items }
+    {
+        self.count_open(lines);
         if is_done {
             self.close_last();
         }

@@ -5,7 +5,10 @@
 //! What is proved:
 //!
 //! - `checksum` is the SHA-256 digest;
-//! - how a job ended that is over, and what a reply changes in the accounting;
+//! - how a job ended that is over, and what a reply changes in the accounting; no other call counts a job as passed over or ended by a
+//!   reply;
+//! - `DayLog::test` compares the pack and the files of both decks with those of the log by their checksums, and reports the first that
+//!   differs;
 //! - what became of a day, by how its levels ended, and which pack of a logged day a pack is;
 //! - `line_of` writes exactly the line of an event at its time: one JSON object, and a line feed;
 //! - `DayLog::read` reads exactly the log of the events that a text's lines say, or refuses the first line that is refused, or memory runs

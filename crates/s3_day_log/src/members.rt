@@ -66,7 +66,7 @@ impl<'v, 'a> Members<'v, 'a> {
         found
     }
 
-    /// The value of the one member of a name; `None` if no member has it, or several.
+    /// The value of the only member with a name; `None` if no member has the name, or several have it.
     fn value(self, name: &str) -> Option<&'v Value<'a>>
         ensures { option_map (λ v. value_view v.now) result ≡ value_in name.now (members_in self.entry) }
     {
@@ -76,7 +76,7 @@ impl<'v, 'a> Members<'v, 'a> {
         }
     }
 
-    /// The value of the one member of a name, `Some(None)` if there is no such member or it is null; `None` if there are several.
+    /// The value of the only member with a name; `Some(None)` if there is none or it is null; `None` if there are several.
     fn optional(self, name: &str) -> Option<Option<&'v Value<'a>>>
         ensures { option_map (option_map (λ v. value_view v.now)) result ≡ optional_in name.now (members_in self.entry) }
     {

@@ -19,7 +19,7 @@ use jiff::Timestamp;
 use json::{Error, Scratch, Value};
 use std::alloc::{AllocError, Global};
 
-/// The event of a line; `None` if the line is no object of an event with a time. It is refused only where memory runs out.
+/// The event of a line; `None` if the line is no object of an event with a time. It is refused only if memory runs out.
 pub(crate) fn event_of(alloc: Global, line: &str) -> Result<Option<Event>, AllocError>
     ensures { IfOk result (λ found. option_map said_of found ≡ said_on line.now) }
 {
@@ -229,7 +229,7 @@ fn reply(line: Members<'_, '_>) -> Option<LoggedReply>
     })
 }
 
-/// That the pack is going to be saved.
+/// The event that the pack is going to be saved.
 fn saving(alloc: Global, line: Members<'_, '_>) -> Result<Option<Event>, AllocError>
     ensures { IfOk result (λ found. option_map said_of found ≡ said_as EventKind.Saving (members_in line.entry)) }
 {

@@ -16,7 +16,7 @@ use s3_operator::{HaltCode, letters};
 use std::alloc::{AllocError, Global};
 use std::str;
 
-/// The line of an event at a time, with its line feed. The time is text, as `utc_text` gives it. It is refused only where memory runs out.
+/// The line of an event at a time, with its line feed. The time is text, as `utc_text` gives it. It is refused only if memory runs out.
 pub fn line_of(alloc: Global, at: String, event: Event) -> Result<String, AllocError>
     ensures { IfOk result (λ line. string_bytes line ≡ line_of_spec (string_bytes at) (said_of event)) }
 {

@@ -12,10 +12,10 @@ pub const MINUS: u8 = 0xd;
 /// The four bits of the plus sign as it is written; read, all others than those of the minus sign are plus.
 pub const PLUS: u8 = 0xf;
 
-/// Why a field isn't read as a number: one of its digits is above 9.
+/// The refusal of a field that isn't a number: one of its digits is above 9.
 #[derive(Clone, Copy, Debug)]
 pub struct BadDigit {
-    /// The number that the field holds where each bad digit counts as 0.
+    /// The number of the field, with 0 for each bad digit.
     pub number: Dec,
 }
 

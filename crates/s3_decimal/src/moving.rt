@@ -26,8 +26,8 @@ fn replaced(target: Dec, places: u8, negative: bool, low: u64) -> Dec
     }
 }
 
-/// MOVE of a number: its digits over those of `target`, right to right, and its sign, as its zoned bytes would.
-/// What is further left stays, and decimals are not looked at.
+/// MOVE of a number: its digits replace the digits of `target` from the right, and its sign replaces the sign, as its zoned bytes
+/// would. The other digits of `target` stay. Decimals don't matter.
 pub fn move_to(source: Dec, target: Dec) -> Dec
     ensures value { result.value
         ≡ moved_number (zoned_bytes (is_negative source.value) source.digits (unsigned_abs source.value))
@@ -40,8 +40,8 @@ pub fn move_to(source: Dec, target: Dec) -> Dec
     replaced(target, places, source.is_negative(), low)
 }
 
-/// MOVE of a text: the digit of each byte over those of `target`, right to right, 0 for one above 9, and the sign of
-/// the last byte. What is further left stays.
+/// MOVE of a text: the digits of its bytes replace the digits of `target` from the right, with 0 for a digit above 9, and the
+/// sign of the last byte replaces the sign. The other digits of `target` stay.
 pub fn move_bytes(source: &[u8], target: Dec) -> Dec
     requires { 1 ≤ length source.now }
     ensures value { result.value ≡ moved_number source.now target.digits target.value }

@@ -24,8 +24,8 @@ pub fn digits_of(bytes: &[u8]) -> Reading
     reading
 }
 
-/// Reads a zoned field of 1 to 15 bytes: one digit in the low four bits of each, minus where the high four bits of
-/// the last are D, with any other zone plus. A blank is digit 0. `BadDigit` where a digit is above 9.
+/// Reads a zoned field of 1 to 15 bytes, with a digit in the low four bits of each. The number is negative if the high four bits
+/// of the last byte are D. A blank is the digit 0. Refused with `BadDigit` if a digit is above 9.
 pub fn zoned_read(bytes: &[u8], decimals: u8) -> Result<Dec, BadDigit>
     requires some { 1 ≤ length bytes.now }
     requires within_longest { length bytes.now ≤ 15 }

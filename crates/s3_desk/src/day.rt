@@ -171,7 +171,7 @@ fn day_over<O: Operator<Bureau<MemoryStore>>>(
     }
 }
 
-/// Where both levels were left, and their halt texts, where each level's deck was refused or not.
+/// Where both levels were left, and their halt texts, whether or not a level's deck was refused.
 fn operate_to_end<S: PackStore, O: Operator<Bureau<S>>>(
     alloc: Global,
     bureau: &mut Bureau<S>,

@@ -149,7 +149,7 @@ fn drain_queue<M: Machine>(
     Ok(Went::Cut)
 }
 
-/// A level goes on by turns; where none acts, its queue is drained.
+/// A level continues by turns; if none acts, its queue is drained.
 fn go_on<M: Machine>(
     bureau: &mut M,
     level: LevelId,
@@ -187,7 +187,7 @@ fn waiting<M: Machine>(bureau: &M, level: LevelId) -> Option<&Halt>
     }
 }
 
-/// Whether no halt has to be shown: the one that waits was, or none waits.
+/// Whether no halt must be shown: the halt that waits was shown, or none waits.
 fn has_no_new_halt<M: Machine>(bureau: &M, level: LevelId, is_shown: bool) -> bool
     ensures yes { result ≡ true → (w : World) → M.holds bureau.now level w → (is_shown ≡ true) ⊎ (is_waiting w.halts ≡ false) }
     ensures no { result ≡ false → (is_shown ≡ false) × ((w : World) → M.holds bureau.now level w → is_waiting w.halts ≡ true) }
@@ -275,7 +275,7 @@ fn follow<M: Machine, O: Operator<M>>(
     }
 }
 
-/// A level goes on, the operator follows it, and a halt that has come is shown.
+/// Continues a level; the operator follows it, and a new halt is shown.
 fn serve<M: Machine, O: Operator<M>>(
     alloc: Global,
     bureau: &mut M,
@@ -417,7 +417,7 @@ fn end_at_halt(answers: u16) -> End
     }
 }
 
-/// Where a level was left whose seat counts so many replies.
+/// The point at which a level was left whose seat counts so many replies.
 fn end_of<M: Machine>(bureau: &M, level: LevelId, went: Went, answers: u16) -> End
     ensures ends { (w : World) → M.holds bureau.now level w → (went ≡ Rests → IsLeft w) → EndsAs result w }
     ensures cut { result ≡ CutOff → went ≢ Rests }
@@ -446,7 +446,7 @@ fn has_gone_on(one: Went, two: Went) -> bool
     }
 }
 
-/// Each level goes on; where neither can, the operator is asked. Where both were left, if no reply was taken.
+/// Continues each level; if no level can continue, the operator is asked. Answers where both were left, if no reply was taken.
 fn round<M: Machine, O: Operator<M>>(
     alloc: Global,
     bureau: &mut M,
@@ -490,7 +490,7 @@ fn round<M: Machine, O: Operator<M>>(
     }))
 }
 
-/// Both levels go on until neither can; then the operator is asked, and so on, until no reply is taken.
+/// Continues both levels until neither can; then the operator is asked, and so on, until no reply is taken.
 pub fn operate<M: Machine, O: Operator<M>>(
     alloc: Global,
     bureau: &mut M,

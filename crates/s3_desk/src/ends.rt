@@ -1,4 +1,4 @@
-//! How far a level goes at most, and where it was left.
+//! The limit of a level's turns, and the point at which it was left.
 
 /// How far a level goes at most.
 #[derive(Clone, Copy)]

@@ -1,4 +1,4 @@
-//! The operator's desk: both levels go on by turns and drains until neither can, halts are shown as they come, and then the operator
+//! The operator's desk: both levels continue by turns and drains until neither can, halts are shown as they come, and then the operator
 //! is asked.
 //!
 //! Proved of `operate_day`, over any pack, decks, operator and bounds:
@@ -9,7 +9,7 @@
 //!   only for a halt that waits and was shown, with its level at rest and the other level at rest or at a limit. A level that ends
 //!   halted was asked after all entries, in vain.
 //!
-//! Proved of `operate`, over any machine that goes on as a bureau does: the same of each world that the machine held, and what the
+//! Proved of `operate`, over any machine that continues as a bureau does: the same of each world that the machine held, and what the
 //! machine's own relations say of entries that are performed, they say of all of them (`after`); what its calls keep, whatever they
 //! answer, is kept (`kept`, `failed`, `not_stopped`). `Performed` of `s3_replay` has the entries performed, as a script.
 //!

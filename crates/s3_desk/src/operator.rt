@@ -1,4 +1,4 @@
-//! Who sits at the desk.
+//! The operator of a desk.
 ghost use Rattle.std.specs.Prelude.{OnOk};
 ghost use Rattle.s3_operator.specs.Inner.Halts.{halt_of};
 ghost use Rattle.s3_desk.specs.Inner.Events.{Asked, Event, Followed, Shown};
@@ -20,7 +20,7 @@ pub struct Papers<'a> {
     pub is_one_over: bool,
 }
 
-/// Who sits at the desk. No call changes what is operated.
+/// The operator of a desk. No call changes what is operated.
 pub trait Operator<M: Machine> {
     /// By this it may come from one state to the other.
     ghost meets: { Self → Event → Self → Type 0 };
@@ -47,7 +47,7 @@ pub trait Operator<M: Machine> {
     ) -> Result<(), AllocError>
         ensures { meets self.old (Shown level (halt_of halt.now)) self.new };
 
-    /// The reply to a halt that waits in a level; with none it is left waiting. It is asked for only when neither level can go on.
+    /// The reply to a halt that waits in a level; without one the halt is left waiting. It is asked for only if no level can continue.
     /// A reply that the halt allows is performed at once, before anything else; any other counts as none.
     fn reply(&mut self, machine: &M, level: LevelId, halt: &Halt) -> Option<u8>
         ensures { meets self.old (Asked level (halt_of halt.now) result) self.new };

@@ -1,4 +1,4 @@
-//! An operator whose reports are written while a day goes on.
+//! An operator whose reports are written during a day.
 ghost use Rattle.std.specs.Prelude.{◌≡◌, true};
 ghost use Rattle.s3_desk.specs.Inner.Printing.{MeetsPrinting};
 

@@ -1,4 +1,4 @@
-//! Where the next line of a sheet stands, by where a line stands and what it is.
+//! The context of the next line of a sheet, from the context of a line and the line itself.
 
 ghost use Rattle.std.specs.Prelude.{◌≡◌, ◌<◌, ◌+◌, ◌^◌};
 ghost use Rattle.s3_program.specs.Standings as spec;
@@ -24,7 +24,7 @@ fn behind_file(at: &FileStanding, file: &FileLine) -> FileStanding
     }
 }
 
-/// Where the line behind an I line stands.
+/// The context of the line after an I line.
 pub fn behind_input(at: &InputStanding, line: &InputLine<Meaning>) -> InputStanding
     requires { at.now.place + 8 < 2 ^ 64 }
     ensures { result ≡ spec.behind_input at.now line.now }
@@ -72,7 +72,7 @@ pub fn is_subroutine_time(time: CalculationTime) -> bool
     matches!(time, CalculationTime::Subroutine)
 }
 
-/// The level entry of the group that a C line is in: its own, or where it goes on with the line above that of the open group.
+/// The level entry of the group that a C line is in: its own, or the entry of the open group if the line continues it.
 pub fn time_on(group: Option<CalculationTime>, time: CalculationTime) -> CalculationTime
     ensures { result ≡ spec.time_on group time }
 {
@@ -170,8 +170,8 @@ fn subroutine_behind(
     }
 }
 
-/// The section of the DIV without half adjust right before a C line, or right before the group that this line goes on with; none
-/// where no such DIV stands there.
+/// The section of the DIV without half adjust right before a C line, or right before the group that this line continues. None if
+/// there is no such DIV.
 pub fn division_on(at: &CalculationStanding, time: CalculationTime) -> Option<usize>
     ensures { result ≡ spec.division_on at.now time }
 {
@@ -197,7 +197,7 @@ fn division_behind(
     }
 }
 
-/// The level entry of the group that a C line leaves open for the next one; none where its group ends, since it has an operation.
+/// The level entry of the group that a C line leaves open for the next one; none if its group ends, since it has an operation.
 pub fn group_behind(time: CalculationTime, operation: Option<Operation>) -> Option<CalculationTime>
     ensures { result ≡ spec.group_behind time operation }
 {
@@ -207,7 +207,7 @@ pub fn group_behind(time: CalculationTime, operation: Option<Operation>) -> Opti
     }
 }
 
-/// Where the line behind a C line stands.
+/// The context of the line after a C line.
 pub fn behind_calculation<N>(
     at: &CalculationStanding,
     line: &CalculationLine<N>,
@@ -250,7 +250,7 @@ fn behind_output(at: &OutputStanding, line: &OutputLine<Meaning>) -> OutputStand
     }
 }
 
-/// Where the first C line stands.
+/// The context of the first C line.
 pub fn first_calculation() -> CalculationStanding
     ensures { result ≡ spec.first_calculation }
 {
@@ -264,7 +264,7 @@ pub fn first_calculation() -> CalculationStanding
     }
 }
 
-/// Where the first I line stands.
+/// The context of the first I line.
 pub fn first_input() -> InputStanding
     ensures { result ≡ spec.first_input }
 {
@@ -276,7 +276,7 @@ pub fn first_input() -> InputStanding
     }
 }
 
-/// Where the first line of a source stands.
+/// The context of the first line of a source.
 pub fn first_standing() -> Standing
     ensures { result ≡ first_standing_spec }
 {
@@ -296,7 +296,7 @@ pub fn first_standing() -> Standing
     }
 }
 
-/// Where the line behind a line of any sheet stands.
+/// The context of the line after a line of any sheet.
 pub fn behind(at: &Standing, line: &MeantLine) -> Standing
     requires { IsEarlyLine at.now }
     ensures { result ≡ behind_spec at.now line.now }

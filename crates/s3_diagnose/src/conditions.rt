@@ -1,4 +1,4 @@
-//! The condition of each number on a line where it stands.
+//! The condition of each number on a line in its context.
 
 ghost use Rattle.std.specs.Prelude.{◌≡◌, IsTrue};
 ghost use Rattle.indexmap.specs.IndexMap.{get};
@@ -105,8 +105,8 @@ fn output_holds(at: &OutputStanding, line: &OutputLine<Meaning>, number: u8) -> 
     }
 }
 
-/// Whether the condition of a number, 5 to 12, holds of a line where it stands, with `later` as the lines below it and `known` as
-/// what all lines define.
+/// Whether the condition of a number, 5 to 12, holds for a line in its context. `later` has the lines below it, and `known` what
+/// all lines define.
 pub fn line_holds(
     known: &KnownTables,
     at: &Standing,

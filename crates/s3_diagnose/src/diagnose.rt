@@ -20,7 +20,7 @@ use std::alloc::{AllocError, Global};
 /// The diagnostics that look at other lines too.
 const NUMBERS: [u8; 8] = [5, 6, 7, 8, 9, 10, 11, 12];
 
-/// Adds the diagnostics of a line where it stands, above these lines.
+/// Adds the diagnostics of a line in its context, above these lines.
 fn diagnose(
     found: &mut Vec<Diagnostic>,
     numbers: &[u8],
@@ -73,14 +73,14 @@ fn diagnostics(
     Ok(found)
 }
 
-/// Whether a diagnostic stands before another: by card and then number.
+/// Whether a diagnostic comes before another: by card and then number.
 fn precedes(a: &Diagnostic, b: &Diagnostic) -> bool
     ensures { result ≡ spec.precedes a.now b.now }
 {
     a.card < b.card || (a.card == b.card && a.number < b.number)
 }
 
-/// Those of diagnostics that stand before another.
+/// The diagnostics that come before another.
 fn those_before(
     alloc: Global,
     found: &[Diagnostic],
@@ -95,7 +95,7 @@ fn those_before(
         .collect(alloc)
 }
 
-/// Those of diagnostics that stand behind another.
+/// The diagnostics that come after another.
 fn those_behind(
     alloc: Global,
     found: &[Diagnostic],
@@ -110,7 +110,7 @@ fn those_behind(
         .collect(alloc)
 }
 
-/// A diagnostic between those that stand before it and those that stand behind it.
+/// The diagnostics with one more, between those that come before it and those that come after it.
 #[tactic(auto, using(crate::proofs::Placed::put_round))]
 fn placed(
     alloc: Global,
@@ -142,7 +142,7 @@ fn has_one_primary(lines: &[Line]) -> bool
     lines.iter().filter(|line| is_primary_line(line)).count() == 1
 }
 
-/// The diagnostics of lines with 12 on the RUN card added in its order, where the lines don't have exactly one primary file.
+/// The diagnostics of lines, with 12 on the RUN card added in its order if the lines don't have exactly one primary file.
 fn completed(
     alloc: Global,
     found: Vec<Diagnostic>,
@@ -165,8 +165,8 @@ fn completed(
     }
 }
 
-/// The diagnostics 5 to 12 of lines, by card and then number, with `known` as what they define; where there isn't exactly one
-/// primary file, 12 stands on the RUN card. It is refused only where memory runs out.
+/// The diagnostics 5 to 12 of lines, by card and then number. `known` is what the lines define. If there isn't exactly one
+/// primary file, the RUN card has diagnostic 12. Refused only if memory runs out.
 pub fn compile_diagnostics(
     alloc: Global,
     known: &KnownTables,

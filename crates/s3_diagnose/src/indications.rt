@@ -1,4 +1,4 @@
-//! Diagnostic 7: an indicator that may not stand where it does, or a relation that isn't of its group.
+//! Diagnostic 7: an indicator that isn't allowed in its place, or a field record relation that isn't of its group.
 
 ghost use Rattle.std.specs.Prelude.{◌≡◌};
 ghost use Rattle.s3_program.specs.Indications as spec;

@@ -13,8 +13,8 @@ use s3_program::call::Call;
 use s3_program::program::Meaning;
 use s3_program::standing::CalculationStanding;
 
-/// The section of a C line where it stands: 0 detail, 1 total, 2 outside of every subroutine, and 3 more than the place of its
-/// BEGSR in a subroutine.
+/// The section of a C line in its context: 0 detail, 1 total, 2 outside of every subroutine; in a subroutine, 3 more than the
+/// place of its BEGSR.
 pub fn section_of(at: &CalculationStanding, line: &CalculationLine<Meaning>) -> usize
     requires { IsEarly at.now }
     ensures { result ≡ spec.section_of at.now line.now }
@@ -58,7 +58,7 @@ fn called(factor: Option<Factor<Meaning>>) -> Option<usize>
     }
 }
 
-/// The subroutine that a C line calls by EXSR, as the place of its BEGSR; none where it calls none.
+/// The subroutine that a C line calls by EXSR, as the place of its BEGSR; none if the line calls none.
 pub fn callee_of(line: &CalculationLine<Meaning>) -> Option<usize>
     ensures { result ≡ spec.callee_of line.now }
 {
@@ -68,7 +68,7 @@ pub fn callee_of(line: &CalculationLine<Meaning>) -> Option<usize>
     }
 }
 
-/// The subroutine in which a C line stands, as the place of its BEGSR; none outside of all.
+/// The subroutine of a C line, as the place of its BEGSR. None outside of all subroutines.
 pub fn caller_of(at: &CalculationStanding, line: &CalculationLine<Meaning>) -> Option<usize>
     requires { IsEarly at.now }
     ensures { result ≡ spec.caller_of at.now line.now }

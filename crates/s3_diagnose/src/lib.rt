@@ -1,20 +1,12 @@
-//! The diagnostics 5 to 12 of a whole source: each on the line where its condition holds, given what all the lines define.
+//! The diagnostics 5 to 12 of a whole source: each on the line on which its condition holds, given what all the lines define.
 //!
-//! The conditions are those of `s3_program`, which the validity of a program uses too; docs/LANGUAGE.md, "Diagnostics", has them in
-//! words. The tables of what lines define come from `s3_compile`.
-//!
-//! What is proved:
-//! - `compile_diagnostics` gives, for tables that say what the lines define, exactly each line with each number of 5 to 12 whose
-//!   condition holds of it where it stands, and 12 on the RUN card where there isn't exactly one primary file;
-//! - the list is by card and then number, each pair once (`diagnostics_are_in_order`);
-//! - some hundred sources, with their lists worked by hand from the rules, have these lists: the definitions are computed on them
-//!   (`samples_have_their_diagnostics`);
-//! - 9, 10 and 11, each said once as a condition on the whole source without what goes from line to line, stand on just the lines
-//!   that these conditions name, whatever the lines are, and in the whole list on just their cards
-//!   (`nine_is_for_lines_without_place`, `ten_is_for_lines_that_stray`, `eleven_is_for_mismatched_lines`); sources worked by hand
-//!   tell which these are (`lines_without_place_are_as_worked`, `lines_that_stray_are_as_worked`, `mismatched_lines_are_as_worked`).
-//!
-//! Only tested: that memory is said to run out only where a growth was refused, which no contract can say.
+//! The conditions are those of `s3_program`; docs/LANGUAGE.md, "Diagnostics", has them in words. The tables of what lines define
+//! come from `s3_compile`. `compile_diagnostics` is proved to give exactly each line with each number of 5 to 12 whose condition
+//! holds for it, and 12 on the RUN card if there isn't exactly one primary file, in order by card and number
+//! (`diagnostics_are_in_order`). The numbers 9, 10 and 11 are also stated as conditions on the whole source, and proved to be the
+//! same (`nine_is_for_lines_without_place`, `ten_is_for_lines_that_stray`, `eleven_is_for_mismatched_lines`). Some hundred
+//! sources, whose lists were worked by hand, are computed by the proofs (`samples_have_their_diagnostics`). Only tested: that
+//! memory is reported to run out only if an allocation was refused.
 
 #![tactic(auto)]
 

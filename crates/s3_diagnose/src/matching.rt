@@ -206,7 +206,7 @@ fn is_unlike(tables: &MarkTables, kind: &TypeKey) -> bool
     has_any(&matched) && matched != tables.matched
 }
 
-/// The record type that begins on an I line; none on a line where no type begins.
+/// The record type that begins on an I line; none if no type begins there.
 pub fn type_on<N>(at: &InputStanding, line: &InputLine<N>) -> Option<TypeKey>
     ensures { result ≡ spec.type_on at.now line.now }
 {
@@ -238,8 +238,8 @@ fn type_unlike(tables: &MarkTables, kind: Option<TypeKey>) -> bool
     }
 }
 
-/// Whether diagnostic 11 holds of an I line: match or control fields disagree, stand on a chained file, or are given twice in one
-/// type.
+/// Whether diagnostic 11 holds for an I line: match or control fields disagree, belong to a chained file, or are given twice in
+/// one type.
 pub fn input_mismatched(tables: &MarkTables, at: &InputStanding, line: &InputLine<Meaning>) -> bool
     requires { IsTrue (is_ranged_input line.now) }
     ensures { result ≡ spec.input_mismatched (marks_shown tables.now) at.now line.now }

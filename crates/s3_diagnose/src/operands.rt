@@ -1,4 +1,4 @@
-//! Diagnostic 8: what an operation needs, and what a field that is put out needs.
+//! Diagnostic 8: what an operation needs, and what a field that is written needs.
 
 ghost use Rattle.std.specs.Prelude.{◌≡◌};
 ghost use Rattle.s3_program.specs.Operands as spec;
@@ -250,7 +250,7 @@ fn is_bare(line: &CalculationLine<Meaning>) -> bool
 }
 
 /// Whether diagnostic 8 holds of a C line: it isn't what its operation needs. `is_cut` says that another C line follows which
-/// doesn't go on with it by AN or OR.
+/// doesn't continue with it by AN or OR.
 pub fn calculation_unfit(is_cut: bool, line: &CalculationLine<Meaning>) -> bool
     ensures { result ≡ spec.calculation_unfit is_cut line.now }
 {

@@ -1,4 +1,4 @@
-//! Diagnostic 9: lines that stand where they may not.
+//! Diagnostic 9: lines in a place where they aren't allowed.
 
 ghost use Rattle.std.specs.Prelude.{◌≡◌};
 ghost use Rattle.s3_program.specs.Places as spec;
@@ -14,7 +14,7 @@ use s3_lines::sheet::{
 };
 use s3_program::standing::{CalculationStanding, InputStanding, OutputStanding};
 
-/// Whether diagnostic 9 holds of an I line: it goes on with nothing, or it is a field line without a record line before it.
+/// Whether diagnostic 9 holds of an I line: it continues with nothing, or it is a field line without a record line before it.
 pub fn input_misplaced<N>(at: &InputStanding, line: &InputLine<N>) -> bool
     ensures { result ≡ spec.input_misplaced at.now line.now }
 {
@@ -25,7 +25,7 @@ pub fn input_misplaced<N>(at: &InputStanding, line: &InputLine<N>) -> bool
     }
 }
 
-/// Whether diagnostic 9 holds of an O line: it goes on with nothing, or it is a field card without a line card before it.
+/// Whether diagnostic 9 holds of an O line: it continues with nothing, or it is a field card without a line card before it.
 pub fn output_misplaced<N>(at: &OutputStanding, line: &OutputLine<N>) -> bool
     ensures { result ≡ spec.output_misplaced at.now line.now }
 {
@@ -57,7 +57,7 @@ fn is_other(time: Option<CalculationTime>) -> bool
     }
 }
 
-/// Whether a C line is among these lines, and the first such line doesn't go on by AN or OR with the one above them.
+/// Whether these lines have a C line, and the first one doesn't continue the line above by AN or OR.
 pub fn is_cut_by(later: &[Line]) -> bool
     ensures { result ≡ spec.is_cut_by (verbs later.now) }
 {
@@ -179,8 +179,8 @@ fn is_unknown(operation: Option<Operation>) -> bool
     matches!(operation, Some(Operation::Unknown))
 }
 
-/// Whether diagnostic 9 holds of a C line where it stands, above these lines: it is out of order, goes on with nothing or leaves
-/// its group open, is an MVR without its DIV, or a BEGSR or ENDSR that doesn't pair.
+/// Whether diagnostic 9 holds for a C line in its context, above these lines: it is out of order, continues no line, leaves its
+/// group open, is an MVR without its DIV, or is a BEGSR or ENDSR without its partner.
 pub fn calculation_misplaced<N>(
     at: &CalculationStanding,
     later: &[Line],

@@ -20,7 +20,7 @@ fn is_date(name: &Name) -> bool
     is_reserved(name) && *name != PAGE
 }
 
-/// Whether a name first stands at another place than this one.
+/// Whether the first line with a name is at another place than this one.
 pub fn is_elsewhere(place: usize, first: Option<usize>) -> bool
     ensures { result ≡ spec.is_elsewhere place first }
 {
@@ -39,8 +39,7 @@ fn is_reshaped(shape: Shape, meaning: &Meaning) -> bool
     }
 }
 
-/// Whether diagnostic 6 holds of an I line: its field has another shape where it is first defined, or it is a field of the job's
-/// date.
+/// Whether diagnostic 6 holds for an I line: its field is first defined with another shape, or it is a field of the job's date.
 pub fn input_redefined(line: &InputLine<Meaning>) -> bool
     requires { IsTrue (is_ranged_input line.now) }
     ensures { result ≡ spec.input_redefined line.now }
@@ -107,8 +106,8 @@ fn label_redefined(place: usize, operation: Operation, factor: Option<Factor<Mea
     }
 }
 
-/// Whether diagnostic 6 holds of a C line: its tag or subroutine is defined twice, its result has another shape where it is first
-/// defined, or a reserved field is defined or changed.
+/// Whether diagnostic 6 holds for a C line: its tag or subroutine is defined twice, its result is first defined with another
+/// shape, or a reserved field is defined or changed.
 pub fn calculation_redefined(at: &CalculationStanding, line: &CalculationLine<Meaning>) -> bool
     ensures { result ≡ spec.calculation_redefined at.now line.now }
 {

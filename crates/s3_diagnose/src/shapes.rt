@@ -8,7 +8,7 @@ ghost use Rattle.s3_diagnose.specs.Inner.Ranged.{is_ranged_field};
 use s3_lines::sheet::{FieldForm, FieldLine, Shape};
 use s3_program::program::Meaning;
 
-/// The shape of the field that a name means, by its first definition; none where the name doesn't mean a field.
+/// The shape of the field that a name means, by its first definition; none if the name doesn't mean a field.
 pub fn shape_meant(meaning: &Meaning) -> Option<Shape>
     ensures { result ≡ spec.shape_meant meaning.now }
 {
@@ -54,7 +54,7 @@ pub fn same_kind_and_length(a: Shape, b: Shape) -> bool
     }
 }
 
-/// The number of positions of a field; 0 where it ends before it begins.
+/// The number of positions of a field; 0 if it ends before it begins.
 fn positions_of<N>(field: &FieldLine<N>) -> usize
     ensures { result ≡ positions_spec field.now }
 {

@@ -1,4 +1,4 @@
-//! A line with what it names, and where it stands.
+//! A line with what it names, and its context.
 
 use s3_lines::sheet::{CalculationLine, FileLine, InputLine, OutputLine};
 use s3_program::program::Meaning;
@@ -19,15 +19,15 @@ pub enum MeantLine {
     Output(OutputLine<Meaning>),
 }
 
-/// Where a line stands among all lines of a source, sheet by sheet.
+/// The context of a line among all lines of a source, sheet by sheet.
 #[derive(Clone, Copy)]
 pub struct Standing {
-    /// Where the next F line stands.
+    /// The context of the next F line.
     pub files: FileStanding,
-    /// Where the next I line stands.
+    /// The context of the next I line.
     pub inputs: InputStanding,
-    /// Where the next C line stands.
+    /// The context of the next C line.
     pub calculations: CalculationStanding,
-    /// Where the next O line stands.
+    /// The context of the next O line.
     pub outputs: OutputStanding,
 }

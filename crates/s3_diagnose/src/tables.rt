@@ -12,11 +12,11 @@ use s3_program::mark::{GroupMark, Level, TypeKey, TypeMark};
 pub struct MarkTables {
     /// The record types, by group and indicator.
     pub types: IndexSet<TypeKey>,
-    /// Of the fields that count in all types of their group, the place of the first with each Mn and Ln.
+    /// The place of the first field with each Mn and Ln, among the fields that count in all types of their group.
     pub in_all: IndexMap<GroupMark, usize>,
-    /// Of the fields that count in some type of their group, the place of the first with each Mn and Ln.
+    /// The place of the first field with each Mn and Ln, among the fields that count in some type of their group.
     pub in_some: IndexMap<GroupMark, usize>,
-    /// Of the fields that count only in the types with one indicator, the place of the first with each Mn and Ln.
+    /// The place of the first field with each Mn and Ln, among the fields that count only in the types with one indicator.
     pub in_type: IndexMap<TypeMark, usize>,
     /// The shape of the first field of the source with each Mn and Ln.
     pub shapes: IndexMap<Level, Shape>,

@@ -9,7 +9,7 @@ use s3_program::program::Meaning;
 use s3_program::row::{Operand, Row, Target};
 use s3_program::standing::OutputStanding;
 
-/// Whether nothing bears the name that has this meaning.
+/// Whether nothing has the name with this meaning.
 pub fn is_undefined(meaning: &Meaning) -> bool
     ensures { result ≡ spec.is_undefined meaning.now }
 {
@@ -84,7 +84,7 @@ fn content_undefined(content: &OutputContent<Meaning>) -> bool
     }
 }
 
-/// Whether diagnostic 5 holds of an O line where it stands: its file or its field isn't defined.
+/// Whether diagnostic 5 holds for an O line in its context: its file or its field isn't defined.
 pub fn output_undefined(at: &OutputStanding, line: &OutputLine<Meaning>) -> bool
     ensures { result ≡ spec.output_undefined at.now line.now }
 {

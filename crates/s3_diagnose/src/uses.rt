@@ -12,7 +12,7 @@ use s3_lines::sheet::{
 use s3_program::program::Meaning;
 use s3_program::standing::{FileStanding, InputStanding, OutputStanding};
 
-/// Whether diagnostic 12 holds of an F line where it stands: it isn't in the table of files, or is a second card file or print
+/// Whether diagnostic 12 holds for an F line in its context: it isn't in the table of files, or is a second card file or print
 /// file.
 pub fn file_misused(at: &FileStanding, file: &FileLine) -> bool
     ensures { result ≡ spec.file_misused at.now file.now }
@@ -46,7 +46,7 @@ fn is_packed(form: FieldForm) -> bool
     matches!(form, FieldForm::Packed(_) | FieldForm::PackedText)
 }
 
-/// Whether diagnostic 12 holds of an I line where it stands: a record line for a file that may have none, or packed data that its
+/// Whether diagnostic 12 holds for an I line in its context: a record line for a file that may have none, or packed data that its
 /// file can't have.
 pub fn input_misused(at: &InputStanding, line: &InputLine<Meaning>) -> bool
     ensures { result ≡ spec.input_misused at.now line.now }
@@ -101,7 +101,7 @@ fn is_entry_off_disk(entry: Option<Meaning>) -> bool
     }
 }
 
-/// Whether diagnostic 12 holds of an O line where it stands: a line that its file doesn't allow, or spaces, skips or packed data
+/// Whether diagnostic 12 holds for an O line in its context: a line that its file doesn't allow, or spaces, skips or packed data
 /// that its file can't have.
 pub fn output_misused(at: &OutputStanding, line: &OutputLine<Meaning>) -> bool
     ensures { result ≡ spec.output_misused at.now line.now }

@@ -5,8 +5,8 @@ ghost use Rattle.s3_diagnose.specs.Inner.Misplaced.{NineIsForLinesWithoutPlace};
 ghost use Rattle.s3_diagnose.specs.Inner.Strayed.{TenIsForLinesThatStray};
 ghost use Rattle.s3_diagnose.specs.Inner.WholeSamples.{LinesWithoutPlaceAreAsWorked, LinesThatStrayAreAsWorked, MismatchedLinesAreAsWorked};
 
-/// Among the diagnostics of any lines, 9 stands on just those lines that have no place: a line is judged by all the lines above it
-/// and below it, and nothing goes from line to line.
+/// Among the diagnostics of any lines, exactly the lines without a place have 9. The condition on a line is stated over all lines
+/// above and below it, without a state from line to line.
 #[tactic(auto, using(crate::proofs::Misplacing::nine_is_for_lines_without_place))]
 pub fn nine_is_for_lines_without_place()
     ensures { NineIsForLinesWithoutPlace }
@@ -18,7 +18,7 @@ pub fn lines_without_place_are_as_worked()
     ensures { LinesWithoutPlaceAreAsWorked }
 {}
 
-/// Among the diagnostics of any lines, 10 stands on just those lines that stray: each GOTO whose tag is of another section, and each
+/// Among the diagnostics of any lines, exactly the lines that stray have 10: each GOTO whose tag is in another section, and each
 /// EXSR whose call is forbidden among all calls of the source.
 #[tactic(auto, using(crate::proofs::Straying::ten_is_for_lines_that_stray))]
 pub fn ten_is_for_lines_that_stray()
@@ -31,9 +31,9 @@ pub fn lines_that_stray_are_as_worked()
     ensures { LinesThatStrayAreAsWorked }
 {}
 
-/// Among the diagnostics of any lines, 11 stands on just those lines whose match or control fields disagree, stand twice in a type or
-/// on a chained file, or whose type has another set of match fields than the first: the group, the file and the types of a line go by
-/// the nearest record line above it.
+/// Among the diagnostics of any lines, exactly these lines have 11: lines whose match or control fields disagree, occur twice in
+/// a type or belong to a chained file, and lines whose type has another set of match fields than the first type. The nearest
+/// record line above a line gives its group, its file and its types.
 #[tactic(auto, using(crate::proofs::Mismatching::eleven_is_for_mismatched_lines))]
 pub fn eleven_is_for_mismatched_lines()
     ensures { ElevenIsForMismatchedLines }

@@ -7,7 +7,7 @@ use std::alloc::{AllocError, AllocFailed};
 pub enum DumpFault {
     /// Memory was refused.
     NoMemory,
-    /// The text would stand for other bytes than those of the pack.
+    /// The text would represent other bytes than the bytes of the pack.
     OtherBytes,
 }
 

@@ -1,8 +1,9 @@
 //! A dump, and the pack that is restored from it.
 ghost use Rattle.std.specs.Prelude.{◌≡◌, ℕ, List, Some};
-ghost use Rattle.s3_dump.specs.Inner.Dumps.{restored};
+ghost use Rattle.s3_dump.specs.Inner.Dumps.{IsNoDump, restored};
 
-/// What is restored from the dump of a pack has the bytes of that pack: a text stands for the bytes of one pack at most.
+/// What is restored from the dump of a pack has the bytes of that pack, and no line of the dump is wrong.
 pub fn a_dump_is_restored()
-    ensures { (text pack again : List ℕ) → restored text ≡ Some pack → restored text ≡ Some again → again ≡ pack }
+    ensures same { (text pack again : List ℕ) → restored text ≡ Some pack → restored text ≡ Some again → again ≡ pack }
+    ensures whole { (text pack : List ℕ) (line : ℕ) → restored text ≡ Some pack → IsNoDump text line → ⊥ }
 {}

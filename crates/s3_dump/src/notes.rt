@@ -94,7 +94,7 @@ pub fn spool_note(alloc: Global, block: usize, bytes: &[u8]) -> Result<String, A
     format!(in alloc; "spool block {block}: page {page}, line {line}")
 }
 
-/// The byte at a place; 0 where there is none.
+/// The byte at a place; 0 if there is none.
 fn byte_at(bytes: &[u8], place: usize) -> u8 {
     match bytes.get(place) {
         Some(byte) => *byte,

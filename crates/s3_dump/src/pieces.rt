@@ -29,7 +29,7 @@ const REGIONS: usize = 168;
 /// A run of bytes of a pack that a file has.
 #[derive(Clone, Copy)]
 struct Run {
-    /// Its first byte in the pack, and the one after its last.
+    /// Its first byte in the pack, and the place after its last byte.
     from: usize,
     to: usize,
     /// How many bytes of the file are before it.
@@ -42,7 +42,7 @@ struct Run {
     records: usize,
 }
 
-/// A pack as a text that stands for its bytes. Refused with `OtherBytes` if the text would not.
+/// A pack as a text that represents its bytes. Refused with `OtherBytes` if the text would not, and with `NoMemory`.
 pub fn dump(alloc: Global, pack: &[u8]) -> Result<Vec<u8>, DumpFault>
     ensures { IfOk result (λ text. restored text.items ≡ Some pack.now) }
 {

@@ -1,6 +1,6 @@
-//! Dumps read: the bytes that a text stands for.
+//! Dumps read: the bytes that a text represents.
 ghost use Rattle.std.specs.Prelude.{◌≡◌, ◌<◌, ℕ, List, Some, None, IfOk, IfErr, IfSome, IfNone};
-ghost use Rattle.s3_dump.specs.Inner.Dumps.{IsRestoreFault, hex_value as hex_value_spec, is_start as is_start_spec, restored, step_by};
+ghost use Rattle.s3_dump.specs.Inner.Dumps.{IsRestoreFault, hex_value as hex_value_spec, is_start as is_start_spec, line_after as line_after_spec, restored, step_by};
 
 use crate::fault::RestoreFault;
 use s3_cards::code_of_byte;
@@ -28,26 +28,25 @@ pub enum Mode {
     End,
 }
 
-/// The bytes that a dump stands for. Refused with `NoDump` if the text stands for none.
-#[tactic(auto, using(crate::proofs::DumpLemmas::one_more_read, crate::proofs::DumpLemmas::whole_read, crate::proofs::DumpLemmas::refused_here, crate::proofs::DumpLemmas::not_whole))]
+/// The bytes that a dump represents. Refused with `NoDump`, which has the first wrong line, if the text represents none, and with
+/// `NoMemory`.
+#[tactic(auto, using(crate::proofs::DumpLemmas::one_more_read, crate::proofs::DumpLemmas::whole_read, crate::proofs::DumpLemmas::not_whole))]
 pub fn restore(alloc: Global, text: &[u8]) -> Result<Vec<u8>, RestoreFault>
     ensures bytes { IfOk result (λ bytes. restored text.now ≡ Some bytes.items) }
     ensures refused { IfErr result (IsRestoreFault text.now) }
 {
     let mut bytes = Vec::new(alloc);
     let mut mode = Mode::Start;
-    let mut line = 1u64;
-    for character in text {
+    for (place, character) in text.iter().enumerate() {
         match read(alloc, mode, *character, &mut bytes)? {
             Some(next) => mode = next,
-            None => return Err(RestoreFault::NoDump(line)),
+            None => return Err(RestoreFault::NoDump(line_after(&text[..place]))),
         }
-        line = line_after(line, *character);
     }
     if is_start(mode) {
         Ok(bytes)
     } else {
-        Err(RestoreFault::NoDump(line))
+        Err(RestoreFault::NoDump(line_after(text)))
     }
 }
 
@@ -58,13 +57,18 @@ fn is_start(mode: Mode) -> bool
     matches!(mode, Mode::Start)
 }
 
-/// The line of the next character.
-fn line_after(line: u64, character: u8) -> u64 {
-    if character == b'\n' {
-        line.saturating_add(1)
-    } else {
-        line
+/// The line, from 1, in which the next character after a text is.
+#[tactic(auto, using(crate::proofs::DumpLemmas::no_line_more, crate::proofs::DumpLemmas::one_line_more))]
+fn line_after(text: &[u8]) -> u64
+    ensures { result ≡ line_after_spec text.now }
+{
+    let mut line = 1u64;
+    for character in text {
+        if *character == b'\n' {
+            line += 1;
+        }
     }
+    line
 }
 
 /// Reads a character, and adds the bytes that it ends. Returns what the next one belongs to; none if no dump has the character there.

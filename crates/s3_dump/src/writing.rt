@@ -26,7 +26,8 @@ impl<'a> Writer<'a> {
         }
     }
 
-    /// The bytes from the place up to another one, where the writer is then. Nothing if the pack ends before, or the writer is past it.
+    /// Moves the writer to a place, or to the end of the pack if that comes first, and answers the bytes up to there. No bytes if
+    /// the writer is past it.
     fn take(&mut self, to: usize) -> &'a [u8] {
         let pack = self.pack;
         let to = to.min(pack.len());

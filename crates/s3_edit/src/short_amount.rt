@@ -1,5 +1,5 @@
-//! Short amounts: numbers other than 0, of up to 32 bits and six decimals, as nearly all are. They are written over blanks, two
-//! digits at a time.
+//! Short amounts: numbers other than 0, of up to 32 bits and six decimals, as most are. They are written over blanks, two digits
+//! at a time.
 ghost use Rattle.std.specs.Prelude.{◌≡◌, ◌≢◌, ℕ, ◌+◌, ◌-◌, ◌*◌, ◌/◌, ◌%◌, ◌^◌, ◌<◌, ◌≤◌, ◌&&◌, nat_lt, true, Some, IfSome, length, slice_index, unsigned_abs};
 ghost use Rattle.s3_cards.specs.declared.ebcdic.TheConstants.{BLANK, PERIOD};
 ghost use Rattle.s3_decimal.specs.Records.{digit_at};
@@ -56,7 +56,7 @@ fn blank(text: &mut [u8])
     }
 }
 
-/// Writes the last digit of a number in front of `end`, and gives what is left of the number.
+/// Writes the last digit of a number before `end`, and gives what is left of the number.
 fn put_digit(number: u32, end: usize, text: &mut [u8]) -> u32
     requires begins { 1 ≤ end }
     requires ends { end ≤ length text.old }
@@ -167,7 +167,7 @@ fn put_decimals(number: u32, count: usize, end: usize, text: &mut [u8]) -> u32
     }
 }
 
-/// Writes the point in front of the decimals, and gives where the whole part ends.
+/// Writes the point before the decimals, and answers the place at which the whole part ends.
 fn put_point(decimals: usize, end: usize, text: &mut [u8]) -> usize
     requires begins { point_width decimals ≤ end }
     requires ends { end ≤ length text.old }
@@ -241,7 +241,7 @@ fn put_suppressed(number: u32, end: usize, text: &mut [u8])
     }
 }
 
-/// Whether a comma stands in front of the last three digits of a whole part.
+/// Whether a comma comes before the last three digits of a whole part.
 fn has_comma(commas: bool, number: u32) -> bool
     ensures { result ≡ (commas && nat_lt 999 number) }
 {
@@ -330,7 +330,7 @@ pub const MOST_DECIMALS: u8 = 6;
 /// The largest magnitude of 32 bits.
 const LARGEST_SHORT: i64 = 4_294_967_295;
 
-/// The magnitude of a number other than 0, where it has up to 32 bits.
+/// The magnitude of a number other than 0, if it has up to 32 bits.
 pub fn short_magnitude(value: i64) -> Option<u32>
     ensures { IfSome result (λ magnitude. (magnitude ≡ unsigned_abs value) × (magnitude ≢ 0)) }
 {

@@ -162,7 +162,7 @@ impl<'a> Asked<'a> {
     }
 }
 
-/// The length and the first position of a line's key, 0 and 0 where it has none.
+/// The length and the first position of a line's key, 0 and 0 if it has none.
 pub fn key_of(line: &FileLine) -> (u8, u16) {
     match line.key {
         Some(key) => (key.length, key.start),

@@ -187,7 +187,7 @@ fn set_switches(are_on: &mut [bool; 8], switches: [Switch; 8]) {
     }
 }
 
-/// The place, from `seen` on, of the first halt for diagnostics that is of the job with this RUN card or of a later one; behind the last
+/// The place, from `seen` on, of the first halt for diagnostics that is of the job with this RUN card or of a later one; after the last
 /// halt if there is none. The diagnostics name the RUN card or cards of the source.
 fn first_failed(halts: &[Halt], seen: usize, run_card: usize) -> usize {
     let new = halts.get(seen..).unwrap_or(&[]);
@@ -233,7 +233,7 @@ fn source_in(
     Ok(lines.map(|lines| Source { name, lines }))
 }
 
-/// The lines of the sheets between two places of a deck, where none has a diagnostic by itself.
+/// The lines of the sheets between two places of a deck, if no card has a diagnostic by itself.
 fn read_source(
     alloc: Global,
     deck: &Deck,

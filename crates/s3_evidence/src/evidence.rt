@@ -5,7 +5,7 @@ use s3_cards::Name;
 /// What is wrong with the index of a file. Entries and records are counted from 1.
 #[derive(Clone, Copy)]
 pub enum IndexFlaw {
-    /// The key of this entry isn't above that of the entry before.
+    /// The key of this entry isn't above the key of the entry before.
     Order(u32),
     /// This entry names a record that the file doesn't have.
     Record {
@@ -21,7 +21,7 @@ pub enum IndexFlaw {
         /// The number of the record.
         record: u32,
     },
-    /// The key of this entry isn't that of the record that it names.
+    /// The key of this entry isn't the key of the record that it names.
     Key {
         /// The entry.
         entry: u32,
@@ -35,11 +35,11 @@ pub enum IndexFlaw {
 pub enum Evidence {
     /// Nothing that the bureau itself doesn't have.
     Nothing,
-    /// Records of the file at which the program stands.
+    /// Records of the file at which the program is.
     Records {
-        /// The record that was read last; none where the halt is about a record that is put out.
+        /// The record that was read last; none if the halt is about a record that is written.
         last: Option<Vec<u8>>,
-        /// The record before it: the one that was read before, the last one of a load, or the one that is to be updated.
+        /// The record before it: the record read before, the last record of a load, or the record to be updated.
         before: Option<Vec<u8>>,
     },
     /// The slots that block labels of the job's FILE statements.

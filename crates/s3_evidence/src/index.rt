@@ -67,7 +67,7 @@ fn key_of_record<'a>(label: &FileLabel, bytes: &'a [u8], record: u32) -> Option<
     )
 }
 
-/// What is wrong with entry `n` of an index, behind a key, where some records were named before.
+/// What is wrong with entry `n` of an index, given the key before it and the records that were named before.
 fn flaw_of_entry(
     label: &FileLabel,
     bytes: &[u8],

@@ -28,7 +28,7 @@ const SLOT_BYTES: u16 = 64;
 
 /// What the pack has about the halt that waits in a level. No sector changes, and no world that is held.
 ///
-/// Where memory runs out it answers `Stop::NoMemory`, and where a transfer of the store fails `Stop::Device`. After either the bureau
+/// If memory runs out it answers `Stop::NoMemory`, and if a transfer of the store fails `Stop::Device`. After either the bureau
 /// may have stopped.
 #[tactic(auto, using(crate::proofs::Looks::looks_held, crate::proofs::Looks::looks_back, crate::proofs::Looks::count_of, crate::proofs::Looks::not_stopped))]
 pub fn look<S: PackStore>(
@@ -78,7 +78,7 @@ fn read_evidence<S: PackStore>(
     }
 }
 
-/// A record of a file; none where no place is named, or the pack doesn't have it.
+/// A record of a file; none if no place is named, or if the pack doesn't have it.
 #[tactic(auto, using(crate::proofs::Looks::looks_none, crate::proofs::Looks::looks_refused, crate::proofs::Looks::looks_then))]
 fn read_record<S: PackStore>(
     alloc: Global,

@@ -66,7 +66,7 @@ pub(crate) fn read_sectors<S: PackStore>(
     Ok(bytes)
 }
 
-/// So many bytes of a file that lies in these runs, from a byte on, counted from 0; `None` where the pack doesn't have them.
+/// So many bytes of a file that lies in these runs, from a byte on, counted from 0; `None` if the pack doesn't have them.
 #[tactic(auto, using(crate::proofs::Looks::looks_none, crate::proofs::Looks::looks_refused, crate::proofs::Looks::looks_then))]
 pub(crate) fn read_bytes<S: PackStore>(
     alloc: Global,

@@ -62,7 +62,7 @@ impl Source {
     }
 }
 
-/// Whether a calculation is one of totals, behind one that is or isn't.
+/// Whether a calculation is a total calculation, given whether the one before it is.
 fn is_total_behind(was_total: bool, time: CalculationTime) -> bool
     ensures { result ≡ is_total_behind_spec was_total time }
 {

@@ -202,7 +202,7 @@ impl Source {
             .nth(place)
     }
 
-    /// Whether the output line at a place is put out before the next record is read.
+    /// Whether the output line at a place is written before the next record is read.
     pub fn is_at_detail_time(&self, place: usize) -> bool {
         match self.output_at(place) {
             Some(
@@ -219,7 +219,7 @@ impl Source {
         }
     }
 
-    /// Whether an EXCPT may stand at total time.
+    /// Whether the program may have an EXCPT at total time.
     fn has_total_exceptions(&self) -> bool {
         self.lines.iter().any(|line| match &line.sheet {
             SheetLine::Calculation(calculation) => {
@@ -233,7 +233,7 @@ impl Source {
 
 // ---- a job that doesn't start
 
-/// What is to be read if a job doesn't start: of each of its FILE statements, so that neither the jobs before it nor its source are read
+/// What must be read if a job doesn't start: each of its FILE statements, so that the jobs before it and its source aren't read
 /// for that.
 fn wanted_at_start<S: PackStore>(
     alloc: Global,

@@ -1,4 +1,4 @@
-//! What the definitions say of themselves: worked rows.
+//! What the definitions say of themselves: worked examples.
 
 ghost use Rattle.std.specs.Prelude.{◌≡◌, ◌-◌, ◌*◌, ◌/◌, ◌++◌, ℕ, List, [], ◌∷◌, true, length, slice_get, replicate, Some, None, Ok, Err};
 ghost use Rattle.s3_store.specs.Bytes.{bytes_at};
@@ -12,8 +12,8 @@ ghost use Rattle.s3_files.specs.Inner.Records.{record_at};
 ghost use Rattle.s3_files.specs.Inner.Samples.{two_pieces, two_sectors, split_contents, a, b, c};
 ghost use Rattle.s3_files.specs.declared.fault.FileFault.TheVariants.{NoRecord, Full};
 
-/// Of records of 96 bytes over 72 sectors from 456 on and 48 from 576 on, the last one in the first piece is number 192, and
-/// number 193 is the first one in the second.
+/// In a file with records of 96 bytes over 72 sectors from sector 456 on and 48 from sector 576 on, record 192 is the last one in
+/// the first extent, and record 193 is the first one in the second extent.
 pub fn records_run_on_from_piece_to_piece()
     ensures last_of_first { slice_get (sectors_in two_pieces) ((192 * 96 - 1) / 256) ≡ Some 527 }
     ensures first_of_second { slice_get (sectors_in two_pieces) (192 * 96 / 256) ≡ Some 576 }
@@ -21,8 +21,8 @@ pub fn records_run_on_from_piece_to_piece()
     ensures no_more { slice_get (sectors_in two_pieces) 120 ≡ None }
 {}
 
-/// A record may lie across two pieces: of records of 100 bytes over the sectors 2 and 4, the third has 56 bytes of the one and 44
-/// of the other.
+/// A record may lie across two extents. In a file with records of 100 bytes over the sectors 2 and 4, the third record has 56
+/// bytes in sector 2 and 44 in sector 4.
 pub fn a_record_lies_across_two_pieces()
     ensures { slice_get (records_in 100 5 (bytes_at (sectors_in two_sectors) split_contents)) 2 ≡ Some (replicate 56 1 ++ replicate 44 2) }
 {}

@@ -18,9 +18,8 @@ pub trait RecordFile {
     fn len(&self) -> u32
         ensures { result ≡ (file self.now).count };
 
-    /// Reads the record at place `i`, from 0. Refused with `NoRecord` exactly where there is none, where nothing changes, the
-    /// buffer neither, and with `Pool`, where the first bytes of the record may be in the buffer and its others stay. No sector
-    /// changes.
+    /// Reads the record at place `i`, from 0. Refused with `NoRecord` exactly if there is none; then the buffer stays as it was.
+    /// Refused with `Pool` if a sector can't be read; then the buffer may have the first bytes of the record. No sector changes.
     fn get<P: Sectors>(&self, pool: &mut P, i: u32, bytes: &mut [u8]) -> Result<(), FileFault>
         requires stored { AreStored (file self.now).sectors (P.state pool.old).contents }
         requires long { length bytes.old ≡ (file self.now).record_length }
@@ -33,8 +32,8 @@ pub trait RecordFile {
         ensures keeps { KeepsContents (P.state pool.old) (P.state pool.new) }
         ensures failures { (P.state pool.new).failures ≡ (P.state pool.old).failures + failed_file_transfers result };
 
-    /// Writes a record over the one at place `i`, from 0. Refused with `NoRecord` exactly where there is none, where nothing
-    /// changes, and with `Pool`, where that record may be changed in part. No other record changes.
+    /// Writes a record over the one at place `i`, from 0. Refused with `NoRecord` exactly if there is none; then nothing changes.
+    /// Refused with `Pool` if a transfer fails; then that record may be changed in part. No other record changes.
     fn put<P: Sectors>(&self, pool: &mut P, i: u32, bytes: &[u8]) -> Result<(), FileFault>
         requires stored { AreStored (file self.now).sectors (P.state pool.old).contents }
         requires long { length bytes.now ≡ (file self.now).record_length }
@@ -46,8 +45,8 @@ pub trait RecordFile {
         ensures within { ChangesWithin (Contains (file self.now).sectors) (P.state pool.old) (P.state pool.new) }
         ensures failures { (P.state pool.new).failures ≡ (P.state pool.old).failures + failed_file_transfers result };
 
-    /// Adds a record behind the last one. Refused with `Full` exactly where there are as many as there is room for, where
-    /// nothing changes, and with `Pool`, where the list of records stays as it was.
+    /// Adds a record after the last one. Refused with `Full` exactly if the file has no space for another record; then nothing
+    /// changes. Refused with `Pool` if a transfer fails; then the list of records stays as it was.
     fn append<P: Sectors>(&mut self, pool: &mut P, bytes: &[u8]) -> Result<(), FileFault>
         requires stored { AreStored (file self.old).sectors (P.state pool.old).contents }
         requires long { length bytes.now ≡ (file self.old).record_length }

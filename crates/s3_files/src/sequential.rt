@@ -15,7 +15,7 @@ pub struct Sequential {
     pub sectors: FileSectors,
     /// The length of each record in bytes.
     pub record_length: u16,
-    /// For how many records the file has room.
+    /// The number of records for which the file has space.
     pub capacity: u32,
     /// How many records the file has, at most its capacity.
     pub count: u32,

@@ -130,7 +130,7 @@ fn push_file(
     }
 }
 
-/// The area in which damage blocks a label: that of the level for a file that is made.
+/// The area in which damage blocks a label: the level's area for a file that is made.
 fn area_at_fault(asked: &Asked<'_>, file: &JobFile, label: Name) -> u16 {
     match asked.found(label) {
         Found::Damage(area) if !is_new(&file.line) => area,

@@ -53,7 +53,7 @@ impl<'a> AtWork<'a> {
         (before > job.data_from()).then_some(before)
     }
 
-    /// The only file that the cycle reads, if that is on cards and the totals, where the program is at them, are surely those before the
+    /// The only file that the cycle reads, if that is on cards and the totals, if the program is at them, are surely those before the
     /// last card that was read: cards are left, and nothing has turned LR on.
     pub(crate) fn file_behind_totals(&self) -> Option<&'a FileLine> {
         let file = self.source.only_file_read()?;
@@ -79,7 +79,7 @@ pub(crate) fn is_on_cards(line: &FileLine) -> bool {
     matches!(line.device, Device::CardReader)
 }
 
-/// Appends where a program is and what it holds there, the last data card, and its files.
+/// Appends the place of a program and what it holds there, the last data card, and its files.
 pub(crate) fn push_at_work(
     text: &mut String,
     alloc: Global,
@@ -96,7 +96,7 @@ pub(crate) fn push_at_work(
     Ok(())
 }
 
-/// Appends the last data card, with what is marked on it, and the one before it where that is shown too.
+/// Appends the last data card, with what is marked on it, and the one before it if that is shown too.
 fn push_last_card(text: &mut String, at: AtWork<'_>, shown: &Shown) -> Result<(), AllocError> {
     let Some(number) = at.last_card() else {
         return Ok(());

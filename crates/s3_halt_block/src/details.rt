@@ -118,7 +118,7 @@ fn marked_for(
     Ok(marked)
 }
 
-/// Appends a line with marks, where columns are marked.
+/// Appends a line with marks, if columns are marked.
 fn push_marked(text: &mut String, marked: &[Columns]) -> Result<(), AllocError> {
     if marked.is_empty() {
         return Ok(());
@@ -128,7 +128,7 @@ fn push_marked(text: &mut String, marked: &[Columns]) -> Result<(), AllocError> 
     text.push('\n')
 }
 
-/// The last column of a card that is to blame for a diagnostic; 0 where none is.
+/// The last column of a card that is to blame for a diagnostic; 0 if none is.
 fn last_column(entries: &[FaultyEntry], card: u16) -> usize {
     let mut last = 0;
     for entry in entries {
@@ -172,7 +172,7 @@ fn push_detail(
     }
 }
 
-/// Appends the words of a detail, and on a line below them the reason, if there is one.
+/// Appends the text of a detail, and on a line below it the reason, if there is one.
 fn push_words(text: &mut String, words: &str, reason: &str) -> Result<(), AllocError> {
     writeln!(text, "{words}")?;
     if reason.is_empty() {

@@ -28,7 +28,7 @@ pub(crate) fn push_file(text: &mut String, file: &OpenFile) -> Result<(), AllocE
     text.push('\n')
 }
 
-/// Where a file is from, if it isn't one of the level's own that was there before.
+/// The origin of a file, unless it is one of the level's own that was there before.
 fn kind_of(file: &OpenFile) -> &'static str {
     if file.is_made {
         "made here, "

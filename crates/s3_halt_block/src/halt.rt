@@ -126,7 +126,7 @@ fn push_stray_cards(
     push_stray(text, cards.text, cards.deck, job, &strays)
 }
 
-/// The source of a program, without lines where the deck doesn't have it.
+/// The source of a program, without lines if the deck doesn't have it.
 fn source_of(alloc: Global, begun: &Begun, held: &Level, name: Name) -> Result<Source, AllocError> {
     match begun.source_of(alloc, held, name)? {
         Some(source) => Ok(source),

@@ -24,7 +24,7 @@ impl Sort {
     }
 }
 
-/// Where the match fields, or the control fields, of the types of a file's records are.
+/// The places of the match fields, or of the control fields, of the types of a file's records.
 pub(crate) fn level_fields(
     alloc: Global,
     lines: &[Line],

@@ -37,7 +37,7 @@ pub fn push_choice(text: &mut String, level: LevelId, code: HaltCode) -> Result<
     write!(text, ": {choices}")
 }
 
-/// Appends the line that tells what a reply does: `level 2: 0, goes on; the halt indicator goes off`; of one that the halt doesn't
+/// Appends the line that says what a reply does: `level 2: 0, goes on; the halt indicator goes off`; of one that the halt doesn't
 /// allow, which it allows.
 pub fn push_reply(
     text: &mut String,

@@ -120,7 +120,7 @@ fn count_free(slots: &[Slot]) -> usize {
         .count()
 }
 
-/// How many tracks the level's file of a label has, which a new file of that label replaces; none where it has no such file.
+/// How many tracks the level's file of a label has, which a new file of that label replaces; none if it has no such file.
 fn tracks_of_old(asked: &Asked<'_>, name: Name) -> Option<u32> {
     for slot in asked.areas.slots(asked.level) {
         if let Slot::Sound(label) = slot {

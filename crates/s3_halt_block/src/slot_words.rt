@@ -8,11 +8,11 @@ use s3_pack_check::{Damage, damage_of, region_of, slots_of};
 use s3_slots::judge;
 use std::alloc::AllocError;
 
-/// What is said of a slot that is damaged only for a slot before it, which has changed since: a mount would find it sound now.
+/// The text for a slot that was damaged only because of a slot before it, which has changed since: a mount would find it sound now.
 const ENTANGLED: &'static str =
     "when the day began it overlapped the file of a slot before it, or had the label of one";
 
-/// Appends the damaged slot that blocks a label in an area, and what is wrong with it, in the words of `bureau check`.
+/// Appends the damaged slot that blocks a label in an area, and what is wrong with it, as `bureau check` reports it.
 pub(crate) fn push_slot_at_fault(
     text: &mut String,
     at: AtStart<'_>,

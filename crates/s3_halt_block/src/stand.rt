@@ -1,4 +1,4 @@
-//! Where a program is in its source, and what it holds there.
+//! The place of a program in its source, and what it holds there.
 
 use crate::at_work::{AtWork, is_on_cards};
 use crate::bad_digits::bad_digits;
@@ -12,7 +12,7 @@ use s3_lines::sheet::{FieldLine, FileLine, InputLine, Line, SheetLine};
 use s3_operator::HaltCode;
 use std::alloc::{AllocError, Global};
 
-/// What of the stand is shown with the last data card.
+/// The part of the place of the run that is shown with the last data card.
 #[derive(Drop)]
 pub(crate) struct Shown {
     /// The columns that are marked on it.
@@ -54,7 +54,7 @@ impl Shown {
     }
 }
 
-/// Appends where a program is. What belongs on the last data card is handed on.
+/// Appends the place of a program. What belongs on the last data card is handed on.
 pub(crate) fn push_stand(
     text: &mut String,
     alloc: Global,
@@ -134,7 +134,7 @@ fn push_file_name(text: &mut String, file: Option<&FileLine>) -> Result<(), Allo
 
 // ---- a record that was read
 
-/// Appends the record that was read last of a file, and where it is one out of sequence the one before it.
+/// Appends the record that was read last of a file, and the one before it if the record is out of sequence.
 fn push_head(
     text: &mut String,
     alloc: Global,
@@ -288,9 +288,9 @@ fn push_found(text: &mut String, at: AtWork<'_>) -> Result<(), AllocError> {
     }
 }
 
-// ---- a record that is put out
+// ---- a record that is written
 
-/// Appends the record that the output line at a place puts out with its key marked, and the one with which it is compared.
+/// Appends the record that the output line at a place writes with its key marked, and the one with which it is compared.
 fn push_put(
     text: &mut String,
     at: AtWork<'_>,
@@ -314,7 +314,7 @@ fn push_put(
     }
 }
 
-/// Whether the record before the one that the output line at a place puts out is the one that it is compared with: the last one of a load,
+/// Whether the record before the one that the output line at a place writes is the one that it is compared with: the last one of a load,
 /// one that was chained, or at detail time the one that was read last.
 fn is_compared(at: AtWork<'_>, file: Option<&FileLine>, place: usize) -> bool {
     if !matches!(at.code, HaltCode::KeyChanged) {
@@ -339,7 +339,7 @@ fn push_keyed_record(
     }
 }
 
-/// Where the key of a file lies in its records.
+/// The place of the key of a file in its records.
 fn key_columns(file: Option<&FileLine>) -> Option<Columns> {
     let key = file?.key?;
     let from = usize::from(key.start);

@@ -19,7 +19,7 @@ pub enum FileFault {
     Hindered(Hindrance),
     /// The file is this standard stream as well.
     Stream(StandardStream),
-    /// No pack is saved there: it is this standard stream, which is a pipe or a terminal.
+    /// The pack isn't saved, because the target is this standard stream, which is a pipe or a terminal.
     Talk(StandardStream),
     /// A call of the system failed, and the file is what it was.
     Call(io::Error),

@@ -12,7 +12,7 @@ use std::io::ErrorKind;
 use std::path::{Path, PathBuf};
 use std::{fs, io};
 
-/// The name beside which a file is made to try whether a folder takes new files.
+/// The name in whose folder a file is made, to try whether the folder takes new files.
 const TRIED: &str = "paper";
 
 /// A folder that is locked as long as this lives, so that only one command makes files in it.
@@ -62,7 +62,7 @@ fn tried(rt: &HostRuntime, path: &str) -> io::Result<PathBuf> {
     Ok(Path::new(path).join(rt.alloc(), TRIED)?)
 }
 
-/// A file that is made anew at a path, within a limit, to be written. If something has that name and may be overwritten, it is removed
+/// A new file at a path, to be written within a limit. If something has that name and may be overwritten, it is removed
 /// first, unless it is a pack; of a link, only the link is removed.
 pub fn create_anew(
     rt: &HostRuntime,

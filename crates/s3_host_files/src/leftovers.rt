@@ -1,4 +1,4 @@
-//! The new files that killed saves have left beside a pack.
+//! The new files that killed saves have left in a pack's folder.
 
 use super::locking::lock;
 use super::naming::{Claim, is_leftover};
@@ -12,12 +12,12 @@ use std::{fs, io};
 /// The text between the name of a pack's file and the number of a new file.
 const INFIX: &str = ".new-";
 
-/// The path of a new file beside another.
+/// The path of a new file in the folder of another.
 pub fn beside(rt: &HostRuntime, place: Path<'_>, number: u32) -> Result<String, AllocError> {
     format!(in rt.alloc(); "{}{INFIX}{number}", place.as_str())
 }
 
-/// Removes what killed saves to a path have left beside it, given the file that is there, if one is, and the packs that the command
+/// Removes what killed saves to a path have left in its folder, given the file that is there, if one is, and the packs that the command
 /// reads, which stay. A file that can't be removed stays too, and hinders no save.
 pub fn remove_leftovers(
     rt: &HostRuntime,
@@ -93,7 +93,7 @@ fn is_read(rt: &HostRuntime, found: &Metadata, read: &[Option<&str>]) -> bool {
     false
 }
 
-/// Who has the file of a name, which is locked here if no other command has it.
+/// The command that has the file of a name; the file is locked here if no other command has it.
 fn claim_by_lock(rt: &HostRuntime, path: &str, file: &File) -> io::Result<Claim> {
     Ok(if lock(file)? && leads_to(rt, Path::new(path), file)? {
         Claim::Free

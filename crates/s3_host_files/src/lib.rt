@@ -4,7 +4,7 @@
 //! What is proved: how a new file gets the name of an old one, by what is found there (`choose_naming`), which files a pack may replace
 //! (`can_begin_pack`), which files a save removes (`is_leftover`), and the names of the standard streams (`StandardStream::name`).
 //! Each call is safe and returns. What files give and take isn't claimed: they are used as the toolchain offers them, and
-//! `tools/kill-saves` and `tools/test-saves` test the saves.
+//! `tools/search/kill-saves` and `tools/check/test-saves` test the saves.
 
 #![tactic(auto)]
 
@@ -72,12 +72,12 @@ pub fn read_to_save(
     }
 }
 
-/// Saves a pack whole or not at all if the path leads to a regular file or to none: it is written to a new file beside it, which then
+/// Saves a pack whole or not at all if the path leads to a regular file or to none: it is written to a new file in its folder, which then
 /// gets the name. A link is followed. Anything else, as a device, is written in place. After `Ok` the disk has the pack. After
 /// `Unsynced` the file is the new pack too; after any other fault it is what it was.
 ///
 /// An old file is replaced under the lock that the pack was read under, or is locked here. It keeps its mode. A new file gets the mode of
-/// a new file, within a limit. What killed saves have left beside it is removed, except the packs that the command reads. Refusals: `InUse` if another command has the old file, `NoPack` if it isn't a pack, `Hindered` if it may
+/// a new file, within a limit. What killed saves have left in its folder is removed, except the packs that the command reads. Refusals: `InUse` if another command has the old file, `NoPack` if it isn't a pack, `Hindered` if it may
 /// not be written, was changed since the lock or has lost its name to another file, and `Stream` or `Talk` if it is also standard
 /// output or standard error.
 pub fn save_pack(

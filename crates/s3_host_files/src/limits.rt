@@ -1,4 +1,4 @@
-//! The access to files beside a pack: at most the access that the pack gives.
+//! The access to files in a pack's folder: at most the access that the pack gives.
 
 use super::places::existing;
 use super::replacing::without_group;
@@ -13,7 +13,7 @@ const OWNER: u32 = 0o600;
 /// The most that the group and others may do.
 const OTHERS: u32 = 0o066;
 
-/// The most that a file beside a pack lets anyone do: what the pack lets them do. Its owner may always read and write it.
+/// The most access that a new file of a pack may give: the access that the pack gives. Its owner may always read and write it.
 #[derive(Clone, Copy)]
 pub struct Limit {
     mode: u32,
@@ -21,7 +21,7 @@ pub struct Limit {
 }
 
 impl Limit {
-    /// The limit of the files beside a pack; none if no file is there.
+    /// The limit of the new files of a pack; none if no file is there.
     pub fn of(rt: &HostRuntime, pack: &str) -> io::Result<Option<Limit>> {
         match existing(rt, Path::new(pack))? {
             Some(found) if found.is_file() => Ok(Some(Limit {

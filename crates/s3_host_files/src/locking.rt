@@ -11,7 +11,7 @@ use std::io;
 use std::io::ErrorKind;
 use std::path::{Path, PathBuf};
 
-/// How often a file is opened anew if another one got its name before it was locked.
+/// How often a file is opened again if another one got its name before it was locked.
 pub const TURNS: u32 = 10;
 
 /// The file of a pack, locked for this command until a new one has its name, and its last change before it was read.

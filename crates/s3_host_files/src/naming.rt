@@ -1,4 +1,4 @@
-//! How a new pack gets the name of its file, by what is found there, and which files beside it are leftovers of killed saves.
+//! How a new pack gets the name of its file, by what is found there, and which files in its folder are leftovers of killed saves.
 ghost use Rattle.std.specs.Prelude.{◌≡◌};
 ghost use Rattle.s3_host_files.specs.Inner.Naming.{naming_of, words_of_hindrance, can_begin_pack as can_begin_pack_spec, is_begun as is_begun_spec, is_leftover as is_leftover_spec};
 
@@ -70,7 +70,7 @@ pub fn choose_naming(
     }
 }
 
-/// Who has a file that is named as the new files of saves are.
+/// The command that has a file with a name like the new files of saves.
 #[derive(Clone, Copy, Debug, PartialEq, Eq)]
 pub enum Claim {
     /// The command that saves: it reads this pack.
@@ -79,7 +79,7 @@ pub enum Claim {
     SecondName,
     /// A command that has locked it.
     Locked,
-    /// Nobody.
+    /// No command.
     Free,
 }
 

@@ -1,5 +1,6 @@
-//! Where a path leads, and what is there.
+//! The target of a path, and what is there.
 
+use super::streams::{StandardStream, stream_of};
 use std::fs::{File, Metadata};
 use std::io::ErrorKind;
 use std::os::unix::fs::MetadataExt;
@@ -11,13 +12,19 @@ const LINK_LIMIT: u32 = 40;
 
 /// The path at the end of the links that a path names.
 pub fn followed(rt: &HostRuntime, path: &str) -> io::Result<PathBuf> {
+    let (place, _found) = followed_to(rt, path)?;
+    Ok(place)
+}
+
+/// The path at the end of the links that a path names, and what is there, if anything is.
+fn followed_to(rt: &HostRuntime, path: &str) -> io::Result<(PathBuf, Option<Metadata>)> {
     let alloc = rt.alloc();
     let mut place = Path::new(path).to_path_buf(alloc)?;
     for _link in 0..LINK_LIMIT {
         match fs::symlink_metadata(rt, place.as_path()) {
             Ok(found) if found.is_symlink() => place = target_of(rt, place.as_path())?,
-            Ok(_) => return Ok(place),
-            Err(error) if error.kind() == ErrorKind::NotFound => return Ok(place),
+            Ok(found) => return Ok((place, Some(found))),
+            Err(error) if error.kind() == ErrorKind::NotFound => return Ok((place, None)),
             Err(error) => return Err(error),
         }
     }
@@ -52,9 +59,17 @@ pub fn folder_of<'a>(place: Path<'a>) -> Path<'a> {
 
 /// Whether two paths are known to lead to the same regular file. If not, the command that reads or saves there reports why.
 pub fn lead_to_one_file(rt: &HostRuntime, one: &str, other: &str) -> bool {
-    match (fs::metadata(rt, one), fs::metadata(rt, other)) {
-        (Ok(one), Ok(other)) => one.is_file() && are_same(&one, &other),
+    match fs::metadata(rt, one) {
+        Ok(file) if file.is_file() => is_at(rt, &file, other),
         _ => false,
+    }
+}
+
+/// Whether a path is known to lead to this file.
+pub fn is_at(rt: &HostRuntime, file: &Metadata, path: &str) -> bool {
+    match fs::metadata(rt, path) {
+        Ok(found) => are_same(file, &found),
+        Err(_) => false,
     }
 }
 
@@ -81,16 +96,23 @@ pub struct Target {
 }
 
 impl Target {
-    /// Follows a path. It fails where its folder can't be found.
+    /// Follows a path. It fails if its folder can't be found.
     pub fn find(rt: &HostRuntime, path: &str) -> io::Result<Target> {
-        let place = followed(rt, path)?;
-        let found = existing(rt, place.as_path())?;
+        let (place, found) = followed_to(rt, path)?;
         let folder = fs::metadata(rt, folder_of(place.as_path()))?;
         Ok(Target {
             found,
             folder,
             place,
         })
+    }
+
+    /// The first of some streams that is the regular file there.
+    pub fn stream(&self, rt: &HostRuntime, streams: &[StandardStream]) -> Option<StandardStream> {
+        match &self.found {
+            Some(found) => stream_of(rt, found, streams),
+            None => None,
+        }
     }
 
     /// Whether a regular file is there.

@@ -19,7 +19,7 @@ const PRIVATE: u32 = 0o600;
 /// The mode that is asked for an ordinary file. The system reduces it by the umask.
 const USUAL: u32 = 0o666;
 
-/// A new file beside the one whose name it will take. It is locked as long as this lives, so that no other save takes it for a leftover.
+/// A new file in the folder of the file whose name it will take. It stays locked, so that no other save takes it for a leftover.
 #[derive(Drop)]
 struct NewFile {
     path: String,
@@ -55,7 +55,7 @@ pub fn test_replacing(rt: &HostRuntime, locked: &LockedPack) -> Result<(), FileF
     Ok(test_place(rt, locked.place())?)
 }
 
-/// Tries whether a new file can be made beside a path, and whether the folder can be opened. Nothing is changed.
+/// Tries whether a new file can be made in the folder of a path, and whether the folder can be opened. Nothing is changed.
 pub fn test_place(rt: &HostRuntime, place: Path<'_>) -> io::Result<()> {
     let _folder = open_folder(rt, place)?;
     let empty = NewFile::beside(rt, place, PRIVATE)?;

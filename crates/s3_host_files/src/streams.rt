@@ -3,8 +3,9 @@ ghost use Rattle.std.specs.Prelude.{◌≡◌};
 ghost use Rattle.s3_host_files.specs.Inner.Streams.{stream_words};
 
 use super::fault::FileFault;
-use super::places::{are_same, lead_to_one_file};
+use super::places::{are_same, is_at};
 use std::fs;
+use std::fs::Metadata;
 use std::io::IsTerminal;
 use std::os::unix::fs::FileTypeExt;
 
@@ -67,8 +68,23 @@ pub fn stream_at(
     path: &str,
     streams: &[StandardStream],
 ) -> Option<StandardStream> {
+    match fs::metadata(rt, path) {
+        Ok(found) => stream_of(rt, &found, streams),
+        Err(_) => None,
+    }
+}
+
+/// The first of some streams that is a file; none unless the file is a regular one.
+pub fn stream_of(
+    rt: &HostRuntime,
+    file: &Metadata,
+    streams: &[StandardStream],
+) -> Option<StandardStream> {
+    if !file.is_file() {
+        return None;
+    }
     for stream in streams {
-        if lead_to_one_file(rt, path, stream.path()) {
+        if is_at(rt, file, stream.path()) {
             return Some(*stream);
         }
     }

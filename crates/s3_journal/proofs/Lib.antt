@@ -1,4 +1,5 @@
 pub mod AnyLine
+pub mod Examples
 pub mod JournalLemmas
 pub mod MemberLemmas
 pub mod Once

@@ -7,4 +7,5 @@ pub mod Lines
 pub mod Written
 pub mod Journals
 pub mod Posted
+pub mod Saved
 pub mod Crashes

@@ -22,7 +22,7 @@ pub struct Operated {
     pub deck2: String,
     /// The checksum of the file of rules, if one was given.
     pub rules: Option<String>,
-    /// The one who was asked if no rule answered: `lines`, `operator` or `nobody`.
+    /// Who was asked if no rule answered: `lines`, `operator` or `nobody`.
     pub replies: String,
     /// What level 1 did.
     pub one: LevelCount,
@@ -59,7 +59,7 @@ pub enum Work {
     Run(Ran),
     /// `load` added a table to a file.
     Append(Appended),
-    /// `load` made a file anew.
+    /// `load` made a file again.
     Load,
     /// `sort` sorted a file.
     Sort,

@@ -2,7 +2,7 @@
 ghost use Rattle.s3_journal.specs.Inner.Crashes.{CrashesAreSeen, PostsOnce};
 ghost use Rattle.s3_journal.specs.Inner.Journals.{ReadsBack};
 
-/// No list of starts, kills and restarts posts the same decks twice.
+/// No list of starts, kills, restores and changes by something else posts the same without `--again` that was posted to the pack before.
 #[tactic(auto, using(crate::proofs::Once::posts_once))]
 pub fn posts_once()
     ensures { PostsOnce }

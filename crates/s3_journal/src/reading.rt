@@ -78,7 +78,8 @@ pub fn read_lines<'t>(alloc: Global, text: &'t str) -> Result<Lines<'t>, Journal
         last: "",
         bytes: 0,
     };
-    let rest = lines.take_all(alloc, text)?;
+    let mut scratch = Scratch::new(alloc);
+    let rest = lines.take_all(alloc, text, &mut scratch)?;
     if !may_begin_line(rest.as_bytes()) {
         return Err(JournalFault::Line(lines.days.len().saturating_add(1)));
     }
@@ -96,24 +97,34 @@ fn may_begin_line(text: &[u8]) -> bool
 
 impl<'t> Lines<'t> {
     /// Takes all lines of a text that end, and gives what follows them.
-    fn take_all(&mut self, alloc: Global, text: &'t str) -> Result<&'t str, JournalFault>
+    fn take_all(
+        &mut self,
+        alloc: Global,
+        text: &'t str,
+        scratch: &mut Scratch,
+    ) -> Result<&'t str, JournalFault>
         ensures { Reads self.old self.new text.entry.now result }
     {
         let mut rest = text;
         while let Some((line, after)) = rest.split_once('\n') {
-            self.take(alloc, line)?;
+            self.take(alloc, line, scratch)?;
             rest = after;
         }
         Ok(rest)
     }
 
     /// Takes the next line.
-    fn take(&mut self, alloc: Global, line: &'t str) -> Result<(), JournalFault>
+    fn take(
+        &mut self,
+        alloc: Global,
+        line: &'t str,
+        scratch: &mut Scratch,
+    ) -> Result<(), JournalFault>
         ensures taken { Takes (chained self.old.last.now (said_on line.entry.now)) (map day_of self.old.days.items) (map day_of self.new.days.items) result }
         ensures last { OnOk result (self.new.last ≡ line.entry) }
     {
         let number = self.days.len().saturating_add(1);
-        let day = chained_day(alloc, line, self.last, number)?;
+        let day = chained_day(alloc, line, self.last, number, scratch)?;
         self.days.push(day)?;
         self.last = line;
         Ok(())
@@ -126,10 +137,11 @@ fn chained_day(
     line: &str,
     before: &str,
     number: usize,
+    scratch: &mut Scratch,
 ) -> Result<PostedDay, JournalFault>
     ensures { IsChained (chained before.now (said_on line.now)) result }
 {
-    let Some(found) = said_of_line(alloc, line)? else {
+    let Some(found) = said_of_line(alloc, line, scratch)? else {
         return Err(JournalFault::Line(number));
     };
     if !follows(alloc, found.previous.as_str(), before)? {
@@ -139,11 +151,14 @@ fn chained_day(
 }
 
 /// What a line says; `None` if it is no line of a journal. It is refused only if memory runs out.
-fn said_of_line(alloc: Global, line: &str) -> Result<Option<ReadLine>, AllocError>
+fn said_of_line(
+    alloc: Global,
+    line: &str,
+    scratch: &mut Scratch,
+) -> Result<Option<ReadLine>, AllocError>
     ensures { IfOk result (λ found. option_map said_of found ≡ said_on line.now) }
 {
-    let mut scratch = Scratch::new(alloc);
-    match Value::parse(alloc, line, &mut scratch) {
+    match Value::parse(alloc, line, scratch) {
         Ok(value) => said_of_value(alloc, &value),
         Err(fault) => nothing_said(fault),
     }

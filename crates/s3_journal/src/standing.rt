@@ -4,7 +4,7 @@ ghost use Rattle.std.specs.List.{list_any};
 ghost use Rattle.std.specs.Option.{option_copied, option_map};
 ghost use Rattle.std.specs.Str.{bytes_eq};
 ghost use Rattle.std.specs.String.{string_bytes};
-ghost use Rattle.s3_journal.specs.Inner.Posted.{has_pack as has_pack_spec, line_of, lines_of, made as made_spec, posted_by, posted_in, same_posted, standing_of as standing_spec, start_of as start_spec};
+ghost use Rattle.s3_journal.specs.Inner.Posted.{has_pack as has_pack_spec, known_as as known_as_spec, line_of, lines_of, made as made_spec, posted_by, posted_in, same_posted, standing_of as standing_spec, start_of as start_spec};
 
 use crate::day::{PostedDay, Posting};
 
@@ -13,9 +13,9 @@ use crate::day::{PostedDay, Posting};
 pub(crate) enum Standing {
     /// The journal has no line.
     First,
-    /// The pack is the one that the last day left.
+    /// The pack is the pack that the last day left.
     Current,
-    /// The pack is the one on which the last day began: its new pack was never saved.
+    /// The pack is the pack on which the last day began: its new pack was never saved.
     NotPosted,
     /// The pack is an old copy: an earlier day left it or began on it.
     OldCopy,
@@ -37,7 +37,7 @@ pub enum Start {
 }
 
 /// Whether two texts are the same.
-fn is_same(one: &str, other: &str) -> bool
+pub(crate) fn is_same(one: &str, other: &str) -> bool
     ensures { result ≡ bytes_eq one.now other.now }
 {
     one == other
@@ -113,6 +113,23 @@ fn any_has_pack(days: &[PostedDay], pack: &str) -> bool
     days.iter().any(|day| has_pack(day, pack))
 }
 
+/// A pack if a line has it; else the one that the last line left, which something else changed into this pack.
+#[tactic(auto, using(crate::proofs::AnyLine::any_line))]
+fn known_as<'p>(days: &'p [PostedDay], pack: &'p str) -> &'p str
+    ensures { result.now ≡ known_as_spec pack.now (lines_of days.now) }
+{
+    let Some((last, older)) = days.split_first() else {
+        return pack;
+    };
+    if has_pack(last, pack) {
+        pack
+    } else if any_has_pack(older, pack) {
+        pack
+    } else {
+        last.after.as_str()
+    }
+}
+
 /// The last of these days before or after which the pack was there.
 pub fn day_with<'a>(days: &'a [PostedDay], pack: &str) -> Option<&'a PostedDay>
     ensures { option_copied result ≡ find (λ day. has_pack_spec pack.now (line_of day)) days.now }
@@ -130,13 +147,16 @@ pub fn posted_day<'a>(
     ensures { option_map line_of (option_copied result) ≡ posted_in (posted_by posting.entry) pack.now (lines_of days.now) }
 {
     let mut made = pack;
-    for day in days {
+    let mut rest = days;
+    while let Some((day, older)) = rest.split_first() {
+        made = known_as(rest, made);
         if has_made(day, made) {
             if has_posted(day, posting) {
                 return Some(day);
             }
             made = day.before.as_str();
         }
+        rest = older;
     }
     None
 }

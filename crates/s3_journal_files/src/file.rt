@@ -14,7 +14,7 @@ use std::path::Path;
 use std::time::{SystemTime, UNIX_EPOCH};
 use std::{fs, io};
 
-/// The mode of a new journal beside a new pack.
+/// The mode of a new journal of a new pack.
 const NEW_MODE: u32 = 0o666;
 
 /// The pack over which a command begins.
@@ -37,7 +37,7 @@ pub struct NewLine<'b> {
     pub status: u8,
 }
 
-/// How often a journal is opened anew if it is removed before it is locked.
+/// How often a journal is opened again if it is removed before it is locked.
 const TURNS: u32 = 10;
 
 /// A journal, locked as long as this lives.
@@ -85,6 +85,13 @@ impl<'a> JournalFile<'a> {
                 read,
             }),
             Err(refusal) => Err(refusal),
+        }
+    }
+
+    /// Removes the journal if it was made here and got no line.
+    pub fn remove_if_unused(&self, rt: &HostRuntime) {
+        if self.is_made {
+            remove_if_empty(rt, self.name, &self.file);
         }
     }
 
@@ -199,12 +206,17 @@ pub struct MadeJournal<'a> {
 impl<'a> MadeJournal<'a> {
     /// Removes the journal if it got no line.
     pub fn remove_if_empty(&self, rt: &HostRuntime) {
-        if let Ok(found) = self.file.metadata()
-            && found.len() == 0
-            && leads_to(rt, self.name, &self.file)
-        {
-            let _ = fs::remove_file(rt, self.name);
-        }
+        remove_if_empty(rt, self.name, &self.file);
+    }
+}
+
+/// Removes a locked journal that has no line, if the name still leads to it.
+fn remove_if_empty(rt: &HostRuntime, name: &str, file: &File) {
+    if let Ok(found) = file.metadata()
+        && found.len() == 0
+        && leads_to(rt, name, file)
+    {
+        let _ = fs::remove_file(rt, name);
     }
 }
 
@@ -256,7 +268,7 @@ impl Opened {
         }
     }
 
-    /// Makes a journal with a mode, or opens the one that is there.
+    /// Makes a journal with a mode, or opens the existing one.
     fn by(rt: &HostRuntime, name: &str, mode: u32) -> io::Result<Opened> {
         let mut options = OpenOptions::new();
         options.append(true).create_new(true).mode(mode);

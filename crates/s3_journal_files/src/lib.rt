@@ -2,7 +2,7 @@
 //! new pack is saved.
 //!
 //! What is proved: each call is safe and returns, and a refusal has status 1 or 3. What the lines decide is proved in `s3_journal`. That
-//! a line is on the disk before the pack is saved, and the sentences, are tested, by rows and by `tools/test-journal`.
+//! a line is on the disk before the pack is saved, and the sentences, are tested, by rows and by `tools/search/test-journal`.
 
 #![tactic(auto)]
 

@@ -43,7 +43,7 @@ impl AddedEntries {
         self.numbers.is_empty()
     }
 
-    /// The number, from 1, of the added record with this key; `None` where no added one has it.
+    /// The number, from 1, of the added record with this key; `None` if no added one has it.
     pub fn number_of(&self, key: &Key) -> Option<u32>
         ensures { MatchOption result
             ((i : ℕ) (entry : Entry) → slice_get (entries_of self.now) i ≡ Some entry → entry.key ≢ number_of key.now.bytes)
@@ -55,7 +55,7 @@ impl AddedEntries {
         }
     }
 
-    /// The entry with the highest key; `None` where there is none.
+    /// The entry with the highest key; `None` if there is none.
     pub fn last(&self) -> Option<IndexEntry>
         ensures { MatchOption result
             (entries_of self.now ≡ [])

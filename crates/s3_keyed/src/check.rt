@@ -1,4 +1,4 @@
-//! Whether an index is that of the records.
+//! Whether an index is the key order of the records.
 ghost use Rattle.std.specs.Prelude.{◌≡◌, ◌≤◌, ◌<◌, ◌+◌, ◌*◌, ◌/◌, ◌^◌, ◌-◌, min, IfOk, OnOk, MatchBool};
 ghost use Rattle.s3_store.specs.Inner.Calls.{Reads};
 ghost use Rattle.s3_files.specs.Inner.Files.{AreStored};
@@ -54,7 +54,7 @@ fn keys_ascend(sector: &[u8; 256], entries: usize, key_length: usize) -> bool
     true
 }
 
-/// Whether the keys of the first so many entries of a sector ascend, by numbers where they have four to eight bytes.
+/// Whether the keys of the first so many entries of a sector ascend, by numbers if they have four to eight bytes.
 fn ascend(sector: &[u8; 256], entries: usize, key_length: usize) -> bool
     requires short { key_length ≤ 29 }
     requires some { 0 < entries }
@@ -76,7 +76,7 @@ fn follows(place: u32, sector: &[u8; 256], key_length: usize, last: &Key) -> boo
     place == 0 || is_entry_above(sector, 0, key_length, last)
 }
 
-/// Whether the first so many entries of a sector of the index go on from the key before them, and ascend.
+/// Whether the first so many entries of a sector of the index ascend, and are above the key before them.
 fn goes_on(place: u32, sector: &[u8; 256], entries: usize, key_length: usize, last: &Key) -> bool
     requires short { key_length ≤ 29 }
     requires some { 0 < entries }
@@ -87,7 +87,8 @@ fn goes_on(place: u32, sector: &[u8; 256], entries: usize, key_length: usize, la
     follows(place, sector, key_length, last) && ascend(sector, entries, key_length)
 }
 
-/// Whether the first so many entries of a sector of the index go on from the key before them, ascend, and are those of records.
+/// Whether the first so many entries of a sector of the index ascend, are above the key before them, and have the keys of their
+/// records.
 fn is_sector_good<P: Sectors>(
     file: &IndexedFile,
     pool: &mut P,

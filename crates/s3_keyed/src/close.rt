@@ -17,7 +17,7 @@ use crate::keys::Key;
 use crate::write::write_entry;
 use s3_store::{SectorFault, Sectors};
 
-/// The last of the first so many entries of the index, where its key is above this one.
+/// The last of the first so many entries of the index, if its key is above this one.
 fn last_above<P: Sectors>(
     file: &IndexedFile,
     pool: &mut P,
@@ -42,7 +42,7 @@ fn last_above<P: Sectors>(
 }
 
 /// Merges entries, in the order of their keys, into the first so many entries of the index, from the highest down and in place.
-/// The records stay, also where the call is refused.
+/// The records stay as they were, also if the call is refused.
 pub fn merge<P: Sectors>(
     file: &IndexedFile,
     pool: &mut P,

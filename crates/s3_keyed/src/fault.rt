@@ -17,10 +17,10 @@ pub enum KeyedFault {
     /// The file has as many records as it has room for.
     #[error("the file is full")]
     Full,
-    /// The record to be written has another key than the one there.
+    /// The record to be written has another key than the record at its place.
     #[error("the key would change")]
     KeyChanged,
-    /// The index isn't that of the records.
+    /// The index isn't the key order of the records.
     #[error("the index is not that of the records")]
     BadIndex,
     /// The key of a record to be loaded isn't above all others.

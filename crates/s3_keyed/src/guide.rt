@@ -13,13 +13,13 @@ pub const STEP: u32 = 4;
 /// Some keys of an index as it was checked, in their order.
 #[derive(Drop)]
 pub struct Guide {
-    /// The first key of each sector and each fourth one behind it as numbers, where keys have four to eight bytes.
+    /// The first key of each sector and each fourth one after it as numbers, if keys have four to eight bytes.
     numbers: Vec<u64>,
     /// Which entry of the index has each of them.
     entries: Vec<u32>,
     /// The record of each key.
     records: NotedRecords,
-    /// The first key of each sector, where keys are shorter or longer.
+    /// The first key of each sector, if keys are shorter or longer.
     firsts: Vec<QuickKey>,
 }
 
@@ -101,15 +101,15 @@ impl Guide {
         Ok(())
     }
 
-    /// The last entry that is noted with this key or a lower one, where keys have four to eight bytes.
+    /// The last entry that is noted with this key or a lower one, if keys have four to eight bytes.
     pub fn entry_up_to(&self, key: u64) -> Option<u32> {
         let up_to = self.numbers.partition_point(|number| *number <= key);
         let entry = self.entries.get(up_to.checked_sub(1)?)?;
         Some(*entry)
     }
 
-    /// The place of the record with the key in these bytes, from 0, where it stood at the check. Seldom it is a record with another
-    /// key.
+    /// The place, from 0, that the record with the key in these bytes had at the check. It may be the place of a record with
+    /// another key, but seldom is.
     pub fn record_of(&self, key: &[u8]) -> Option<u32> {
         self.records.find(short_form(key))
     }

@@ -1,4 +1,4 @@
-//! Sectors of an index, whose entries are looked at where they lie.
+//! Sectors of an index, whose entries are read in place.
 ghost use Rattle.std.specs.Prelude.{◌≡◌, ◌≤◌, ◌<◌, ◌+◌, ◌*◌, ◌/◌, ◌^◌, length, take, nat_lt, ◌==◌, OnOk};
 ghost use Rattle.std.specs.Ordering.{nat_cmp};
 ghost use Rattle.s3_store.specs.Inner.Calls.{Reads};
@@ -82,7 +82,7 @@ pub fn key_number(sector: &[u8; 256], j: usize, key_length: usize) -> u64
     number_at(entry_bytes(sector, j, key_length), key_length)
 }
 
-/// How the key at the start of an entry, which has so many bytes, stands to another, byte by byte.
+/// How the key at the start of an entry, which has so many bytes, compares with another, byte by byte.
 fn compare_bytes(entry: &[u8], key_length: usize, key: &Key) -> Ordering
     requires short { key_length ≤ 29 }
     requires whole { length entry.now ≡ key_length + 4 }
@@ -92,7 +92,7 @@ fn compare_bytes(entry: &[u8], key_length: usize, key: &Key) -> Ordering
     entry[..key_length].cmp(&key.bytes[32 - key_length..])
 }
 
-/// How the key at the start of an entry, which has four to eight bytes, stands to another, as numbers.
+/// How the key at the start of an entry, which has four to eight bytes, compares with another, as numbers.
 fn compare_number(entry: &[u8], key_length: usize, key: &Key) -> Ordering
     requires long { 4 ≤ key_length }
     requires short { key_length ≤ 8 }
@@ -103,7 +103,7 @@ fn compare_number(entry: &[u8], key_length: usize, key: &Key) -> Ordering
     number_at(entry, key_length).cmp(&key.short_number())
 }
 
-/// How the key at the start of an entry, which has more than eight bytes, stands to another, by the first eight bytes where
+/// How the key at the start of an entry, which has more than eight bytes, compares with another: by the first eight bytes if
 /// these differ.
 fn compare_head(entry: &[u8], key_length: usize, key: &Key) -> Ordering
     requires long { 8 ≤ key_length }
@@ -119,7 +119,7 @@ fn compare_head(entry: &[u8], key_length: usize, key: &Key) -> Ordering
     compare_bytes(entry, key_length, key)
 }
 
-/// How the key of entry `j` of a sector, which has so many bytes, stands to another.
+/// How the key of entry `j` of a sector, which has so many bytes, compares with another.
 pub fn compare_entry(sector: &[u8; 256], j: usize, key_length: usize, key: &Key) -> Ordering
     requires short { key_length ≤ 29 }
     requires inside { j < 256 / (key_length + 4) }
@@ -164,7 +164,7 @@ pub fn is_key_of(sector: &[u8; 256], j: usize, key_length: usize, key: &Key) -> 
     compare_entry(sector, j, key_length, key) == Ordering::Equal
 }
 
-/// How two texts of 12 to 16 bytes stand to each other: by the first eight bytes, and then by the others.
+/// How two texts of 12 to 16 bytes compare: by the first eight bytes, and then by the others.
 fn compare_words(one: &[u8], other: &[u8]) -> Ordering
     requires same { length one.now ≡ length other.now }
     requires long { 12 ≤ length one.now }
@@ -175,7 +175,7 @@ fn compare_words(one: &[u8], other: &[u8]) -> Ordering
     head.then(few_number(&one[8..]).cmp(&few_number(&other[8..])))
 }
 
-/// How the first `count` bytes of one text stand to those of another.
+/// How the first `count` bytes of one text compare with those of another.
 fn compare_first(one: &[u8], other: &[u8], count: usize) -> Ordering
     requires one { count ≤ length one.now }
     requires other { count ≤ length other.now }
@@ -196,7 +196,7 @@ pub fn are_same_first(one: &[u8], other: &[u8], count: usize) -> bool
     compare_first(other, one, count) == Ordering::Equal
 }
 
-/// Whether two texts begin with the same `count` bytes, by numbers where these are four to eight and both texts have eight.
+/// Whether two texts begin with the same `count` bytes, by numbers if `count` is four to eight and both texts have eight bytes.
 pub fn have_same_first(one: &[u8], other: &[u8], count: usize) -> bool
     requires one { count ≤ length one.now }
     requires other { count ≤ length other.now }

@@ -1,4 +1,4 @@
-//! A file of records with an index behind them.
+//! A file of records with an index after the records.
 ghost use Rattle.std.specs.Prelude.{◌≡◌, ◌≤◌, ◌<◌, ◌+◌, ◌*◌, ◌^◌, length};
 ghost use Rattle.s3_slots.specs.Slots.{entries_per_sector, record_sectors, index_sectors};
 
@@ -6,7 +6,7 @@ use crate::keys::Key;
 use s3_files::Sequential;
 use s3_slots::FileLabel;
 
-/// Records, with a key in each and an index by key in the sectors behind them.
+/// Records with a key in each, and an index by key in the sectors after the records.
 #[derive(Drop)]
 pub struct IndexedFile {
     /// The records in the order in which they were written.

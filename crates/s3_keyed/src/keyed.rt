@@ -51,7 +51,7 @@ impl Keyed {
     ghost use Rattle.s3_keyed.specs.Index.{layout_of};
 
     /// Opens the indexed file that a label describes, if its index is good, which takes one pass over its entries. Refused with
-    /// `BadIndex` exactly where it isn't.
+    /// `BadIndex` exactly if it isn't.
     pub fn check<P: Sectors>(
         alloc: Global,
         pool: &mut P,
@@ -106,8 +106,8 @@ impl Keyed {
         self.count == 0
     }
 
-    /// Reads the record at a place, from 0. Refused with `NoKey` where there is none; then nothing changes, the buffer neither.
-    /// Refused with `Pool`, the first bytes of the record may be in the buffer, and its others stay.
+    /// Reads the record at a place, from 0. Refused with `NoKey` if there is none; then the buffer stays as it was. Refused with
+    /// `Pool` if a transfer fails; then the buffer may have the first bytes of the record.
     pub fn get<P: Sectors>(&self, pool: &mut P, i: u32, bytes: &mut [u8]) -> Result<(), KeyedFault>
         requires stored { AreStored (shown self.now).sectors (P.state pool.old).contents }
         requires long { length bytes.old ≡ (shown self.now).layout.record_length }
@@ -125,8 +125,8 @@ impl Keyed {
         Ok(())
     }
 
-    /// Writes a record over the one at a place, from 0, under the same key. Refused with `NoKey` where there is none, else with
-    /// `KeyChanged` where it has another key.
+    /// Writes a record over the one at a place, from 0, under the same key. Refused with `NoKey` if there is none, else with
+    /// `KeyChanged` if it has another key.
     pub fn update<P: Sectors>(&self, pool: &mut P, i: u32, bytes: &[u8]) -> Result<(), KeyedFault>
         requires stored { AreStored (shown self.now).sectors (P.state pool.old).contents }
         requires ordered { HasKeyOrder (shown self.now) (P.state pool.old).contents }
@@ -147,8 +147,8 @@ impl Keyed {
         Ok(())
     }
 
-    /// Writes a record over the one at a place, from 0, which is `old`, under the same key. Refused with `KeyChanged` where
-    /// it has another one.
+    /// Writes a record over the one at a place, from 0, which is `old`, under the same key. Refused with `KeyChanged` if it has
+    /// another one.
     pub fn replace<P: Sectors>(
         &self,
         pool: &mut P,
@@ -232,8 +232,8 @@ impl Keyed {
         Ok(None)
     }
 
-    /// The place of the record with the key in these bytes, from 0, where they are four to eight and it stood at the check:
-    /// no more of the index is read than a few entries.
+    /// The place, from 0, of the record with the key in these bytes, if the key has four to eight bytes and was in the file at
+    /// the check. Only a few entries of the index are read.
     #[inline(never)]
     fn quick_place<P: Sectors>(&self, pool: &mut P, key: &[u8]) -> Result<Option<u32>, SectorFault>
         requires stored { AreStored (shown self.now).sectors (P.state pool.old).contents }
@@ -254,7 +254,7 @@ impl Keyed {
         }
     }
 
-    /// The place of the record with the key in these bytes, from 0. Refused with `NoKey` where no record has it.
+    /// The place of the record with the key in these bytes, from 0. Refused with `NoKey` if no record has it.
     pub fn find<P: Sectors>(&self, pool: &mut P, key: &[u8]) -> Result<u32, KeyedFault>
         requires stored { AreStored (shown self.now).sectors (P.state pool.old).contents }
         requires ordered { HasKeyOrder (shown self.now) (P.state pool.old).contents }
@@ -272,8 +272,9 @@ impl Keyed {
         }
     }
 
-    /// Reads the record with the key in these bytes where it stood at the check, and answers its place, from 0; `None` where it
-    /// isn't noted, although it may be there. The record's own key is compared, so that no sector of the index is read. Refused where a transfer fails or memory runs out.
+    /// Reads the record with the key in these bytes at the place that the table in memory has for it, and answers this place,
+    /// from 0. `None` if the table doesn't have the key, although the record may be there. The record's own key is compared, so
+    /// no sector of the index is read. Refused if a transfer fails or memory runs out.
     pub fn get_noted<P: Sectors>(
         &self,
         pool: &mut P,
@@ -302,8 +303,8 @@ impl Keyed {
         Ok(None)
     }
 
-    /// The place of the record that is number `n` by key, both from 0, among those that stood at the check. Refused with
-    /// `NoKey` where there were not so many.
+    /// The place of the record that is number `n` in key order among the records of the file at the check, both from 0. Refused
+    /// with `NoKey` if there were fewer.
     pub fn nth_by_key<P: Sectors>(&self, pool: &mut P, n: u32) -> Result<u32, KeyedFault>
         requires stored { AreStored (shown self.now).sectors (P.state pool.old).contents }
         requires ordered { HasKeyOrder (shown self.now) (P.state pool.old).contents }
@@ -318,8 +319,8 @@ impl Keyed {
         Ok(number - 1)
     }
 
-    /// Adds a record behind the last one, under a key that no other has. The index on the pack stays as it is until the close.
-    /// Refused with `Duplicate` where a record has its key, else with `Full` where there is no room.
+    /// Adds a record after the last one, under a key that no other has. The index on the pack stays as it is until the close.
+    /// Refused with `Duplicate` if a record has its key, else with `Full` if there is no room.
     pub fn add<P: Sectors>(&mut self, pool: &mut P, bytes: &[u8]) -> Result<(), KeyedFault>
         requires stored { AreStored (shown self.old).sectors (P.state pool.old).contents }
         requires ordered { HasKeyOrder (shown self.old) (P.state pool.old).contents }
@@ -342,8 +343,8 @@ impl Keyed {
         Ok(())
     }
 
-    /// Loads a record behind the last one, under a key above all others, with its entry in the index on the pack. Refused with
-    /// `NotAscending` where its key isn't above all others, else with `Full` where there is no room.
+    /// Loads a record after the last one, under a key above all others, with its entry in the index on the pack. Refused with
+    /// `NotAscending` if its key isn't above all others, else with `Full` if there is no room.
     pub fn load<P: Sectors>(&mut self, pool: &mut P, bytes: &[u8]) -> Result<(), KeyedFault>
         requires stored { AreStored (shown self.old).sectors (P.state pool.old).contents }
         requires ordered { HasKeyOrder (shown self.old) (P.state pool.old).contents }
@@ -370,7 +371,7 @@ impl Keyed {
         Ok(())
     }
 
-    /// Closes the file: the index on the pack becomes the key order of all records. It isn't written where nothing was added.
+    /// Closes the file: the index on the pack becomes the key order of all records. The index isn't written if nothing was added.
     pub fn close<P: Sectors>(self, pool: &mut P) -> Result<(), KeyedFault>
         requires stored { AreStored (shown self).sectors (P.state pool.old).contents }
         requires ordered { HasKeyOrder (shown self) (P.state pool.old).contents }
@@ -405,7 +406,7 @@ impl Keyed {
         is_above_index(&self.file, pool, self.indexed, key)
     }
 
-    /// Puts a record behind the last one, with its entry in memory.
+    /// Puts a record after the last one, with its entry in memory.
     fn append_added<P: Sectors>(
         &mut self,
         pool: &mut P,
@@ -431,7 +432,7 @@ impl Keyed {
         Ok(())
     }
 
-    /// Puts a record with the highest key behind the last one, with its entry behind the last one on the pack.
+    /// Puts a record with the highest key after the last one, with its entry after the last one on the pack.
     fn append_indexed<P: Sectors>(
         &mut self,
         pool: &mut P,

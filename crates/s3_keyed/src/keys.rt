@@ -12,7 +12,7 @@ const FOLD: u64 = 0xD6E8_FEB8_6659_FD93;
 /// A key of at most 29 bytes, with zeros before it, so that keys of one length compare as numbers.
 #[derive(Clone, Copy)]
 pub struct Key {
-    /// The bytes of the key, behind zeros: as many as two numbers of 128 bits have.
+    /// The bytes of the key, after zeros: as many as two numbers of 128 bits have.
     pub bytes: [u8; 32],
     ghost in_range: { (i : ℕ) → slice_index bytes i < 256 },
 }
@@ -43,7 +43,7 @@ impl Key {
         }
     }
 
-    /// The key as a number of 64 bits, where it has at most eight bytes.
+    /// The key as a number of 64 bits, if it has at most eight bytes.
     pub fn short_number(&self) -> u64
         requires { number_of self.now.bytes < 256 ^ 8 }
         ensures { result ≡ number_of self.now.bytes }
@@ -51,7 +51,7 @@ impl Key {
         BigEndian::read_u64(&self.bytes[24..])
     }
 
-    /// How the key stands to another one of the same length.
+    /// How the key compares with another one of the same length.
     pub fn compare(&self, other: &Key) -> Ordering
         ensures { result ≡ nat_cmp (number_of self.now.bytes) (number_of other.now.bytes) }
     {
@@ -85,7 +85,7 @@ pub fn few_number(key: &[u8]) -> u64
     (first >> (8 * (8 - length)) << 32) + last
 }
 
-/// The number whose bytes are these, where they are four to eight.
+/// The number whose bytes are these, if they are four to eight.
 pub fn short_number_of(key: &[u8]) -> Option<u64>
     ensures number { IfSome result (λ number. number ≡ number_of key.now) }
     ensures long { IfSome result (λ _. 4 ≤ length key.now) }
@@ -110,7 +110,7 @@ fn have_same_bytes(one: &[u8], other: &[u8]) -> bool
     true
 }
 
-/// Whether two keys of one length are the same: compared as numbers where they have four to eight bytes.
+/// Whether two keys of one length are the same: compared as numbers if they have four to eight bytes.
 pub fn are_same_keys(one: &[u8], other: &[u8]) -> bool
     requires { length one.now ≡ length other.now }
     ensures { IsTrue result → number_of one.now ≡ number_of other.now }
@@ -124,8 +124,8 @@ pub fn are_same_keys(one: &[u8], other: &[u8]) -> bool
     number == wanted
 }
 
-/// A number by which nearly all keys differ; a key of at most eight bytes is told by it. Nothing is proved of it, so a search may
-/// begin by it, but no answer rests on it.
+/// A number by which nearly all keys differ, and all keys of at most eight bytes. Nothing is proved of it: a search may begin by
+/// it, but no answer depends on it.
 pub fn short_form(key: &[u8]) -> u64 {
     match short_number_of(key) {
         Some(number) => number,
@@ -134,7 +134,7 @@ pub fn short_form(key: &[u8]) -> u64 {
 }
 
 /// The key's words of eight bytes, folded into one: the last eight bytes, and as many words from its front as lie before its last
-/// byte. The bytes of a key that has none such are put behind one another.
+/// byte. If the key has no such word, its bytes are joined.
 #[inline(never)]
 fn folded(key: &[u8]) -> u64 {
     let mut form = 0;
@@ -168,7 +168,7 @@ pub struct KeyNumber {
 impl KeyNumber {
     ghost use Rattle.s3_keyed.specs.Inner.Added.{whole_number};
 
-    /// How the number stands to another one.
+    /// How the number compares with another one.
     fn compare(&self, other: &KeyNumber) -> Ordering
         ensures { result ≡ ordering_then (nat_cmp self.now.high other.now.high) (nat_cmp self.now.low other.now.low) }
     {

@@ -1,4 +1,4 @@
-//! What the definitions say of themselves: worked rows.
+//! What the definitions say of themselves: worked examples.
 
 ghost use Rattle.std.specs.Prelude.{◌≡◌, ◌+◌, ◌++◌, ℕ, [], ◌∷◌, true, false, replicate, Some, None, Ok, Err};
 ghost use Rattle.s3_slots.specs.Inner.Kept.{IsOfPack};
@@ -13,7 +13,7 @@ ghost use Rattle.s3_keyed.specs.Calls.{nth_by_key, place_of_key, with_added, wit
 ghost use Rattle.s3_keyed.specs.Inner.Samples.{first_byte, ten_records, letter, b_and_a, two_letters, four_letters, entry};
 ghost use Rattle.s3_keyed.specs.declared.fault.KeyedFault.TheVariants.{Duplicate, Full, KeyChanged, NoKey, NotAscending};
 
-/// The index of records with the keys B and A is c100000002c200000001, at the start of the sector behind them. An index in
+/// The index of records with the keys B and A is c100000002c200000001, at the start of the sector after the records. An index in
 /// another order, with a key twice, or of zeros isn't good.
 pub fn the_index_is_in_key_order()
     ensures entries { index_in ten_records 2 (two_letters (0xc1 ∷ 0 ∷ 0 ∷ 0 ∷ 2 ∷ 0xc2 ∷ 0 ∷ 0 ∷ 0 ∷ 1 ∷ [])) ≡ key_order (0xc2 ∷ 0xc1 ∷ []) }
@@ -24,7 +24,7 @@ pub fn the_index_is_in_key_order()
     ensures zeros { is_good_index (index_in ten_records 2 (two_letters (replicate 10 0))) (0xc2 ∷ 0xc1 ∷ []) ≡ false }
 {}
 
-/// When records with the keys D and C are added behind those with B and A, the index becomes
+/// When records with the keys D and C are added after those with B and A, the index becomes
 /// c100000002c200000001c300000004c400000003.
 pub fn added_entries_take_their_places()
     ensures merged { insert_entries (index_in ten_records 2 (two_letters (0xc1 ∷ 0 ∷ 0 ∷ 0 ∷ 2 ∷ 0xc2 ∷ 0 ∷ 0 ∷ 0 ∷ 1 ∷ []))) (entry 0xc3 4 ∷ entry 0xc4 3 ∷ [])
@@ -35,8 +35,8 @@ pub fn added_entries_take_their_places()
     ensures found { place_of_key 0xc4 (0xc2 ∷ 0xc1 ∷ 0xc4 ∷ 0xc3 ∷ []) ≡ Some 2 }
 {}
 
-/// Of 20-byte records with a 6-byte key 200 and their index take the 24 sectors of a track, and 201 take more; 25 entries
-/// lie in each sector behind the 16 of the records.
+/// With 20-byte records and a 6-byte key, 200 records and their index take the 24 sectors of a track, and 201 records take more.
+/// Each sector after the 16 sectors of the records has 25 entries.
 pub fn entries_lie_behind_records()
     ensures fits { sectors_needed Indexed 20 6 200 ≡ 24 }
     ensures one_more { sectors_needed Indexed 20 6 201 ≡ 25 }
@@ -45,8 +45,8 @@ pub fn entries_lie_behind_records()
     ensures last { entry_place (record { record_length = 20; capacity = 200; key = record { length = 6; start = 1 } }) 199 ≡ 6128 }
 {}
 
-/// Of a full file that has the key already, an added record is refused with `Duplicate`, and a loaded one whose key isn't
-/// above all others with `NotAscending`.
+/// In a full file that has the key already, an added record is refused with `Duplicate`. A loaded record whose key isn't above
+/// all others is refused with `NotAscending`.
 pub fn a_full_file_tells_a_duplicate_first()
     ensures duplicate { with_added first_byte 2 (letter 0xc1) b_and_a ≡ Err Duplicate }
     ensures full { with_added first_byte 2 (letter 0xc3) b_and_a ≡ Err Full }

@@ -1,10 +1,10 @@
-//! Where the record of a key is, by a hash of the key. Who asks compares the record's key, so that nothing is proved of it.
+//! Where the record of a key is, by a hash of the key. The caller compares the record's key, so nothing is proved of the answer.
 ghost use Rattle.std.specs.Prelude.{◌≡◌, ◌<◌, IfErr};
 
 use s3_store::SectorFault;
 use std::alloc::Global;
 
-/// How many slots a key may be in, one behind another.
+/// How many slots a key may be in, one after another.
 const TRIES: usize = 16;
 
 /// Spreads keys over the slots: 2 ^ 64 over the golden ratio.

@@ -67,7 +67,7 @@ impl RecordSector {
         Ok(())
     }
 
-    /// Goes on to a sector, which isn't read where it is this one.
+    /// Moves to a sector, which is read unless it is this one.
     fn go_to<P: Sectors>(
         &mut self,
         file: &IndexedFile,

@@ -18,7 +18,7 @@ use crate::sector_search::{Standing, find_entry, number_with};
 use s3_files::read_in_sector;
 use s3_store::{SectorFault, Sectors};
 
-/// The most bytes of the entries that are read at once, where keys have four to eight bytes.
+/// The most bytes of the entries that are read at once, if keys have four to eight bytes.
 const STEP_BYTES: usize = 48;
 
 /// How many entries are looked at from this one on: those of its sector, but few.
@@ -57,8 +57,8 @@ fn read_entries<P: Sectors>(
     )
 }
 
-/// The number of the record with a key of four to eight bytes among the first so many entries of the index, where this entry has it or
-/// one of the few behind it.
+/// The number of the record with a key of four to eight bytes among the first so many entries of the index, if this entry or one
+/// of the few after it has the key.
 pub fn search_from<P: Sectors>(
     file: &IndexedFile,
     pool: &mut P,
@@ -84,8 +84,8 @@ pub fn search_from<P: Sectors>(
     Ok(number_with(bytes, count, key_length, key))
 }
 
-/// Which sector is looked into next, of those from `low` up to but without `high`: the guessed one, then the one behind it, and
-/// then the one in the middle.
+/// The sector that is searched next, among those from `low` up to but without `high`: first the sector of the hint, then the
+/// sector after it, and then the one in the middle.
 fn next_of(low: u32, high: u32, guess: u32) -> u32
     requires some { low < high }
     ensures from { low ≤ result }
@@ -100,8 +100,8 @@ fn next_of(low: u32, high: u32, guess: u32) -> u32
     low + (high - low) / 2
 }
 
-/// The number of the record with a key among the first so many entries of the index. Its sectors are halved, and then the
-/// entries of one; where the guess is that sector, no other is read.
+/// The number of the record with a key among the first so many entries of the index. A binary search finds the sector, and
+/// another one the entry in it. If the hint is the right sector, no other is read.
 pub fn search_index<P: Sectors>(
     file: &IndexedFile,
     pool: &mut P,

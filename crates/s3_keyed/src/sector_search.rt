@@ -15,9 +15,9 @@ use std::cmp::Ordering;
 pub enum Standing {
     /// Before all of them.
     Before,
-    /// Among them, with the number of its record where one has it.
+    /// Among them, with the number of its record if one has it.
     Within(Option<u32>),
-    /// Behind all of them.
+    /// After all of them.
     Behind,
 }
 
@@ -67,7 +67,7 @@ fn count_below(sector: &[u8; 256], entries: usize, key_length: usize, sought: &S
     low
 }
 
-/// How many of the first so many entries of a sector have a key below this one, by numbers where it has four to eight bytes.
+/// How many of the first so many entries of a sector have a key below this one, by numbers if it has four to eight bytes.
 fn entries_below(sector: &[u8; 256], entries: usize, key_length: usize, key: &Key) -> usize
     requires short { key_length ≤ 29 }
     requires inside { entries ≤ 256 / (key_length + 4) }
@@ -86,7 +86,7 @@ fn entries_below(sector: &[u8; 256], entries: usize, key_length: usize, key: &Ke
     }
 }
 
-/// Where a key lies among the first so many entries of a sector, at least one, which are halved.
+/// Where a key is among the first so many entries of a sector, at least one, by binary search.
 pub fn find_entry(sector: &[u8; 256], entries: usize, key_length: usize, key: &Key) -> Standing
     requires short { key_length ≤ 29 }
     requires some { 0 < entries }
@@ -108,7 +108,7 @@ pub fn find_entry(sector: &[u8; 256], entries: usize, key_length: usize, key: &K
     Standing::Within(None)
 }
 
-/// The record number in the one of `count` entries that has a key of four to eight bytes; `None` where none has it.
+/// The record number in the one of `count` entries that has a key of four to eight bytes; `None` if none has it.
 pub fn number_with(bytes: &[u8], count: usize, key_length: usize, key: u64) -> Option<u32>
     requires long { 4 ≤ key_length }
     requires short { key_length ≤ 8 }

@@ -71,7 +71,7 @@ fn encode(entry: &IndexEntry, key_length: usize, bytes: &mut [u8])
     BigEndian::write_u32(number, entry.number);
 }
 
-/// Writes an entry of the index. All others stay, and so do the records, also where the call is refused.
+/// Writes an entry of the index. All others stay, and so do the records, also if the call is refused.
 pub fn write_entry<P: Sectors>(
     file: &IndexedFile,
     pool: &mut P,

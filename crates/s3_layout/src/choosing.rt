@@ -12,9 +12,9 @@ use std::alloc::{AllocError, Global};
 /// Which records of a source are meant.
 #[derive(Clone, Copy)]
 pub struct Choice {
-    /// Their file, where the source has several on disk.
+    /// Their file, if the source has several on disk.
     pub file: Option<Name>,
-    /// The record identifying indicator of their type, where the file has several.
+    /// The record identifying indicator of their type, if the file has several.
     pub record_type: Option<Indicator>,
 }
 

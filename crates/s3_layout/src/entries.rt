@@ -11,7 +11,7 @@ use s3_lines::indicator::Indicator;
 use s3_lines::sheet::{FieldLine, InputLine, Line, SheetLine};
 use std::alloc::{AllocError, Global};
 
-/// Where a line of the I sheet stands: in the records of a file, and among the lines of a type that is meant.
+/// The context of a line of the I sheet: whether it is in the records of a file, and among the lines of a chosen type.
 #[derive(Clone, Copy)]
 pub struct Place {
     in_file: bool,
@@ -29,7 +29,7 @@ impl Place {
         }
     }
 
-    /// At a line, behind those that stand here.
+    /// The context at a line, after the lines of this context.
     fn behind(self, line: &Line, file: Name, record_type: Option<Indicator>) -> Place
         ensures { result ≡ behind_spec file record_type self line.now }
     {
@@ -59,7 +59,7 @@ impl Place {
     }
 }
 
-/// Whether the type of an indicator is the one that is meant, or none is.
+/// Whether the type of an indicator is the chosen one, or no type is chosen.
 fn is_meant(indicator: Indicator, record_type: Option<Indicator>) -> bool
     ensures { result ≡ is_meant_spec record_type indicator }
 {
@@ -116,8 +116,8 @@ fn is_taken(entry: &FieldLine, record_type: Option<Indicator>) -> bool
     }
 }
 
-/// The type of the records that are meant: the one that is named, or the only one; none of a file without types. Refuses a file of
-/// several types where none is named, and a type that the file doesn't have.
+/// The type of the chosen records: the named type, or the only one. None if the file has no types. Refused if no type is named
+/// and the file has several, and if the file doesn't have the named type.
 pub fn chosen_type(
     alloc: Global,
     lines: &[Line],

@@ -13,7 +13,7 @@ use s3_lines::sheet::{InputLine, Line, RecordCode, SheetLine};
 use s3_record_types::{ChosenRecords, RecordKind};
 use std::alloc::{AllocError, Global};
 
-/// The records of the type of an indicator, among the types of a file; all records of the file where none is named.
+/// The records of the type of an indicator, among the types of a file; all records of the file if no type is named.
 pub fn chosen_records(
     alloc: Global,
     lines: &[Line],

@@ -20,9 +20,9 @@ use std::alloc::Global;
 pub struct SourceLayout {
     /// The records: their length by the F sheet, and the fields of the I sheet in the order of their cards, at least one.
     pub layout: Layout,
-    /// Where the key lies, of a file that is addressed by keys and has an index.
+    /// The place of the key, if the file is addressed by keys and has an index.
     pub key: Option<KeyField>,
-    /// The records of the type that is named; all records of the file where none is.
+    /// The records of the named type; all records of the file if no type is named.
     pub records: ChosenRecords,
 }
 

@@ -1,4 +1,4 @@
-//! The job at work: its turn, what it goes on with, where it stands then, and its end.
+//! The job at work: its turn, what it continues with, where it is then, and its end.
 
 use crate::level::Level;
 use crate::next::Next;
@@ -28,7 +28,7 @@ impl Level {
     ghost use Rattle.s3_level.specs.Inner.Turning.{Pends, request_by, waits_by, FitsJob, Comes, AtWorkBecomes, JumpsBecome, TakesTurns};
 
     /// Takes turns, at most `most` of them and at least one: each performs the pending request of the job at work, or begins the
-    /// next job. They are several only where they pass jumps.
+    /// next job. They are several only if they pass jumps.
     #[tactic(auto, using(crate::proofs::Turns::none_open, crate::proofs::Turns::once_up_to, crate::proofs::Turns::once_if_ok))]
     pub(crate) fn step<P: Sectors>(
         &mut self,
@@ -103,7 +103,7 @@ impl Level {
         Ok(Did::Acted)
     }
 
-    /// Lets the job at work go on behind the jump that pends and those behind it, so many at most.
+    /// Lets the job at work continue after the pending jump and the jumps after it, at most `most` of them.
     fn pass_jumps<P: Sectors>(
         &mut self,
         most: NonZeroU16,
@@ -124,7 +124,7 @@ impl Level {
         })
     }
 
-    /// Gives the jump that pends, and those behind it, so many at most, their answers, and says how many they were.
+    /// Gives the pending jump and the jumps after it, at most `most`, their answers, and says how many they were.
     #[tactic(auto, using(crate::proofs::Jumping::jumps_taken))]
     fn take_jumps(&mut self, most: NonZeroU16) -> u16
         requires asks { request_by self.old.job ≡ Some asks.Jump }
@@ -139,7 +139,7 @@ impl Level {
         }
     }
 
-    /// Lets the job at work go on with the answer to its pending request.
+    /// Lets the job at work continue with the answer to its pending request.
     #[inline(always)]
     #[tactic(auto, using(crate::proofs::Running::then_stands))]
     pub(crate) fn resume<P: Sectors>(

@@ -5,7 +5,7 @@ ghost use Rattle.s3_solo.specs.Serving.{details_of};
 use s3_lines::Diagnostic;
 use std::alloc::{AllocError, Global};
 
-/// The details of a halt for one card: its number in the deck, and the number of what is wrong there. Refused only where memory
+/// The details of a halt for one card: its number in the deck, and the number of what is wrong there. Refused only if memory
 /// runs out.
 pub fn one_detail(alloc: Global, card: u16, number: u8) -> Result<Vec<(u16, u8)>, AllocError>
     ensures { IfOk result (λ details. details.items ≡ (card, number) ∷ []) }
@@ -16,7 +16,7 @@ pub fn one_detail(alloc: Global, card: u16, number: u8) -> Result<Vec<(u16, u8)>
 }
 
 /// The details of a halt for a source with diagnostics, one for each: the number of its card in the deck, and its own number.
-/// Refused only where memory runs out.
+/// Refused only if memory runs out.
 pub fn details_of(alloc: Global, diagnostics: &[Diagnostic]) -> Result<Vec<(u16, u8)>, AllocError>
     ensures { IfOk result (λ details. details.items ≡ details_of diagnostics.now) }
 {

@@ -36,17 +36,17 @@ pub struct OpenJob {
     pub cycle: Cycle,
     /// Its files on the pack.
     pub files: JobFiles,
-    /// For each slot of its F sheet the place of the file among those; none where the job doesn't use it.
+    /// For each slot of its F sheet the place of the file among those; none if the job doesn't use it.
     pub places: Vec<Option<usize>>,
     /// The room into which a record is read.
     pub room: Box<[u8; LONGEST_RECORD]>,
     /// The place of the next data card in the deck.
     pub next: usize,
-    /// The place behind the last data card in the deck.
+    /// The place after the last data card in the deck.
     pub end: usize,
 }
 
-/// For each of these F lines the place of its file among those that a job has in use. Refused only where memory runs out.
+/// For each of these F lines the place of its file among those that a job has in use. Refused only if memory runs out.
 pub fn places_of(
     alloc: Global,
     lines: &[FileLine],
@@ -73,7 +73,7 @@ fn first_card(deck: &Deck, from: usize, to: usize) -> Option<&Card>
     Some(card)
 }
 
-/// What a run goes on with where a record was found, or none.
+/// What a run continues with where a record was found, or none.
 #[tactic(auto, unfolding(s3_cycle::specs::Inner::Requests::answer_of))]
 fn record_answer(found: bool, bytes: &[u8]) -> Answer<'_>
     ensures { answer_of result ≡ found_answer found bytes.now }
@@ -85,7 +85,7 @@ fn record_answer(found: bool, bytes: &[u8]) -> Answer<'_>
     }
 }
 
-/// What a run goes on with where a record was put, or refused.
+/// What a run continues with where a record was put, or refused.
 #[tactic(auto, unfolding(s3_cycle::specs::Inner::Requests::answer_of))]
 fn answer_of_put(put: Put) -> Answer<'static>
     ensures { answer_of result ≡ put_answer put }
@@ -140,7 +140,7 @@ fn change<P: Sectors>(
 }
 
 impl OpenJob {
-    /// Reads the next data card, if there is one, and goes on with it.
+    /// Reads the next data card, if there is one, and continues with it.
     pub fn read_card(&mut self, deck: &Deck)
         requires { asked self.old.cycle ≡ asks.Card }
         ensures resumes { Resumes self.old.cycle self.new.cycle (card_answer (slice_range deck.now self.old.next self.old.end)) }
@@ -169,7 +169,7 @@ impl OpenJob {
         self.cycle.resume(answer);
     }
 
-    /// Goes on past the jump that pends and those behind it, so many at most, and answers how many they were.
+    /// Continues past the pending jump and the jumps after it, at most `most`, and answers how many they were.
     pub fn pass_jumps(&mut self, most: NonZeroU16) -> u16
         requires jump { asked self.old.cycle ≡ asks.Jump }
         ensures some { 1 ≤ result }
@@ -194,9 +194,9 @@ impl OpenJob {
         self.files.close(pack)
     }
 
-    /// Serves the pending request, one to a file, and goes on with the answer; answers whether the job has that file in use.
+    /// Serves the pending request, one to a file, and continues with the answer; answers whether the job has that file in use.
     ///
-    /// It fails only where the job has the file. After a fault of the sectors no request is to be made.
+    /// It fails only if the job has the file. After a fault of the sectors no request is to be made.
     #[inline(never)]
     pub fn serve<P: Sectors>(&mut self, pack: &mut Pack<P>) -> Result<bool, SectorFault>
         requires asks { AsksFile (Some (asked self.old.cycle)) }

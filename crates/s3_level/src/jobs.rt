@@ -63,7 +63,7 @@ impl Level {
         job_at(&self.deck, self.next).is_some()
     }
 
-    /// Goes behind the last card of a deck that has no job left, so that no later turn looks at the separators there again.
+    /// Moves past the last card of a deck that has no job left, so that no later turn looks at the separators there again.
     #[tactic(auto, using(crate::proofs::Starting::no_job_behind))]
     fn pass_over(&mut self)
         requires { jobs_from self.old.deck self.old.next ≡ [] }

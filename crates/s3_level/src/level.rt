@@ -21,7 +21,7 @@ pub struct Level {
     pub(crate) alloc: Global,
     pub(crate) id: LevelId,
     pub(crate) deck: Deck,
-    /// The place in the deck behind the last job that was begun; behind the last card once no job was found there.
+    /// The place in the deck after the last job that was begun; after the last card once no job was found there.
     pub(crate) next: usize,
     /// The number of the next job.
     pub(crate) number: JobNumber,
@@ -86,7 +86,7 @@ impl Level {
 
     /// Performs the pending request of the job at work, or begins the next job (docs/RUNNING.md, "The script").
     ///
-    /// It is idle, takes no memory and changes nothing where a halt waits, where no job is at work and none is left, and where
+    /// It is idle, takes no memory and changes nothing if a halt waits, if no job is at work and none is left, and if
     /// the job would print and its quota of lines is queued. Where memory runs out, or a transfer of the sectors fails, nothing
     /// is known of the worlds that the level holds, and no entry may follow.
     pub fn turn<P: Sectors>(
@@ -113,7 +113,7 @@ impl Level {
     /// which a job ends, so that a caller sees each end (`stops`). It answers how many they were and what each of them did.
     ///
     /// Each turn performs the pending request of the job at work, or begins the next job. A first turn is idle, takes no memory
-    /// and changes nothing where a halt waits, where no job is at work and none is left, and where the job would print and its
+    /// and changes nothing if a halt waits, if no job is at work and none is left, and if the job would print and its
     /// quota of lines is queued. Where memory runs out, or a transfer of the sectors fails, nothing is known of the worlds that
     /// the level holds, and no entry may follow.
     #[inline(never)]
@@ -152,7 +152,7 @@ impl Level {
         Ok(Taken::acted(all))
     }
 
-    /// Answers the halt that waits with a digit, and a job at work goes on with it to its next request (docs/MESSAGES.md,
+    /// Answers the halt that waits with a digit, and a job at work continues with it to its next request (docs/MESSAGES.md,
     /// "Replies"). It is refused with 1 where no halt waits, and with 2 where the halt doesn't allow the digit; then it takes no
     /// memory and changes nothing. Where memory runs out, or a transfer of the sectors fails, nothing is known of the worlds that
     /// the level holds, and no entry may follow.
@@ -177,7 +177,7 @@ impl Level {
         Ok(Did::Acted)
     }
 
-    /// Takes the first queued line into the printed output; refused with 3, without taking memory, where none is queued.
+    /// Takes the first queued line into the printed output; refused with 3, without taking memory, if none is queued.
     #[inline(never)]
     pub fn drain<P: Sectors>(
         &mut self,

@@ -13,11 +13,11 @@ pub enum Next {
     Halts(u16, HaltCode),
     /// A reply has ended the job.
     IsOver,
-    /// The job goes on, and its request waits for a turn.
+    /// The job continues, and its request waits for a turn.
     GoesOn,
 }
 
-/// The halt for which a request asks for a reply; none where it asks for something else.
+/// The halt for which a request asks for a reply; none if it asks for something else.
 pub fn code_asked(request: &Request) -> Option<HaltCode>
     ensures { result ≡ code_asked request.now }
 {

@@ -6,12 +6,12 @@ use s3_cycle::Cycle;
 use s3_job_files::OpenFile;
 use s3_operator::HaltCode;
 
-/// Where the data cards of the job at work stand that it has not yet read.
+/// The places of the data cards that the job at work hasn't read yet.
 #[derive(Clone, Copy)]
 pub struct DataCards {
     /// The place of the next one in the deck, from 0.
     pub next: usize,
-    /// The place behind the last one; where none is left, `next` is no less.
+    /// The place after the last one; if none is left, `next` isn't below it.
     pub end: usize,
 }
 
@@ -64,15 +64,15 @@ impl Level {
         &self.deck
     }
 
-    /// The place in the deck, from 0, behind the last job that was begun: the jobs that are left are those from there on. Once
-    /// a turn has found none left it is the place behind the last card.
+    /// The place in the deck, from 0, after the last job that was begun: the jobs that are left are those from there on. Once
+    /// a turn has found none left, it is the place after the last card.
     pub fn place(&self) -> usize
         ensures world { (beside : Around) (w : World) → Holds self.now beside w → w.deck.jobs ≡ jobs_from w.deck.cards result }
     {
         self.next
     }
 
-    /// Where the data cards stand that the job at work has not yet read, if there is a job. The last one that it has read stands
+    /// The places of the data cards that the job at work hasn't read yet, if there is a job. The last one that it has read comes
     /// before them.
     #[tactic(auto, using(crate::proofs::Asking::cards_held, crate::proofs::Asking::no_cards))]
     pub fn unread(&self) -> Option<DataCards>

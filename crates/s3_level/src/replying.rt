@@ -28,7 +28,7 @@ impl Level {
         self.halts.reply(digit)
     }
 
-    /// The job at work, if there is one, goes on with a reply that it asked for.
+    /// The job at work, if there is one, continues with a reply that it asked for.
     #[tactic(auto, using(crate::proofs::Replies::goes_on, crate::proofs::Replies::stays_there))]
     pub(crate) fn go_on<P: Sectors>(
         &mut self,

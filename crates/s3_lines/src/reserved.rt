@@ -37,7 +37,7 @@ pub const UYEAR: Name = Name {
     ],
 };
 
-/// PAGE, the field that counts pages, by 1 each time that it is put out: 4 digits.
+/// PAGE, the field that counts pages, 4 digits: it grows by 1 each time that it is written.
 pub const PAGE: Name = Name {
     codes: [
         LETTER_P, LETTER_A, LETTER_G, LETTER_E, BLANK, BLANK, BLANK, BLANK,
@@ -61,7 +61,7 @@ fn reserved_names() -> &'static [Name]
     &RESERVED_NAMES
 }
 
-/// Whether a name is that of a field that the language has itself: UDATE, UMONTH, UDAY, UYEAR or PAGE.
+/// Whether a name is reserved for a field that the language has itself: UDATE, UMONTH, UDAY, UYEAR or PAGE.
 pub fn is_reserved(name: &Name) -> bool
     ensures { result ≡ reserved_spec name.now }
 {

@@ -40,9 +40,9 @@ impl FileUse {
 /// How a program gets at the records of a file that it reads (F sheet, column 16).
 #[derive(Clone, Copy)]
 pub enum Designation {
-    /// P: the cycle reads it, before the secondary files where the keys are the same.
+    /// P: the cycle reads it, before the secondary files if the keys are the same.
     Primary,
-    /// S: the cycle reads it, behind the primary file where the keys are the same.
+    /// S: the cycle reads it, after the primary file if the keys are the same.
     Secondary,
     /// C: CHAIN finds its records, by key or by record number.
     Chained,
@@ -94,7 +94,7 @@ pub struct FileLine {
     pub name: Name,
     /// What the program does with the file.
     pub usage: FileUse,
-    /// How the program gets at its records; none for a print file, and for a disk file that is only put out in order.
+    /// How the program accesses its records. None for a print file, and for a disk file that is only written in order.
     pub designation: Option<Designation>,
     /// Whether the end of this file counts for the end of the job (E in column 17).
     pub ends_job: bool,
@@ -106,15 +106,15 @@ pub struct FileLine {
     pub is_keyed: bool,
     /// I in column 32: it has an index.
     pub is_indexed: bool,
-    /// Where the key lies in its records; given for a file that is addressed by keys and has an index, and for no other.
+    /// The place of the key in its records; only for a file that is addressed by keys and has an index.
     pub key: Option<KeyField>,
-    /// The overflow indicator of a print file, OA to OG or OV, where it has one.
+    /// The overflow indicator of a print file, OA to OG or OV, if it has one.
     pub overflow: Option<Indicator>,
     /// The device on which it is.
     pub device: Device,
     /// Whether records are added to it (A in column 66).
     pub has_additions: bool,
-    /// The switch, U1 to U8, that must be on for the file to be used; none where it is always used.
+    /// The switch, U1 to U8, that must be on for the file to be used; none if it is always used.
     pub condition: Option<Indicator>,
 }
 
@@ -154,7 +154,7 @@ impl FileLine {
         matches!(self.designation, Some(Designation::Chained))
     }
 
-    /// Whether it is read and neither added to nor changed.
+    /// Whether it is only read: no record is added or changed.
     pub fn is_only_read(&self) -> bool
         ensures { result ≡ is_only_read_spec self.now }
     {
@@ -173,12 +173,12 @@ pub enum CodePart {
     Digit,
 }
 
-/// A record identification code: a test of one byte of a record, by which the types of records are told apart.
+/// A record identification code: a test of one byte of a record, which distinguishes the types of records.
 #[derive(Clone, Copy)]
 pub struct RecordCode {
     /// The position of the byte, from 1, within the record.
     pub position: u16,
-    /// Whether the part of the byte must differ from that of the character; else it must be the same.
+    /// Whether the part of the byte must differ from the part of the character; else both must be the same.
     pub negated: bool,
     /// Which part of the byte is compared.
     pub part: CodePart,
@@ -199,14 +199,14 @@ pub enum FieldForm {
     PackedText,
 }
 
-/// A field line of the I sheet: a field, and where it lies in the records of its types.
+/// A field line of the I sheet: a field, and its position in the records of its types.
 #[derive(Clone, Copy)]
 pub struct FieldLine<N = Name> {
     /// The field; on a sheet its name has 1 to 6 characters.
     pub name: N,
     /// The first position, from 1.
     pub from: u16,
-    /// The last position, at or behind the first and within the record.
+    /// The last position, at or after the first and within the record.
     pub to: u16,
     /// How it lies in those positions.
     pub form: FieldForm,
@@ -240,7 +240,7 @@ pub struct NumberLiteral {
     pub value: i64,
     /// How many digits it has, 1 to 10.
     pub digits: u8,
-    /// How many of them stand behind the point, 0 to 9.
+    /// The number of digits after the point, 0 to 9.
     pub decimals: u8,
 }
 
@@ -287,13 +287,13 @@ pub enum Operation {
     Move,
     /// MOVEL: factor 2 goes into the result from the left.
     MoveLeft,
-    /// SETON: its indicators go on.
+    /// SETON: turns its indicators on.
     SetOn,
     /// SETOF: its indicators go off.
     SetOff,
-    /// GOTO: the calculations go on from the tag in factor 2.
+    /// GOTO: the calculations continue at the tag in factor 2.
     GoTo,
-    /// TAG: the place, named in factor 1, where a GOTO goes on.
+    /// TAG: the place, named in factor 1, at which a GOTO continues.
     Tag,
     /// EXSR: the subroutine in factor 2 is done.
     ExecuteSubroutine,
@@ -301,7 +301,7 @@ pub enum Operation {
     BeginSubroutine,
     /// ENDSR: the subroutine ends.
     EndSubroutine,
-    /// EXCPT: the exception lines are put out.
+    /// EXCPT: writes the exception lines.
     Except,
     /// CHAIN: the record with the key or the number in factor 1 is read from the file in factor 2.
     Chain,
@@ -338,17 +338,17 @@ pub enum Shape {
 pub struct CalculationLine<N = Name> {
     /// When it is done.
     pub time: CalculationTime,
-    /// The conditions that must hold for it; none where the columns are blank.
+    /// The conditions that must hold for it; none if the columns are blank.
     pub conditions: [Option<Condition>; 3],
     /// Factor 1, in columns 18 to 27.
     pub factor1: Option<Factor<N>>,
-    /// What it does; none on a line whose conditions go on with the next line.
+    /// What it does; none on a line whose conditions continue with the next line.
     pub operation: Option<Operation>,
     /// Factor 2, in columns 33 to 42.
     pub factor2: Option<Factor<N>>,
     /// The field that it gives a value.
     pub result: Option<N>,
-    /// The shape that the line gives its result, where it defines it.
+    /// The shape that the line gives its result, if the line defines it.
     pub definition: Option<Shape>,
     /// Whether the result is half adjusted: 5 is added at the first digit dropped.
     pub half_adjust: bool,
@@ -356,7 +356,7 @@ pub struct CalculationLine<N = Name> {
     pub indicators: [Option<Indicator>; 3],
 }
 
-/// When an output line is put out (O sheet, column 15).
+/// When an output line is written (O sheet, column 15).
 #[derive(Clone, Copy)]
 pub enum OutputKind {
     /// H: at the start of a cycle, as a heading.
@@ -369,12 +369,12 @@ pub enum OutputKind {
     Exception,
 }
 
-/// How an output line moves the carriage: spaces and skips, none where the entry is blank.
+/// How an output line moves the carriage: spaces and skips, each none if its entry is blank.
 #[derive(Clone, Copy)]
 pub struct Spacing {
-    /// By how many lines it moves before the line is printed, 0 to 3.
+    /// The number of lines that the carriage moves before the line is printed, 0 to 3.
     pub space_before: Option<u8>,
-    /// By how many lines it moves after the line is printed, 0 to 3.
+    /// The number of lines that the carriage moves after the line is printed, 0 to 3.
     pub space_after: Option<u8>,
     /// To which line of a page it goes before the line is printed, 1 to 66.
     pub skip_before: Option<u8>,
@@ -387,13 +387,13 @@ pub struct Spacing {
 pub struct OutputCard<N = Name> {
     /// The file that the line goes to; without a name that is the file of the output line before.
     pub file: Option<N>,
-    /// When the line is put out.
+    /// When the line is written.
     pub kind: OutputKind,
     /// Whether it adds a record to a disk file (ADD in columns 16 to 18).
     pub is_addition: bool,
     /// How the carriage moves for it.
     pub spacing: Spacing,
-    /// The conditions that must hold for it; none where the columns are blank.
+    /// The conditions that must hold for it; none if the columns are blank.
     pub conditions: [Option<Condition>; 3],
 }
 
@@ -406,7 +406,7 @@ pub struct Constant {
     pub length: u8,
 }
 
-/// How a field is put out.
+/// How a field is written.
 #[derive(Clone, Copy)]
 pub enum OutputForm {
     /// Its characters, or its digits, a byte each.
@@ -417,18 +417,18 @@ pub enum OutputForm {
     Edited(EditCode),
 }
 
-/// A field of an output line, and how it is put out.
+/// A field of an output line, and how it is written.
 #[derive(Clone, Copy)]
 pub struct FieldOutput<N = Name> {
     /// The field.
     pub name: N,
-    /// How it is put out.
+    /// How it is written.
     pub form: OutputForm,
     /// Whether it becomes 0 or blanks afterwards (B in column 39).
     pub blank_after: bool,
 }
 
-/// What a field card puts out.
+/// What a field card writes.
 #[derive(Clone, Copy)]
 pub enum OutputContent<N = Name> {
     /// A constant text.
@@ -440,9 +440,9 @@ pub enum OutputContent<N = Name> {
 /// A field card of the O sheet: one part of an output line.
 #[derive(Clone, Copy)]
 pub struct OutputField<N = Name> {
-    /// The conditions that must hold for it; none where the columns are blank.
+    /// The conditions that must hold for it; none if the columns are blank.
     pub conditions: [Option<Condition>; 3],
-    /// What is put out.
+    /// What is written.
     pub content: OutputContent<N>,
     /// The position of its last character in the record, from 1.
     pub end: u16,
@@ -464,7 +464,7 @@ pub enum OutputLine<N = Name> {
 /// A line of a sheet.
 #[derive(Clone, Copy)]
 pub enum SheetLine {
-    /// A card of the H sheet, with the program's name where it has one.
+    /// A card of the H sheet, with the program's name if it has one.
     Header(Option<Name>),
     /// A card of the F sheet.
     File(FileLine),

@@ -1,14 +1,10 @@
-//! The files of a pack, written out: `list` for programs, `write_table` for people. docs/PACK.md has both, under "Commands". What room a
-//! pack has (`free_room`) and how large a file is (`file_size`) is for what commands tell.
+//! The files of a pack, written out: `list` for programs, `write_table` for people. docs/PACK.md has both, under "Commands".
 //!
-//! What is proved, for every pack: `list` writes exactly the text of the used slots of its three areas, judged from its
-//! bytes (`wrote`); it is refused by the header alone, or where memory is refused or the writer fails (`refused`). Of
-//! `mount_slots` the slots are those that a mount judges (`slots`). Lines of each kind are worked by hand and computed
-//! (`slots_are_shown`).
-//!
-//! Of `write_table`, `free_room` and `file_size` it is proved only that they are safe and return; the text of the table and the counts of
-//! tracks are only tested, with rows. Nobody
-//! says what a writer that fails has written.
+//! `list` is proved to write exactly the text of the used slots of the three areas (`wrote`). It is proved to be refused only by
+//! the header, or if memory is refused or the writer fails (`refused`). `mount_slots` is proved to give the slots that a mount
+//! finds (`slots`). Worked examples of lines are computed by the proofs (`slots_are_shown`). `write_table`, `free_room` (the
+//! space of a pack) and `file_size` are only proved to be safe and to return; their texts and counts are tested. What a writer
+//! that fails has written isn't specified.
 
 #![tactic(auto)]
 

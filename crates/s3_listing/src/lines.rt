@@ -59,7 +59,7 @@ fn push_damage(text: &mut Vec<u8>, area: u8, name: Option<Name>) -> Result<(), A
     Ok(())
 }
 
-/// Appends a label, or what stands for one that isn't a name.
+/// Appends a label, or the placeholder of a label that isn't a name.
 fn push_label(text: &mut Vec<u8>, name: Option<Name>) -> Result<(), AllocError>
     ensures { OnOk result (text.new.items ≡ text.old.items ++ label_text name) }
 {
@@ -76,7 +76,7 @@ fn push_name(text: &mut Vec<u8>, name: Name) -> Result<(), AllocError>
     push_characters(text, &name.codes)
 }
 
-/// Appends what a label says of its file, but for its name.
+/// Appends what a label says of its file, except for its name.
 #[tactic(auto, unfolding(crate::specs::Inner::Lines::fields_text))]
 fn push_fields(text: &mut Vec<u8>, label: &FileLabel) -> Result<(), AllocError>
     ensures { OnOk result (text.new.items ≡ text.old.items ++ fields_text label.now) }

@@ -15,7 +15,7 @@ const TRACK: u16 = 24;
 pub struct FreeRoom {
     /// How many there are.
     pub tracks: u16,
-    /// How many lie in a row where most do.
+    /// The length of the longest run of them.
     pub in_a_row: u16,
 }
 
@@ -40,7 +40,7 @@ pub struct FileSize {
     pub records: u32,
 }
 
-/// How large the sound file of a label is in an area of a pack, where it has one. Refused with `Mount` or `NoMemory`.
+/// How large the sound file of a label is in an area of a pack, if the area has one. Refused with `Mount` or `NoMemory`.
 pub fn file_size(
     alloc: Global,
     pack: &[u8],
@@ -135,7 +135,7 @@ fn meet(one: Stretch, other: Stretch) -> bool {
     u32::from(one.start) < end_of(other) && u32::from(other.start) < end_of(one)
 }
 
-/// The sector behind a stretch.
+/// The sector after a stretch.
 fn end_of(stretch: Stretch) -> u32 {
     u32::from(stretch.start) + u32::from(stretch.sectors)
 }

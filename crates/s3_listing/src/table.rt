@@ -13,10 +13,10 @@ use std::io::Write;
 /// The sectors of a track.
 const TRACK: u32 = 24;
 
-/// Writes a table of a pack: for the masters and each level the size of the region, how much of it is free, and each used
-/// slot by its number in the area, 0 to 31. Of a file it has the label, organization, retention and record length, length and
-/// start of the key where there is an index, the capacity, the count, how full the file is, the date and the extents; of a slot that is
-/// damaged, or whose index is wrong, the reason.
+/// Writes a table of a pack. For the masters and each level it has the size of the region, how much of it is free, and each used
+/// slot by its number in the area, 0 to 31. A file has its label, organization, retention and record length, the length and start
+/// of the key if it has an index, the capacity, the count, how full it is, the date and the extents. A slot that is damaged, or
+/// whose index is wrong, has the reason.
 ///
 /// Refused with `Mount`, `NoMemory` or `File`, as `list` is.
 pub fn write_table<W: Write>(alloc: Global, pack: &[u8], writer: &mut W) -> Result<(), ListFault> {

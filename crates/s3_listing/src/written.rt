@@ -17,7 +17,7 @@ use std::io::Write;
 /// Writes a line for each used slot of a pack: of the masters, of level 1 and of level 2, in slot order (docs/PACK.md,
 /// "Commands").
 ///
-/// Refused with `Mount`, `NoMemory` or `File`. Nothing is written where it is refused, but for a write that failed.
+/// Refused with `Mount`, `NoMemory` or `File`. A refused call writes nothing, unless a write failed.
 pub fn list<W: Write>(alloc: Global, pack: &[u8], writer: &mut W) -> Result<(), ListFault>
     ensures wrote { OnOk result (WritesText (listing pack.now) (W.contents writer.old) (W.contents writer.new)) }
     ensures refused { IfErr result (IsRefused (listing pack.now)) }
@@ -43,7 +43,7 @@ pub fn mount_slots(alloc: Global, pack: &[u8]) -> Result<AreaSlots, ListFault>
     }
 }
 
-/// Why nothing is listed where a mount over a store in memory is refused: such a store never fails.
+/// The refusal of a listing, from the refusal of a mount over a store in memory, which never fails.
 fn fault_of(refusal: Refusal) -> ListFault
     ensures { result ≡ fault_of_spec refusal }
 {

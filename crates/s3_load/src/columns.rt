@@ -237,7 +237,7 @@ fn tell_overlap(
     }
 }
 
-/// The name of the field with this number, from 1; another name where there is none.
+/// The name of the field with this number, from 1; another name if there is none.
 fn name_at(named: &[Field], number: usize, other: Name) -> Name {
     match named.get(number.saturating_sub(1)) {
         Some(field) => field.name,
@@ -264,7 +264,7 @@ fn missing_fields(
     Ok(missing)
 }
 
-/// Reports the fields that are missing; where they are to be filled, the numbers among them that lie partly under a field that
+/// Reports the fields that are missing; if they are to be filled, the numbers among them that lie partly under a field that
 /// is named, and so can't be 0.
 #[tactic(auto, using(crate::proofs::ColumnLemmas::none_told, crate::proofs::ColumnLemmas::all_of_none))]
 fn tell_missing(

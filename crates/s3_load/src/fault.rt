@@ -43,7 +43,7 @@ pub enum Reason {
 pub struct ValueFault {
     /// The line on which the row begins, from 1.
     pub line: u64,
-    /// The field, where one is at fault.
+    /// The field, if one is in error.
     pub field: Option<Name>,
     /// Why it isn't taken.
     pub reason: Reason,
@@ -68,7 +68,7 @@ pub enum LoadFault {
     Mount(MountFault),
     /// The labels don't allow it.
     Label(LabelFault),
-    /// This slot of the level's area, from 0, is damaged, and what it holds can't be told: a new file might be written over it.
+    /// This slot of the level's area, from 0, is damaged. Which sectors its file has isn't known: a new file might be written over them.
     DamagedSlot(u16),
     /// The label is no name.
     NoName,

@@ -125,7 +125,7 @@ fn has_key(label: &FileLabel, key: Option<KeyField>) -> bool
     }
 }
 
-/// Puts records behind those of a file, whose label doesn't count them yet, and answers how many it has then. Where it has an index,
+/// Puts records after those of a file, whose label doesn't count them yet, and answers how many it has then. Where it has an index,
 /// that is the one of all of them. Refused or not, no sector changes but those of the file.
 pub fn fill(
     alloc: Global,
@@ -153,7 +153,7 @@ fn full(label: &FileLabel, rows: &[Row]) -> LoadFault {
     )
 }
 
-/// Puts records behind those of a file without an index.
+/// Puts records after those of a file without an index.
 #[tactic(auto, using(s3_files::proofs::Rooms::of_pack_room, s3_files::proofs::Rooms::of_pack_stored, crate::proofs::FillLemmas::none_filled, crate::proofs::FillLemmas::one_more_filled, crate::proofs::FillLemmas::all_filled, crate::proofs::FillLemmas::only_same, crate::proofs::FillLemmas::only_more))]
 fn fill_in_order(store: &mut MemoryStore, label: &FileLabel, rows: &[Row]) -> Result<u32, LoadFault>
     requires { IsOfPack (length store.old) label.now }
@@ -168,7 +168,7 @@ fn fill_in_order(store: &mut MemoryStore, label: &FileLabel, rows: &[Row]) -> Re
     Ok(file.count)
 }
 
-/// Puts a record behind those of a file without an index.
+/// Puts a record after those of a file without an index.
 #[tactic(auto, using(s3_files::proofs::FileFrames::stored_within, crate::proofs::FillLemmas::grown_by, crate::proofs::FillLemmas::only_within))]
 fn append_row(
     file: &mut Sequential,

@@ -15,8 +15,8 @@ pub fn a_loaded_row_is_unloaded()
     ensures values { (record_length : ℕ) (columns filled : List OfRecord) (chosen : Chosen) (cells : List (List ℕ)) (bytes : List ℕ) → All (LiesIn record_length) columns → IsRecordOf record_length columns filled chosen cells bytes → (k : ℕ) (d : OfRecord) → k < length columns → value_read (get_or columns k d).kind (get_or cells k []) ≡ Some (value_in (get_or columns k d).kind (field_bytes (get_or columns k d) bytes)) }
 {}
 
-/// The row of a record gives that very record again, where the columns have each of its bytes, each value can be shown and each
-/// number stands as it is written.
+/// The row of a record gives that very record again, if the columns have each of its bytes, each value can be shown and each
+/// number is in the form in which it is written.
 pub fn an_unloaded_record_is_loaded()
     ensures { (record_length : ℕ) (columns filled : List OfRecord) (chosen : Chosen) (old new : List ℕ) → All (LiesIn record_length) columns → length old ≡ record_length → ((place : ℕ) → place < record_length → is_inside columns place ≡ true) → are_shown columns old ≡ true → AreAsWritten columns old → IsRecordOf record_length columns filled chosen (row_of columns old) new → new ≡ old }
 {}

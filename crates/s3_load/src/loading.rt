@@ -26,7 +26,7 @@ use std::alloc::Global;
 use std::io::{ErrorKind, Read};
 
 /// The pack with the records of a table in a file of a level: a new file, which takes the place of a file of its label that isn't
-/// permanent, or behind the records of the file that is there. Records of a file with an index go in by their keys, whatever
+/// permanent, or after the records of the file that is there. Records of a file with an index go in by their keys, whatever
 /// the order of the rows. No byte changes but those of the file and its label, and of the label of a file that is replaced. Refused
 /// as `LoadFault` says; the pack that is given stays as it is.
 pub fn load<R: Read + Drop>(
@@ -119,7 +119,7 @@ fn placed_label(
     }
 }
 
-/// Makes a new file with room for so many records. Refused with `DamagedSlot` where the level's area has a damaged slot.
+/// Makes a new file with space for so many records. Refused with `DamagedSlot` if the level's area has a damaged slot.
 #[tactic(auto, using(crate::proofs::PlacedFiles::set_header))]
 fn made_file(
     mounted: &mut Pack<MemoryStore>,

@@ -9,7 +9,7 @@ use s3_cards::{Name, code_of_byte};
 use s3_cells::Field;
 use std::alloc::{AllocError, Global};
 
-/// Where fields stand in their list, by their names, and which of the names are taken. Nothing is proved of it: each field that is
+/// The places of fields in their list, by their names, and which names are taken. Nothing is proved of it: each field that is
 /// found is compared with the text that names it.
 #[derive(Drop)]
 pub struct FieldNames {
@@ -20,7 +20,7 @@ pub struct FieldNames {
 }
 
 impl FieldNames {
-    /// Of these fields, none of which is taken.
+    /// The names of these fields, none of which is taken.
     pub fn of(alloc: Global, fields: &[Field]) -> Result<FieldNames, AllocError> {
         let mut places = IndexMap::new(alloc);
         for (place, field) in fields.iter().enumerate() {

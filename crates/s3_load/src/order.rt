@@ -35,7 +35,7 @@ pub struct Order<'a> {
     pub retention: Retention,
     /// The date of a new file, mmddyy, in EBCDIC.
     pub date: [u8; 6],
-    /// Whether the records go behind those of the file that is there.
+    /// Whether the records go after those of the file that is there.
     pub appends: bool,
     /// Whether fields that the table doesn't have are blank or 0.
     pub fills: bool,

@@ -19,7 +19,7 @@ pub enum Reading {
     Closing(usize),
 }
 
-/// Refuses a table with a quote that is never closed, by the line where it is opened.
+/// Refuses a table with a quote that is never closed, with the number of the line on which it is opened.
 pub fn refuse_open_quote(text: &[u8], delimiter: u8) -> Result<(), LoadFault>
     ensures { OnOk result (open_quote_spec delimiter (strip_bom text.now) ≡ None) }
 {
@@ -77,7 +77,7 @@ fn after(at: Reading, delimiter: u8, place: usize, byte: u8) -> Reading
     }
 }
 
-/// Where a reader is after a byte that stands in no quotes.
+/// Where a reader is after a byte outside of quotes.
 fn after_plain(delimiter: u8, byte: u8) -> Reading
     ensures { result ≡ after_plain_spec delimiter byte }
 {

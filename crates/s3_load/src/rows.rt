@@ -31,7 +31,7 @@ pub struct Row {
     pub bytes: Vec<u8>,
 }
 
-/// A text that is gone through from its start on, and the line where that stands.
+/// A text that is read from its start on, and the number of the line that was reached.
 #[derive(Drop)]
 pub struct Lines<'a> {
     text: &'a [u8],
@@ -50,7 +50,7 @@ impl<'a> Lines<'a> {
     }
 
     /// The line, from 1, of the first byte from this place on that ends no line; places are asked for in their order. Where a reader
-    /// of CSV stands before a row, the end of the line before may be still ahead, and empty lines are.
+    /// of CSV is before a row, the end of the line before may be still ahead, and empty lines are.
     pub fn line_at(&mut self, place: u64) -> u64 {
         let text = self.text;
         let Some(rest) = text.get(self.place..) else {

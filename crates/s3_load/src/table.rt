@@ -79,7 +79,7 @@ fn next_row<R: Read + Drop>(
     }
 }
 
-/// Reads the rows behind the heading.
+/// Reads the rows after the heading.
 #[tactic(auto, using(crate::proofs::TableLemmas::no_rows, crate::proofs::TableLemmas::one_more_row, crate::proofs::TableLemmas::all_rows))]
 fn read_rows<R: Read + Drop>(
     alloc: Global,
@@ -144,7 +144,7 @@ fn read_row<R: Read + Drop>(
     Ok(true)
 }
 
-/// The bytes of the key of a record; none where it doesn't lie in the record.
+/// The bytes of the key of a record; none if it doesn't lie in the record.
 pub fn key_in(bytes: &[u8], key: KeyField) -> &[u8]
     ensures { result.now ≡ key_in_spec key bytes.now }
 {
@@ -157,7 +157,7 @@ pub fn key_in(bytes: &[u8], key: KeyField) -> &[u8]
     }
 }
 
-/// Sorts rows by their keys, where the file has an index, and tells of those that have the same.
+/// Sorts rows by their keys, if the file has an index, and reports the rows with the same key.
 fn sort_by_key(
     alloc: Global,
     rows: &mut Vec<Row>,
@@ -193,7 +193,7 @@ fn order_by(key: KeyField, one: &Row, other: &Row) -> Ordering
     key_in(&one.bytes, key).cmp(key_in(&other.bytes, key))
 }
 
-/// Tells of each row that doesn't come behind the one before it by its key: where rows are sorted, it has the same key.
+/// Reports each row that doesn't come after the row before it by its key: if rows are sorted, it has the same key.
 #[tactic(auto, using(crate::proofs::KeyLemmas::none_compared, crate::proofs::KeyLemmas::one_more_compared, crate::proofs::KeyLemmas::all_compared))]
 fn find_same_keys(
     alloc: Global,
@@ -210,7 +210,7 @@ fn find_same_keys(
     Ok(())
 }
 
-/// Tells of a row that doesn't come behind another one by its key.
+/// Reports a row that doesn't come after another one by its key.
 fn tell_same_key(
     alloc: Global,
     one: &Row,

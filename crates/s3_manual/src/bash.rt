@@ -33,7 +33,7 @@ fn put_names(draft: &mut Draft, commands: &[CommandWords]) {
     }
 }
 
-/// Appends what completes the words of a command.
+/// Appends the completions of the options of a command.
 fn put_command(draft: &mut Draft, command: &CommandWords) {
     for word in command.words {
         put_value(draft, command.name, word);

@@ -33,7 +33,7 @@ fn put_name(draft: &mut Draft, command: &CommandWords) {
     put_description(draft, command.about);
 }
 
-/// Appends what completes the words of a command.
+/// Appends the completions of the options of a command.
 fn put_command(draft: &mut Draft, command: &CommandWords) {
     for word in command.words {
         put_word(draft, command.name, word);

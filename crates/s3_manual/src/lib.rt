@@ -1,7 +1,7 @@
 //! The manual of `bureau`, made of the table of its commands: the pages for `man`, what `--help` prints after the options, and
 //! completions for bash, zsh and fish.
 //!
-//! What is proved: each call is safe and returns. The texts are tested: `man` formats the pages, and bash completes.
+//! Each call is proved to be safe and to return. The texts are tested: `man` formats the pages, and bash completes.
 
 #![tactic(auto)]
 

@@ -2,7 +2,7 @@
 
 use s3_paper_commands::words::Takes;
 
-/// What stands for the value, if the word takes one.
+/// The placeholder of the value, if the option takes one.
 pub fn shown(takes: Takes) -> Option<&'static str> {
     match takes {
         Takes::Nothing => None,

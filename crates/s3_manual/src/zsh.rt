@@ -31,7 +31,7 @@ fn put_name(draft: &mut Draft, command: &CommandWords) {
     draft.put("'\n");
 }
 
-/// Appends what completes the words of a command.
+/// Appends the completions of the options of a command.
 fn put_command(draft: &mut Draft, command: &CommandWords) {
     draft.put("                ");
     draft.put(command.name);

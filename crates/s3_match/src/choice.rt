@@ -22,7 +22,7 @@ pub enum Group {
     Primary,
     /// The heads of the secondary files.
     Secondary,
-    /// The heads whose key is that of the last primary record with match fields.
+    /// The heads whose key is the key of the last primary record with match fields.
     Matched,
 }
 
@@ -52,7 +52,7 @@ fn some_head_is_in(
         .any(|input| is_in(program, input, group, primary_key))
 }
 
-/// The head at the place, or the one behind it where that has the lower key.
+/// The head at the place, or the next one if its key is lower.
 #[tactic(auto, using(crate::proofs::ChoiceLemmas::lower_of_two))]
 fn lower_of(files: &[InputFile], place: usize, behind: Option<usize>) -> usize
     requires here { spec.IsHeadAt files.now place }
@@ -73,7 +73,7 @@ fn lower_of(files: &[InputFile], place: usize, behind: Option<usize>) -> usize
     }
 }
 
-/// The least head of a group and of one that stands behind them; the first of those with one key.
+/// The least head of a group and of one head after the group. Among heads with the same key, the first one.
 fn least_onto(
     program: &Program,
     files: &[InputFile],
@@ -96,7 +96,7 @@ fn least_onto(
     least
 }
 
-/// Whether a record without match fields stands at the head.
+/// Whether the head has a record without match fields.
 fn is_keyless(input: &InputFile) -> bool
     ensures { result ≡ spec.is_keyless input.now }
 {
@@ -133,7 +133,7 @@ fn select_by_key(program: &Program, files: &[InputFile], primary_key: &RecordKey
     least_onto(program, files, Group::Primary, primary_key, secondary)
 }
 
-/// At the end secondary heads with the last primary key are still taken, where no primary head is left.
+/// At the end secondary heads with the last primary key are still taken, if no primary head is left.
 #[tactic(auto, using(crate::proofs::ChoiceLemmas::primary_stands, crate::proofs::ChoiceLemmas::no_primary_stands))]
 fn select_at_end(program: &Program, files: &[InputFile], primary_key: &RecordKey) -> Option<usize>
     requires sound { All (IsInput program.now) files.now }
@@ -146,7 +146,7 @@ fn select_at_end(program: &Program, files: &[InputFile], primary_key: &RecordKey
     least_onto(program, files, Group::Matched, primary_key, None)
 }
 
-/// The place of the file whose head is processed next, by the key of the last primary record with match fields; none where the job
+/// The place of the file whose head is processed next, by the key of the last primary record with match fields; none if the job
 /// ends.
 #[tactic(auto, using(crate::proofs::ChoiceLemmas::selects_at_end, crate::proofs::ChoiceLemmas::selects_keyless, crate::proofs::ChoiceLemmas::selects_by_key))]
 pub fn select(program: &Program, files: &[InputFile], primary_key: &RecordKey) -> Option<usize>

@@ -56,7 +56,7 @@ fn push_characters(compared: &mut KeyBytes, bytes: &[u8])
     compared.extend(bytes);
 }
 
-/// Puts the bytes that a field of this form compares behind those of the other fields.
+/// Puts the bytes that a field of this form compares after those of the other fields.
 pub fn push_compared(compared: &mut KeyBytes, form: FieldForm, bytes: &[u8])
     requires { length compared.old + length (meaning.compared form bytes.now) ≤ KEY_BYTES }
     ensures { compared.new ≡ compared.old ++ meaning.compared form bytes.now }

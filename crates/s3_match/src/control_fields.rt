@@ -68,8 +68,8 @@ fn greatest(broken: u8, level: u8, breaks: bool) -> u8
     if breaks && broken == 0 { level } else { broken }
 }
 
-/// Holds the control fields of a record whose type has these, and answers the greatest level, 1 to 9, where another value was
-/// held; 0 if there is none.
+/// Holds the control fields of a record whose type has these, and answers the greatest level, 1 to 9, of a field whose value
+/// changes; 0 if none changes.
 #[inline(never)]
 pub fn hold_fields(
     held: &mut HeldFields,

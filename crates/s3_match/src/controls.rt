@@ -19,7 +19,7 @@ use crate::levels::{LevelFields, Levels};
 use s3_program::starts::TypeStart;
 use std::alloc::{AllocError, Global};
 
-/// Whether total time is due behind a record of a type: its type has control fields, or no type of the program has any.
+/// Whether total time is due after a record of a type: its type has control fields, or no type of the program has any.
 pub fn makes_totals_due(levels: &Levels, start: TypeStart) -> bool
     ensures { (program : Program) → AreLevels key.Control program levels.now → is_type_start program start ≡ true → result ≡ (not (has_levels (source_named program)) || has_control_fields (kind_at program start)) }
 {
@@ -39,7 +39,7 @@ pub struct Controls {
 }
 
 impl Controls {
-    /// The controls as a job begins: no control field is held yet; refused only where memory runs out.
+    /// The controls as a job begins: no control field is held yet; refused only if memory runs out.
     pub fn none(alloc: Global) -> Result<Controls, AllocError>
         ensures { IfOk result (λ controls. (level : ℕ) → spec.held_in controls.held level ≡ None) }
     {
@@ -62,8 +62,8 @@ impl Controls {
         }
     }
 
-    /// Holds these control fields of a record, and answers the greatest level, 1 to 9, where another value was held; 0 if there
-    /// is none.
+    /// Holds these control fields of a record, and answers the greatest level, 1 to 9, of a field whose value changes; 0 if none
+    /// changes.
     fn hold(&mut self, fields: &LevelFields, bytes: &[u8]) -> u8
         ensures { (program : Program) (start : TypeStart) → is_type_start program start ≡ true → AreFieldsOf key.Control program start fields.now → spec.Breaks program start bytes.now self.old.held self.new.held result }
     {

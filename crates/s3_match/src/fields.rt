@@ -21,7 +21,7 @@ fn is_own(indicator: Indicator, relation: Option<Indicator>) -> bool
     }
 }
 
-/// Whether an entry has a level; any, where none is asked for.
+/// Whether an entry has a level; any, if none is asked for.
 fn has_level(level: Option<u8>, entry: Option<u8>) -> bool
     ensures { result ≡ spec.has_level level entry }
 {
@@ -124,7 +124,7 @@ pub(crate) fn indicator_on(line: &InputLine<Reference>) -> Option<Indicator>
     }
 }
 
-/// The first match field, or the first control field, at a level, 1 to 9, of the type that starts at a line; at any level, where
+/// The first match field, or the first control field, at a level, 1 to 9, of the type that starts at a line; at any level, if
 /// none is asked for.
 pub(crate) fn field_of_type(
     program: &Program,
@@ -150,7 +150,7 @@ pub(crate) fn starts_type(line: &InputLine<Reference>) -> bool
     }
 }
 
-/// Whether a line behind the start of a type has a match field, or a control field.
+/// Whether a line after the start of a type has a match field, or a control field.
 #[tactic(auto, using(crate::proofs::NamedLemmas::types_begin, crate::proofs::NamedLemmas::no_type_yet, crate::proofs::NamedLemmas::no_type_at_all))]
 pub(crate) fn some_type_names_level(lines: &[InputLine<Reference>], key: Key) -> bool
     ensures { result ≡ spec.some_type_names_level key lines.now }

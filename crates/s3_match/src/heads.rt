@@ -18,7 +18,7 @@ use std::alloc::{AllocError, Global};
 /// The most records that a file has: the bytes of the largest pack.
 const MOST_READS: u32 = 16_776_960;
 
-/// What stands at the head of a file.
+/// What the head of a file has.
 #[derive(Clone, Copy)]
 pub enum Standing {
     /// Nothing yet: the next record is to be read.
@@ -34,7 +34,7 @@ pub enum Standing {
 pub struct InputFile {
     /// Its slot among the files of the program.
     pub file: usize,
-    /// What stands at its head.
+    /// What its head has.
     pub standing: Standing,
     /// How many of its records were read; the one at its head is the last of them.
     pub reads: u32,
@@ -47,7 +47,7 @@ pub struct InputFile {
 }
 
 impl InputFile {
-    /// A file of which nothing was read; refused only where memory runs out.
+    /// A file of which nothing was read; refused only if memory runs out.
     pub fn unread(alloc: Global, file: usize) -> Result<InputFile, AllocError>
         ensures input { IfOk result (λ input. (program : Program) → spec.input_of program input ≡ spec.unread program file) }
         ensures slot { IfOk result (λ input. input.file ≡ file) }
@@ -73,7 +73,7 @@ impl InputFile {
         }
     }
 
-    /// Whether a record stands at its head.
+    /// Whether its head has a record.
     pub fn has_head(&self) -> bool
         ensures { result ≡ spec.has_head self.now }
     {
@@ -116,8 +116,8 @@ impl InputFile {
         }
     }
 
-    /// Puts a record of a type at the head and answers true, if it is in sequence: its key isn't below that of the last head with
-    /// match fields. Else nothing stands at the head.
+    /// Puts a record of a type at the head and answers true, if it is in sequence: its key isn't below the key of the last head
+    /// with match fields. Else the head has no record.
     pub fn put(&mut self, start: TypeStart, levels: &Levels, bytes: &[u8]) -> bool
         requires unread { spec.is_unread self.old ≡ true }
         requires fits { length bytes.now ≤ RECORD_BYTES }

@@ -55,8 +55,8 @@ impl HeldField {
         self.is_given && compared == self.bytes.as_slice()
     }
 
-    /// Whether what is held is the same as what a control field of a record compares. A zoned number and characters are compared
-    /// where they lie in the record; `value` is the room in which a packed number is read.
+    /// Whether the held value is the same as the value of a control field of a record. A zoned number and characters are compared
+    /// in the record; `value` is the buffer for a packed number.
     pub fn is_field(&self, value: &mut RecordKey, field: &LevelField, bytes: &[u8]) -> bool
         requires { IsTrue (is_ranged field.now) }
         ensures { result ≡ same_key (Some (compared_at bytes.now field.now)) (held_key self.now) }

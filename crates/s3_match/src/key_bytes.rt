@@ -26,7 +26,7 @@ impl Model for KeyBytes {
 impl KeyBytes {
     ghost use Rattle.std.specs.Prelude.{◌≡◌, ◌+◌, ◌<◌, ◌≤◌, ◌++◌, ◌∷◌, [], IfOk, length};
 
-    /// No bytes yet; refused only where memory runs out.
+    /// No bytes yet; refused only if memory runs out.
     pub fn none(alloc: Global) -> Result<KeyBytes, AllocError>
         ensures { IfOk result (λ key. key ≡ []) }
     {
@@ -50,7 +50,7 @@ impl KeyBytes {
         self.bytes.clear();
     }
 
-    /// Puts a byte behind the others.
+    /// Puts a byte after the others.
     pub fn push(&mut self, byte: u8)
         requires { length self.old < KEY_BYTES }
         ensures { self.new ≡ self.old ++ byte ∷ [] }
@@ -60,7 +60,7 @@ impl KeyBytes {
         }
     }
 
-    /// Puts bytes behind the others.
+    /// Puts bytes after the others.
     pub fn extend(&mut self, bytes: &[u8])
         requires { length self.old + length bytes.now ≤ KEY_BYTES }
         ensures { self.new ≡ self.old ++ bytes.now }

@@ -20,11 +20,11 @@ use std::alloc::{AllocError, Global};
 pub struct RecordKey {
     /// Whether the type has such fields, so that there is a key.
     pub is_given: bool,
-    /// The bytes that they compare, one field behind another, the highest level first.
+    /// The bytes that they compare, one field after another, the highest level first.
     pub bytes: KeyBytes,
 }
 
-/// Puts what the field of a level compares, if there is one, behind the others.
+/// Puts what the field of a level compares, if there is one, after the others.
 fn push_field(compared: &mut KeyBytes, fields: &LevelFields, level: u8, bytes: &[u8])
     requires from_one { 1 ≤ level }
     requires to_nine { level ≤ 9 }
@@ -37,7 +37,7 @@ fn push_field(compared: &mut KeyBytes, fields: &LevelFields, level: u8, bytes: &
     }
 }
 
-/// Puts what the match fields compare one behind another, M9 first.
+/// Puts what the match fields compare one after another, M9 first.
 fn push_match_fields(compared: &mut KeyBytes, fields: &LevelFields, bytes: &[u8])
     requires { compared.old ≡ [] }
     ensures { compared.new ≡ spec.match_values fields.now bytes.now meaning.levels }
@@ -48,7 +48,7 @@ fn push_match_fields(compared: &mut KeyBytes, fields: &LevelFields, bytes: &[u8]
 }
 
 impl RecordKey {
-    /// No key; refused only where memory runs out.
+    /// No key; refused only if memory runs out.
     pub fn none(alloc: Global) -> Result<RecordKey, AllocError>
         ensures { IfOk result (λ key. spec.key_in key ≡ None) }
     {
@@ -58,7 +58,7 @@ impl RecordKey {
         })
     }
 
-    /// Becomes the key of a record of a type; none where the type has no match fields.
+    /// Becomes the key of a record of a type; none if the type has no match fields.
     pub fn read(&mut self, start: TypeStart, levels: &Levels, bytes: &[u8])
         ensures { (program : Program) → AreLevels key.Match program levels.now → is_type_start program start ≡ true → spec.key_in self.new ≡ meaning.match_key (kind_at program start) bytes.now }
     {
@@ -68,7 +68,7 @@ impl RecordKey {
         }
     }
 
-    /// Becomes the key of a record whose type has these match fields; none where it has none.
+    /// Becomes the key of a record whose type has these match fields; none if it has none.
     #[inline(never)]
     fn read_fields(&mut self, fields: &LevelFields, bytes: &[u8])
         ensures { spec.key_in self.new ≡ spec.key_by fields.now bytes.now }

@@ -1,4 +1,4 @@
-//! What selection, MR and the reading of files say, in the words of the field.
+//! What selection, MR and the reading of files mean, in the terms of the language.
 
 ghost use Rattle.std.specs.Prelude.{◌≡◌, ◌+◌, ◌<◌, ◌≤◌, ◌↔◌, ℕ, List, Some, None, true, false, is_some, length, slice_set};
 ghost use Rattle.std.specs.List.{list_all, list_any};
@@ -20,8 +20,8 @@ ghost use Rattle.s3_match.specs.Inner.Heads.{ended, put};
 ghost use Rattle.s3_match.specs.Inner.Laws.{heads_of, stands_at, IsFirstLeast, IsMatchedBySecondary, HasKey, IsFirst, has_no_key, has_last_key};
 ghost use Rattle.s3_match.specs.Inner.Reading.{input_at, read_from, read_behind, on_record, is_record, AreRead, IsNextUnread};
 
-/// Where all heads have match fields, the selected one is the first least one, the primary standing before the secondary files and
-/// these in F order: each head before it has a higher key.
+/// If all heads have match fields, the selected head is the first one with the lowest key: each head before it has a higher key.
+/// The primary file comes first, and then the secondary files in F order.
 pub fn ties_go_to_the_first()
     ensures first { (heads : List Selected) (selected : Selected) → least heads ≡ Some selected → IsFirstLeast heads selected }
     ensures selected { (reading : Reading) (selected : Selected) → has_met_end reading.files ≡ false → list_all (λ head. is_some (key_of head)) (heads_of reading) ≡ true → select reading ≡ Some selected
@@ -33,8 +33,8 @@ pub fn a_head_without_match_fields_goes_first()
     ensures { (reading : Reading) (selected : Selected) → has_met_end reading.files ≡ false → list_any has_no_key (heads_of reading) ≡ true → select reading ≡ Some selected → IsFirst has_no_key (heads_of reading) selected }
 {}
 
-/// At the end no record is processed any more where a primary head is left; else the first head with the last primary key, and none
-/// where no head has it.
+/// At the end no record is processed if a primary head is left. Else the first head with the last primary key is processed, and
+/// none if no head has it.
 pub fn the_last_key_is_still_matched_at_the_end()
     ensures primary { (reading : Reading) → has_met_end reading.files ≡ true → list_any (λ head. is_designated Primary head.file) (heads_of reading) ≡ true → select reading ≡ None }
     ensures secondary { (reading : Reading) (selected : Selected) → has_met_end reading.files ≡ true → list_any (λ head. is_designated Primary head.file) (heads_of reading) ≡ false → select reading ≡ Some selected
@@ -43,13 +43,13 @@ pub fn the_last_key_is_still_matched_at_the_end()
     ensures some { (reading : Reading) → has_met_end reading.files ≡ true → list_any (λ head. is_designated Primary head.file) (heads_of reading) ≡ false → list_any (has_last_key reading) (heads_of reading) ≡ true → is_some (select reading) ≡ true }
 {}
 
-/// A primary is matched exactly where a secondary head has its key, a secondary exactly where it has the last primary key.
+/// A primary is matched exactly if a secondary head has its key, a secondary exactly if it has the last primary key.
 pub fn records_match_by_keys()
     ensures primary { (reading : Reading) (selected : Selected) → is_designated Primary selected.file ≡ true → (is_matched reading selected ≡ true) ↔ IsMatchedBySecondary reading selected }
     ensures secondary { (reading : Reading) (selected : Selected) → is_designated Primary selected.file ≡ false → (is_matched reading selected ≡ true) ↔ HasKey selected reading.primary_key }
 {}
 
-/// The level that breaks by the control fields that are held is that of an environment that holds them.
+/// The level that breaks by the control fields that are held is the level that breaks in an environment that holds them.
 pub fn levels_break_by_what_is_held()
     ensures { (e : Environment) (head : Head) → break_of e.held head.kind head.bytes ≡ break_level e head }
 {}
@@ -59,8 +59,8 @@ pub fn a_taken_head_is_missed()
     ensures { (reading : Reading) (selected : Selected) (place : ℕ) → stands_at reading place ≡ Some selected → list_any is_unread (taken reading selected).files ≡ true }
 {}
 
-/// Files are read one after another: those whose head stands, or that have ended, are passed over, and behind the first one that is
-/// to be read the others are read on, whatever its reading puts in its place.
+/// Files are read one after another. Files that have a head or have ended are passed over. After the first file that is to be
+/// read, the others are read as before, whatever its reading puts in its place.
 pub fn files_are_read_in_turn()
     ensures whole { (source : Source) (anew : Anew) (inputs : List InputFile) (go : List InputFile → Rest) → files_read source anew inputs go ≡ read_from source anew inputs 0 go }
     ensures next { (source : Source) (anew : Anew) (inputs : List InputFile) (from place : ℕ) (go : List InputFile → Rest) (e : Environment) → IsNextUnread inputs from place
@@ -69,8 +69,8 @@ pub fn files_are_read_in_turn()
         → read_from source anew inputs from go e ≡ go inputs e }
 {}
 
-/// A record that was read is counted. One of a type stands at the head of its file if it is in sequence, and the files behind are
-/// read on; any other one halts, and its file is read again. Where there is no record the file has ended.
+/// A record that was read is counted. If it is of a type and in sequence, it becomes the head of its file, and the files after it
+/// are read. Any other record halts the job, and its file is read again. If there is no record, the file has ended.
 pub fn an_answer_stands_at_its_file()
     ensures counted { (source : Source) (anew : Anew) (inputs : List InputFile) (place : ℕ) (bytes : List ℕ) (go : List InputFile → Rest) (e : Environment) → place < length inputs
         → on_read source anew (input_at inputs place) (read_behind source anew inputs place go) (Found bytes) e ≡ on_record source anew (slice_set inputs place (counted_read (input_at inputs place))) place bytes go e }

@@ -53,7 +53,7 @@ pub struct Reading {
     pub match_levels: Levels,
     /// Their control fields.
     pub control_levels: Levels,
-    /// For each file of the program, by slot, the type of all its records where its first type has no codes; else none.
+    /// For each file of the program, by slot, the type of all its records if its first type has no codes; else none.
     pub only_types: Vec<Option<TypeStart>>,
     /// The places (`place_of`) of all record identifying indicators of the program.
     pub type_places: Vec<usize>,
@@ -117,7 +117,7 @@ fn first_input(
     Ok(input)
 }
 
-/// Puts the file of a slot behind the others, if it is a primary or secondary one.
+/// Puts the file of a slot after the others, if it is a primary or secondary one.
 fn add_first(
     alloc: Global,
     files: &mut Vec<InputFile>,
@@ -186,7 +186,7 @@ fn add_line_place(places: &mut Vec<usize>, line: &InputLine<Reference>) -> Resul
     Ok(())
 }
 
-/// By lines of the I sheet, the place of each one's record identifying indicator.
+/// The place of the record identifying indicator of each line of the I sheet.
 fn line_places(alloc: Global, program: &Program) -> Result<Vec<usize>, AllocError>
     ensures { IfOk result (λ places. AreLinePlaces program.now.inputs.items places.items) }
 {
@@ -207,7 +207,7 @@ fn keep_primary(primary_key: &mut RecordKey, program: &Program, input: &InputFil
 }
 
 impl Reading {
-    /// The reading as a job begins with these switches, U1 the highest bit; refused only where memory runs out.
+    /// The reading as a job begins with these switches, U1 the highest bit; refused only if memory runs out.
     pub fn first(alloc: Global, program: &Program, switches: u8) -> Result<Reading, AllocError>
         ensures sound { IfOk result (λ reading. IsReading program.now reading) }
         ensures reading { IfOk result (λ reading. (e : Environment) → BeginsWith switches e → reading_in program.now reading ≡ first_reading (source_named program.now) e) }
@@ -238,7 +238,7 @@ impl Reading {
         self.files[place].file
     }
 
-    /// The first type of the file at a place all of whose codes hold of a record; none where no type's do.
+    /// The first type of the file at a place all of whose codes hold of a record; none if there is no such type.
     pub fn type_of(&self, program: &Program, place: usize, bytes: &[u8]) -> Option<TypeStart>
         requires sound { IsReading program.now self.now }
         requires within { place < length self.now.files.items }
@@ -248,7 +248,7 @@ impl Reading {
         self.type_in(program, self.slot(place), bytes)
     }
 
-    /// The first type of the file of a slot all of whose codes hold of a record; none where no type's do.
+    /// The first type of the file of a slot all of whose codes hold of a record; none if there is no such type.
     #[inline(always)]
     pub fn type_in(&self, program: &Program, file: usize, bytes: &[u8]) -> Option<TypeStart>
         requires sound { IsReading program.now self.now }
@@ -300,7 +300,7 @@ impl Reading {
         self.files[place].vacate();
     }
 
-    /// The place of the first file, from a place on, whose next record is to be read; none where there is no such file.
+    /// The place of the first file, from a place on, whose next record is to be read; none if there is no such file.
     #[tactic(auto, using(crate::proofs::UnreadLemmas::none_between, crate::proofs::UnreadLemmas::one_more_read, crate::proofs::UnreadLemmas::next_there, crate::proofs::UnreadLemmas::read_past))]
     pub fn first_unread_from(&self, from: usize) -> Option<usize>
         ensures here { IfSome result (IsUnreadAt self.now.files.items) }
@@ -333,8 +333,8 @@ impl Reading {
         self.files[place].count_read();
     }
 
-    /// Puts a record of a type at the head of the file at a place and answers true, if it is in sequence: its key isn't below
-    /// that of the file's last head with match fields. Else it answers false.
+    /// Puts a record of a type at the head of the file at a place and answers true, if it is in sequence: its key isn't below the
+    /// key of the file's last head with match fields. Else it answers false.
     pub fn put(&mut self, place: usize, start: TypeStart, bytes: &[u8]) -> bool
         requires unread { IsUnreadAt self.old.files.items place }
         requires fits { length bytes.now ≤ RECORD_BYTES }

@@ -46,7 +46,7 @@ fn ends_job(program: &Program, input: &InputFile) -> bool
     program.files[input.file].ends_job
 }
 
-/// Whether a record with this key stands at the head.
+/// Whether the head has a record with this key.
 fn has_key(input: &InputFile, key: &RecordKey) -> bool
     ensures { result ≡ spec.has_key key.now input.now }
 {
@@ -73,8 +73,8 @@ fn some_secondary_has(program: &Program, files: &[InputFile], key: &RecordKey) -
         .any(|input| is_secondary_with_key(program, input, key))
 }
 
-/// Whether MR is on for the head of a file: a primary head where a secondary one has its key, a secondary head where its key is
-/// that of the last primary record with match fields.
+/// Whether MR is on for the head of a file: a primary head if a secondary head has its key, a secondary head if its key is the
+/// key of the last primary record with match fields.
 #[inline(always)]
 pub fn is_matched(
     program: &Program,
@@ -125,7 +125,7 @@ fn some_delays(program: &Program, files: &[InputFile], some_end: bool) -> bool
         .any(|input| delays_end(program, input, some_end))
 }
 
-/// Whether the input of the job has ended: no file with E in its F line has a head left, or where none has E no file at all.
+/// Whether the input of the job has ended: no file with E in its F line has a head left, or if none has E no file at all.
 pub fn has_met_end(program: &Program, files: &[InputFile]) -> bool
     ensures { result ≡ meaning.has_met_end (spec.inputs_of program.now files.now) }
 {

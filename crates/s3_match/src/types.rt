@@ -27,7 +27,7 @@ fn zone_of(character: u8) -> u8
     }
 }
 
-/// Whether a record's byte has the zone: its own, or the one that it stands for as a character.
+/// Whether a record's byte has the zone, by itself or as the character that it represents.
 fn has_zone(byte: u8, zone: u8) -> bool
     ensures { result ≡ meaning.has_zone byte zone }
 {
@@ -124,7 +124,7 @@ fn ends_codes(line: &InputLine<Reference>) -> bool
     }
 }
 
-/// Whether no AND line stands there.
+/// Whether there is no AND line.
 #[inline(always)]
 fn has_no_further(inputs: &[InputLine<Reference>], place: usize) -> bool
     ensures { (bytes : List ℕ) → IsTrue result → IsTrue (spec.further_hold bytes (drop place inputs.now)) }

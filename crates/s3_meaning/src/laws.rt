@@ -1,4 +1,4 @@
-//! What the definitions say of themselves: laws, and worked rows.
+//! What the definitions say of themselves: laws, and worked examples.
 
 ghost use Rattle.std.specs.Prelude.{◌≡◌, ◌+◌, ◌*◌, ◌<◌, ◌≤◌, ℕ, pos, List, [], ◌∷◌, map, true, false, All, IsSome, Some, None, filter, replicate};
 ghost use Rattle.s3_meaning.specs.Carriage.{Carriage, spaced, skipped};
@@ -19,20 +19,20 @@ ghost use Rattle.s3_meaning.specs.Inner.MatchingCorners.{matching_corners};
 ghost use Rattle.s3_meaning.specs.Cycle.{again, renewed, Req};
 ghost use Rattle.s3_meaning.specs.Inner.Samples.{card_lister, level_totals, card, print_line, no_date, cards};
 
-/// What a run can begin anew is what its definition makes of itself: no bound is left in it.
+/// The specification of a run that begins again equals its own definition: it has no bound.
 pub fn nothing_is_bounded()
     ensures { (source : Source) → again source ≡ renewed source (again source) }
 {}
 
-/// Spaces move the carriage by so many lines of pages of 66 lines, past page 9,999 aside, and to a line of the page; a skip
-/// moves it to its line.
+/// Spaces move the carriage by this number of lines over pages of 66 lines, up to page 9,999, and always to a line of a page. A
+/// skip moves the carriage to the line of the skip.
 pub fn the_carriage_moves_by_lines()
     ensures moved { (n : ℕ) (c : Carriage) → n ≤ 66 → c.line ≤ 66 → c.page < 9999 → 66 * (spaced n c).page + (spaced n c).line ≡ 66 * c.page + c.line + n }
     ensures within { (n : ℕ) (c : Carriage) → n ≤ 66 → 1 ≤ c.line → c.line ≤ 66 → (1 ≤ (spaced n c).line) × ((spaced n c).line ≤ 66) }
     ensures skipped { (n : ℕ) (c : Carriage) → (skipped (Some n) c).line ≡ n }
 {}
 
-/// Where all heads have a key, none has a lower one than the head that is selected.
+/// If all heads have a key, no head has a lower key than the selected one.
 pub fn the_least_key_is_selected()
     ensures { (heads : List Selected) (selected : Selected) → All (λ head. IsSome (key_of head)) heads → least heads ≡ Some selected → All (λ head. is_less (key_of head) (key_of selected) ≡ false) heads }
 {}
@@ -55,9 +55,9 @@ pub fn totals_are_printed()
         ≡ End false }
 {}
 
-/// For each request, which answers of every kind fit it: to one for a card, 96 bytes or none; to one for a record, so many bytes
-/// as its file's records have, or none; to one that writes into a file, done, or what that file can refuse; to a halt, the
-/// replies that it allows; and none to the end of a job.
+/// The answers that fit each request. A request for a card takes 96 bytes or none. A request for a record takes as many bytes as
+/// its file's records have, or none. A request that writes into a file takes `done`, or a refusal of that file. A halt takes the
+/// replies that it allows. The end of a job takes no answer.
 pub fn answers_fit_their_requests()
     ensures cards { filter (fits Card) all_answers ≡ Found (replicate 96 0x40) ∷ Nothing ∷ [] }
     ensures records { filter (fits (Read cards 2)) all_answers ≡ Found (replicate 2 0x40) ∷ Nothing ∷ [] }
@@ -87,7 +87,7 @@ pub fn replies_at_files_come_out()
     ensures { ComeOut file_reply_corners }
 {}
 
-/// Small runs over records whose fields are moved, and with lines that are put out, ask what was worked by hand.
+/// Small runs over records whose fields are moved, and with lines that are written, make the requests that were worked by hand.
 pub fn lines_come_out()
     ensures { ComeOut line_corners }
 {}

@@ -1,4 +1,4 @@
-//! What a card is in a job stream, and the words on it.
+//! What a card is in a job stream, and the punched words on it.
 ghost use Rattle.std.specs.Prelude.{◌≡◌, ◌<◌, ◌≤◌, IfSome, drop, length, slice_get};
 ghost use Rattle.std.specs.Option.{option_copied};
 ghost use Rattle.std.specs.List.{position_or_len};
@@ -29,14 +29,14 @@ pub fn is_statement(card: &Card) -> bool
     card.starts_with(&[SLASH, SLASH, BLANK])
 }
 
-/// Whether a card ends data, and stands between jobs.
+/// Whether a card is a separator: it ends data, and may be between jobs.
 pub fn is_separator(card: &Card) -> bool
     ensures { result ≡ separator_spec card.now }
 {
     is_data_end(card) || is_job_end(card)
 }
 
-/// Whether a job begins at a card that stands between jobs.
+/// Whether a job begins at a card between jobs.
 pub fn begins_job(card: &Card) -> bool
     ensures { result ≡ begins_job_spec card.now }
 {
@@ -75,7 +75,7 @@ impl Stop {
         }
     }
 
-    /// The first such card from a place on, or the place behind the last card.
+    /// The first such card from a place on, or the place after the last card.
     pub fn next(self, cards: &[Card], from: usize) -> usize
         requires { from ≤ length cards.now }
         ensures value { result ≡ next_place (stops_at self) cards.now from }
@@ -85,7 +85,7 @@ impl Stop {
     }
 }
 
-/// How many cards stand before the first one that a search stops at.
+/// The number of cards before the first one that a search stops at.
 fn cards_before(stop: Stop, cards: &[Card]) -> usize
     ensures value { result ≡ position_or_len (stops_at stop) cards.now }
     ensures within { result ≤ length cards.now }
@@ -93,7 +93,7 @@ fn cards_before(stop: Stop, cards: &[Card]) -> usize
     cards.iter().take_while(|card| !stop.is(card)).count()
 }
 
-/// The first word of a text, and the text behind it.
+/// The first word of a text, and the text after it.
 fn split_word(text: &[u8]) -> (&[u8], &[u8])
     ensures word { result.0.now ≡ word_of text.now }
     ensures behind { result.1.now ≡ behind_word text.now }
@@ -102,28 +102,28 @@ fn split_word(text: &[u8]) -> (&[u8], &[u8])
     from_word.split_at(word_len(from_word))
 }
 
-/// The text of a card behind its `//`.
+/// The text of a card after its `//`.
 fn behind_slashes(card: &Card) -> &[u8]
     ensures { result.now ≡ drop 2 card.now }
 {
     &card[2..]
 }
 
-/// The first word behind the `//` of a card.
+/// The first word after the `//` of a card.
 pub fn first_word(card: &Card) -> &[u8]
     ensures { result.now ≡ first_word_spec card.now }
 {
     split_word(behind_slashes(card)).0
 }
 
-/// The second word behind the `//` of a card.
+/// The second word after the `//` of a card.
 pub fn second_word(card: &Card) -> &[u8]
     ensures { result.now ≡ second_word_spec card.now }
 {
     split_word(split_word(behind_slashes(card)).1).0
 }
 
-/// Whether the parameters of a statement may go on at a card.
+/// Whether the parameters of a statement may continue on a card.
 pub fn is_continuation(card: &Card) -> bool
     ensures { result ≡ continuation_spec card.now }
 {

@@ -26,15 +26,15 @@ pub enum FileSize {
 pub struct FileStatement {
     /// The name by which the program knows the file.
     pub name: Name,
-    /// The label on the pack; the name where none is given.
+    /// The label on the pack; the name if no label is given.
     pub label: Name,
-    /// RECORDS or TRACKS; one track where neither is given.
+    /// RECORDS or TRACKS; one track if there is no such parameter.
     pub size: FileSize,
-    /// RETAIN; T where none is given.
+    /// RETAIN; T if it isn't given.
     pub retention: Retention,
 }
 
-/// The parameter that stands at an entry, if one does.
+/// The parameter at an entry, if there is one.
 fn stands_at(entry: Entry) -> Option<Parameter>
     ensures { result ≡ stands_at_spec entry }
 {

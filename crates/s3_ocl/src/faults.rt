@@ -15,7 +15,7 @@ use thiserror::Error;
 /// What is wrong with a job.
 #[derive(Clone, Copy, Debug, Error)]
 pub enum JobFault {
-    /// A card that doesn't begin with `//` and a blank where a statement should stand.
+    /// A card in the place of a statement that doesn't begin with `//` and a blank.
     #[error("no statement")]
     NotOcl,
     /// An unknown statement or parameter.
@@ -78,7 +78,7 @@ pub fn earlier(a: Option<Mark>, b: Option<Mark>) -> Option<Mark>
     }
 }
 
-/// A fault on a card, where the test holds.
+/// A fault on a card, if the test holds.
 #[tactic(auto, unfolding(crate::specs::Faults::first_fault))]
 fn fault_if(test: bool, card: u16, fault: JobFault) -> Option<Mark>
     ensures { result ≡ first_fault (fault_if_spec test card fault) }
@@ -141,7 +141,7 @@ fn pieces_before(parameter: Parameter, pieces: &[Piece]) -> usize
         .count()
 }
 
-/// The pieces behind the first one that gives a parameter.
+/// The pieces after the first one that gives a parameter.
 fn behind_first(parameter: Parameter, pieces: &[Piece]) -> &[Piece]
     ensures { result.now ≡ after_first (gives_spec parameter) pieces.now }
 {
@@ -268,8 +268,8 @@ pub fn statement_fault(contents: &Contents, statement: &Statement) -> Option<Mar
 pub struct FaultyJob {
     /// What is wrong there.
     pub fault: JobFault,
-    /// The number of the card at fault, from 1 to 9,999.
+    /// The number of the card in error, from 1 to 9,999.
     pub card: u16,
-    /// The place behind the job in the deck, from 0.
+    /// The place after the job in the deck, from 0.
     pub after: usize,
 }

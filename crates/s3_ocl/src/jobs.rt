@@ -80,7 +80,7 @@ impl JobCards {
         self.program == Name { codes: COMPILER }
     }
 
-    /// What the FILE statements say, in their order. A name that stands twice among them is a fault of the job.
+    /// The FILE statements of the job, in their order. Two of them with the same name are a fault of the job.
     pub fn files(&self) -> &[FileStatement]
         ensures { result.now ≡ self.now.files }
     {
@@ -108,14 +108,15 @@ impl JobCards {
         self.data_from as u16
     }
 
-    /// The place of the first card behind RUN in the deck, from 0.
+    /// The place of the first card after RUN in the deck, from 0.
     pub fn data_from(&self) -> usize
         ensures { result ≡ self.now.data_from }
     {
         self.data_from
     }
 
-    /// The place behind the last card of the data in the deck, from 0; no data where it is that of the first one.
+    /// The place after the last card of the data in the deck, from 0. If it is the place of the first card of the data, there are
+    /// no data.
     pub fn data_to(&self) -> usize
         ensures value { result ≡ self.now.data_to }
         ensures order { self.now.data_from ≤ self.now.data_to }
@@ -123,7 +124,7 @@ impl JobCards {
         self.data_to
     }
 
-    /// The place behind the job in the deck, from 0 and at most 9,999, where the next job is looked for.
+    /// The place after the job in the deck, from 0 and at most 9,999. The search for the next job begins there.
     pub fn after(&self) -> usize
         ensures value { result ≡ self.now.after }
         ensures order { self.now.data_to ≤ self.now.after }
@@ -133,7 +134,7 @@ impl JobCards {
     }
 }
 
-/// Whether a statement stands at a place.
+/// Whether there is a statement at a place.
 fn has_statement(cards: &[Card], place: usize) -> bool
     ensures { result ≡ holds_at statement_spec (slice_get cards.now place) }
 {
@@ -143,7 +144,7 @@ fn has_statement(cards: &[Card], place: usize) -> bool
     }
 }
 
-/// Whether a `/&` card stands at a place.
+/// Whether there is a `/&` card at a place.
 fn has_job_end(cards: &[Card], place: usize) -> bool
     ensures within { IsTrue result → place < length cards.now }
     ensures value { result ≡ holds_at job_end_spec (slice_get cards.now place) }
@@ -154,7 +155,7 @@ fn has_job_end(cards: &[Card], place: usize) -> bool
     }
 }
 
-/// The place behind a job whose data end at a place.
+/// The place after a job whose data end at a place.
 fn job_end(cards: &[Card], place: usize) -> usize
     requires within { place ≤ length cards.now }
     requires short { length cards.now ≤ 9_999 }
@@ -230,7 +231,7 @@ fn stop_fault(cards: &[Card], place: usize) -> Mark
     }
 }
 
-/// The fault of a job that ends with the deck, where a statement that is no RUN ends there.
+/// The fault of a job that ends with the deck, after a statement that isn't RUN.
 fn last_fault(cards: &[Card], statement: &Statement, end: usize) -> Option<Mark>
     requires short { length cards.now ≤ 9_999 }
     ensures { result ≡ last_fault_spec cards.now statement.now.verb end }
@@ -291,7 +292,7 @@ fn read_job(alloc: Global, cards: &[Card], start: usize) -> Result<JobCards, Ocl
     Err(OclFault::Faulty(faulty(cards, stop_fault(cards, place))))
 }
 
-/// The place where the next job of a deck begins, looked for from a place on, both from 0; `None` where no job follows.
+/// The place at which the next job of a deck begins, searched from a place on, both from 0. `None` if no job follows.
 pub fn job_at(deck: &Deck, from: usize) -> Option<usize>
     ensures { result ≡ job_place deck.now from }
 {
@@ -307,8 +308,8 @@ pub fn job_at(deck: &Deck, from: usize) -> Option<usize>
     }
 }
 
-/// The next job of a deck, looked for from a place on, from 0, behind which one must follow. Refused with `Faulty` where the
-/// job has a fault, with the first one and the place behind the job (docs/OCL.md).
+/// The next job of a deck, looked for from a place on, from 0, after which one must follow. Refused with `Faulty` if the job has
+/// a fault, with the first one and the place after the job (docs/OCL.md).
 #[tactic(auto, using(crate::proofs::SoundLemmas::sound_result, crate::proofs::SoundLemmas::dated_result))]
 pub fn split(alloc: Global, deck: &Deck, from: usize) -> Result<JobCards, OclFault>
     requires { next_job deck.now from < length deck.now }

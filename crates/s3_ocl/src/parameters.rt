@@ -53,14 +53,14 @@ pub enum Parameter {
     Switches,
 }
 
-/// What stands at the place of a parameter.
+/// What is at the place of a parameter.
 #[derive(Clone, Copy)]
 pub enum Entry {
-    /// Nothing stands there.
+    /// Nothing is there.
     Empty,
     /// A text that is no parameter of the statement.
     Unknown,
-    /// A text behind the last parameter that the statement can have.
+    /// A text after the last parameter that the statement can have.
     Surplus,
     /// A parameter with nothing as its value.
     Missing(Parameter),
@@ -143,7 +143,7 @@ fn given(parameter: Parameter, text: &[u8]) -> Entry
     }
 }
 
-/// How many codes stand before the first hyphen.
+/// The number of codes before the first hyphen.
 fn key_len(text: &[u8]) -> usize
     ensures value { result ≡ position_or_len is_hyphen text.now }
     ensures within { result ≤ length text.now }
@@ -165,7 +165,7 @@ fn keyed(text: &[u8]) -> Entry
     }
 }
 
-/// What stands at a place of a statement's parameters, from 0.
+/// The entry at a place of a statement's parameters, from 0.
 fn entry_at(verb: Verb, place: usize, text: &[u8]) -> Entry
     ensures { result ≡ entry_at_spec verb place text.now }
 {
@@ -194,7 +194,7 @@ fn entry_at(verb: Verb, place: usize, text: &[u8]) -> Entry
     }
 }
 
-/// What stands at a place of a statement's parameters, from 0; nothing between two commas is a missing value.
+/// The entry at a place of a statement's parameters, from 0. Nothing between two commas is a missing value.
 pub fn entry_of(verb: Verb, place: usize, text: &[u8]) -> Entry
     ensures { result ≡ entry_spec verb place text.now }
 {
@@ -204,7 +204,7 @@ pub fn entry_of(verb: Verb, place: usize, text: &[u8]) -> Entry
     entry_at(verb, place, text)
 }
 
-/// Whether a text of parameters goes on at the next card.
+/// Whether a text of parameters continues on the next card.
 pub fn goes_on(text: &[u8]) -> bool
     ensures { result ≡ goes_on_spec text.now }
 {
@@ -221,7 +221,7 @@ pub fn without_comma(text: &[u8]) -> &[u8]
     }
 }
 
-/// How many codes stand before the first comma.
+/// The number of codes before the first comma.
 fn comma_place(text: &[u8]) -> usize
     ensures value { result ≡ position_or_len is_comma text.now }
     ensures within { result ≤ length text.now }
@@ -236,7 +236,7 @@ pub fn first_part(text: &[u8]) -> &[u8]
     &text[..comma_place(text)]
 }
 
-/// The text behind the first comma, if there is one.
+/// The text after the first comma, if there is one.
 #[tactic(auto, using(crate::proofs::PartLemmas::last_part))]
 pub fn behind_comma(text: &[u8]) -> Option<&[u8]>
     ensures parts { MatchOption result (slice_split is_comma text.now ≡ before_first is_comma text.now ∷ []) (λ after. slice_split is_comma text.now ≡ before_first is_comma text.now ∷ slice_split is_comma after.now) }

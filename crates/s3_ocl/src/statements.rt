@@ -12,23 +12,23 @@ use s3_cards::Card;
 use std::alloc::{AllocError, Global};
 use std::marker::Model;
 
-/// What stands at the place of a parameter, with the number of its card.
+/// What is at the place of a parameter, with the number of its card.
 #[derive(Clone, Copy)]
 pub struct Piece {
     /// The number of the card, from 1 to 9,999.
     pub card: u16,
-    /// The parameter, or what stands in its place.
+    /// The parameter, or what is in its place.
     pub entry: Entry,
 }
 
-/// A statement of a job, with all cards that it goes on over.
+/// A statement of a job, with all of its continuation cards.
 #[derive(Drop)]
 pub struct Statement {
     /// The number of the statement's first card, from 1 to 9,999.
     pub number: u16,
-    /// What the statement does, or `None` where its keyword is unknown.
+    /// What the statement does, or `None` if its keyword is unknown.
     pub verb: Option<Verb>,
-    /// The statement's parameters in their order; none where its keyword is unknown.
+    /// The statement's parameters in their order; none if its keyword is unknown.
     pub pieces: Vec<Piece>,
     /// How many cards the statement has, at least 1.
     pub cards: usize,
@@ -70,7 +70,7 @@ fn add_piece(
     Ok(())
 }
 
-/// Adds the parameters that stand on a card to those of a statement.
+/// Adds the parameters on a card to the parameters of a statement.
 #[tactic(auto, using(crate::proofs::PieceLemmas::no_parts, crate::proofs::PieceLemmas::one_more_piece, crate::proofs::PieceLemmas::last_piece))]
 fn add_pieces(
     pieces: &mut Vec<Piece>,
@@ -93,7 +93,7 @@ fn add_pieces(
     }
 }
 
-/// Adds the parameters that stand on a card, where the statement is known.
+/// Adds the parameters on a card, if the statement is known.
 fn add_known_pieces(
     pieces: &mut Vec<Piece>,
     verb: Option<Verb>,
@@ -108,7 +108,7 @@ fn add_known_pieces(
     }
 }
 
-/// The parameter text at a place, where a statement whose text before it is this goes on there.
+/// The parameter text at a place, if the statement continues there after this text.
 #[tactic(auto, using(crate::proofs::PieceLemmas::text_ends, crate::proofs::PieceLemmas::cards_end, crate::proofs::PieceLemmas::other_card, crate::proofs::PieceLemmas::text_goes_on))]
 fn next_text<'a>(text: &[u8], cards: &'a [Card], place: usize) -> Option<&'a [u8]>
     ensures texts { MatchOption result (texts_behind text.now (drop place cards.now) ≡ []) (λ next. texts_behind text.now (drop place cards.now) ≡ next.now ∷ texts_behind next.now (drop (place + 1) cards.now)) }

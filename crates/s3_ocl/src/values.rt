@@ -11,7 +11,7 @@ use s3_cards::{Name, Retention, go_on_in_name, is_digit, is_word, number_spelled
 /// What a SWITCH statement does with one switch.
 #[derive(Clone, Copy)]
 pub enum Switch {
-    /// 1: the switch goes on.
+    /// 1: the switch is turned on.
     On,
     /// 0: the switch goes off.
     Off,

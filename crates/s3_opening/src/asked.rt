@@ -26,8 +26,8 @@ fn is_switched_on(switches: u8, condition: Option<Indicator>) -> bool
     }
 }
 
-/// Whether a file is on the pack and used: its device is DISK, and the switch that its F line names, if any, is on. Of the
-/// switches U1 is the highest bit.
+/// Whether a file is on the pack and used: its device is DISK, and the switch that its F line names, if any, is on. U1 is the
+/// highest bit of the switches.
 pub fn is_used(switches: u8, line: &FileLine) -> bool
     ensures { result ≡ is_used_spec switches line.now }
 {
@@ -41,7 +41,7 @@ pub fn is_new(line: &FileLine) -> bool
     line.usage.is_output() && !line.has_additions
 }
 
-/// The length of a key, 0 where there is none.
+/// The length of a key, 0 if there is none.
 fn key_length_of(key: Option<KeyField>) -> u8
     ensures { result ≡ key_length_spec key }
 {
@@ -51,7 +51,7 @@ fn key_length_of(key: Option<KeyField>) -> u8
     }
 }
 
-/// The first position of a key, 0 where there is none.
+/// The first position of a key, 0 if there is none.
 fn key_start_of(key: Option<KeyField>) -> u16
     ensures { result ≡ key_start_spec key }
 {
@@ -71,7 +71,7 @@ fn has_index(organization: Organization) -> bool
     }
 }
 
-/// Whether an organization suits an F line: its files have an index exactly where the line has a key.
+/// Whether an organization suits an F line: its files have an index exactly if the line has a key.
 fn has_organization(line: &FileLine, organization: Organization) -> bool
     ensures { result ≡ if◌then◌else◌ (is_some line.now.key) (is_indexed organization) (not (is_indexed organization)) }
 {
@@ -93,7 +93,7 @@ pub fn is_of_layout(line: &FileLine, label: &FileLabel) -> bool
         && label.key_start == key_start_of(line.key)
 }
 
-/// The organization of a new file: indexed where its line has a key, direct where it is chained, else sequential.
+/// The organization of a new file: indexed if its line has a key, else direct if it is chained, else sequential.
 fn organization_of(line: &FileLine) -> Organization
     ensures { result ≡ organization_spec line.now }
 {
@@ -140,7 +140,7 @@ pub fn new_file(date: [u8; 6], line: &FileLine, statement: &FileStatement) -> Ne
     }
 }
 
-/// The FILE statement for the file that the program knows by this name; none where the job has none for it.
+/// The FILE statement for the file that the program knows by this name; none if the job has none for it.
 pub fn statement_of(name: Name, statements: &[FileStatement]) -> Option<&FileStatement>
     ensures { option_copied result ≡ statement_of_spec name statements.now }
 {

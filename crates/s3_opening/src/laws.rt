@@ -1,4 +1,4 @@
-//! What the definitions say of themselves: worked rows.
+//! What the definitions say of themselves: worked examples.
 
 ghost use Rattle.std.specs.Prelude.{◌≡◌, [], ◌∷◌, Some, None, true, false, replicate};
 ghost use Rattle.s3_lines.specs.declared.sheet.FileUse.TheVariants.{Input, Output, Update};
@@ -7,8 +7,8 @@ ghost use Rattle.s3_slots.specs.Inner.Samples.{named};
 ghost use Rattle.s3_keyed.specs.Inner.Samples.{b_and_a};
 ghost use Rattle.s3_opening.specs.Inner.Samples.{line, keyed, longer, with_additions, under_switch, direct, labelled, alike, halt_with, halt_by, halt_under, used, records_under};
 
-/// A file without a FILE statement, or with the label of an earlier file, is refused for that before anything else that is wrong
-/// with it; a file whose switch is off is neither tested nor does its label count.
+/// A file without a FILE statement, or with the label of an earlier file, is refused for that before all other reasons. A file
+/// whose switch is off isn't tested, and its label doesn't count.
 pub fn each_file_has_its_own_label()
     ensures no_statement { halt_by (alike (0xc9 ∷ [])) (line 0xc4 Input ∷ []) ≡ Some NoLabel }
     // another layout, and a permanent file
@@ -41,7 +41,7 @@ pub fn a_made_file_is_refused_in_order()
     ensures kept { records_under 0xc9 (line 0xc4 Output ∷ []) ≡ b_and_a }
 {}
 
-/// A file that is opened is refused for damage under its label, else where there is no such label, else for another use of a master
+/// A file that is opened is refused for damage under its label, else if there is no such label, else for another use of a master
 /// than reading it, else for another layout, else for its index.
 pub fn an_opened_file_is_refused_in_order()
     // the master of that label would be changed, and there is damage in the level's own area
@@ -62,7 +62,7 @@ pub fn an_opened_file_is_refused_in_order()
     ensures added { used (with_additions (line 0xc4 Output) ∷ []) ≡ (named 0xc4, (false, false)) ∷ [] }
 {}
 
-/// The job halts for the first file that is refused, in the order of the F lines, whether it is made or opened; where none is
+/// The job halts for the first file that is refused, in the order of the F lines, whether it is made or opened; if none is
 /// refused, the files are in use in that order.
 pub fn files_are_tested_one_after_another()
     ensures index_first { halt_with 0 (keyed 1 (line 0xe7 Input) ∷ line 0xc5 Output ∷ []) ≡ Some BadIndex }

@@ -1,19 +1,12 @@
 //! The files of a job at its start: which it opens and makes, or for what it halts.
 //!
-//! All tests come first, one file after another in the order of the F lines; only where all pass is anything made (docs/OCL.md,
-//! "The files of a job").
-//!
-//! What is proved of `open_files`, whatever files are held:
-//! - it makes and opens the files of a job, or says for which halt the job doesn't start, exactly as the definition's table does;
-//!   nothing is made unless all files pass their tests, and a halt changes nothing;
-//! - the open files are those of the F lines that the job uses, with their record lengths and keys, and a master's is only read;
-//! - no sector out of the level's reach changes, in the store itself too; and labels that said the slots say those with the
-//!   made files.
-//!
-//! The table is computed over worked rows: `each_file_has_its_own_label`, `a_made_file_is_refused_in_order`,
-//! `an_opened_file_is_refused_in_order`, `files_are_tested_one_after_another`.
-//!
-//! Only tested: that memory is said to run out only where a growth was refused, which no contract can say.
+//! All tests come first, one file after another in the order of the F lines; files are made only if all tests pass (docs/OCL.md,
+//! "The files of a job"). `open_files` is proved to make and open the files of a job, or to give the halt for which the job
+//! doesn't start, exactly as the specified table says; a halt changes nothing. The open files are proved to be those of the F
+//! lines that the job uses, with their record lengths and keys, and a master's file is only read. No sector outside the level's
+//! reach changes. Worked examples of the table are computed by the proofs (`each_file_has_its_own_label`,
+//! `a_made_file_is_refused_in_order`, `an_opened_file_is_refused_in_order`, `files_are_tested_one_after_another`). Only tested:
+//! that memory is reported to run out only if an allocation was refused.
 
 #![tactic(auto)]
 

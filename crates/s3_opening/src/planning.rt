@@ -35,7 +35,7 @@ fn news_of(alloc: Global, starts: &[Start]) -> Result<Vec<NewFile>, AllocError>
         .collect(alloc)
 }
 
-/// What the level halts for where a file can't be made.
+/// The halt of a level if a file can't be made.
 fn halt_of_make(fault: LabelFault) -> HaltCode
     ensures { result ≡ halt_of_make_spec fault }
 {
@@ -75,7 +75,7 @@ fn refused_plan(fault: PlanFault) -> OpeningFault
     }
 }
 
-/// The first refusal of the files in their order: a make that the plan refuses comes before the file that failed its tests, behind
+/// The first refusal of the files in their order: a make that the plan refuses comes before the file that failed its tests, after
 /// which nothing is planned.
 fn first_refusal(
     tested: Result<(), OpeningFault>,

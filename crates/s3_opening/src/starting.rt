@@ -106,7 +106,7 @@ fn file_of<P: Sectors>(
     }
 }
 
-/// The file of a start comes behind those that are open.
+/// The file of a start comes after those that are open.
 fn start_file<P: Sectors>(
     alloc: Global,
     level: LevelId,
@@ -123,7 +123,7 @@ fn start_file<P: Sectors>(
     Ok(())
 }
 
-/// The files of starts come behind those that are open, one after another.
+/// The files of starts come after those that are open, one after another.
 fn start_all<P: Sectors>(
     alloc: Global,
     level: LevelId,

@@ -9,12 +9,12 @@ use s3_cards::Name;
 use s3_job_files::OpenFile;
 use s3_slots::NewFile;
 
-/// What a file of a job comes to at its start.
+/// The state of a file at the start of its job.
 #[derive(Drop)]
 pub enum Start {
-    /// It stands on the pack, and is open now.
+    /// It is on the pack, and is open now.
     Opened(OpenFile),
-    /// It is to be made as this new file; the name is the one by which the program knows it.
+    /// It is to be made as this new file. The name is the program's name for it.
     ToMake(Name, NewFile),
 }
 
@@ -29,7 +29,7 @@ impl Start {
         }
     }
 
-    /// The new file that is to be made; none where the file is open already.
+    /// The new file that is to be made; none if the file is open already.
     pub fn to_make(&self) -> Option<NewFile>
         ensures { result ≡ new_of (step_in self.now) }
     {

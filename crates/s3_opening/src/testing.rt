@@ -23,7 +23,7 @@ use s3_slots::{FileLabel, LabelFault};
 use s3_store::Sectors;
 use std::alloc::Global;
 
-/// What the level halts for where a line doesn't allow a file that stands, whatever its index is.
+/// The halt of a level if an F line doesn't allow an existing file, whatever its index is.
 #[tactic(auto, unfolding(crate::specs::Inner::Tests::line_refusal))]
 fn line_refusal(line: &FileLine, is_master: bool, label: &FileLabel) -> Option<HaltCode>
     ensures { result ≡ line_refusal_spec line.now is_master label.now }
@@ -38,7 +38,7 @@ fn line_refusal(line: &FileLine, is_master: bool, label: &FileLabel) -> Option<H
     }
 }
 
-/// A file that stands, if the line may have it.
+/// Opens an existing file, if the F line allows it.
 fn open_standing<P: Sectors>(
     alloc: Global,
     pack: &mut Pack<P>,
@@ -61,7 +61,7 @@ fn open_standing<P: Sectors>(
     }
 }
 
-/// A file that stands for a level under a label, if the line may have it.
+/// Opens the existing file that a level has under a label, if the F line allows it.
 fn open_file<P: Sectors>(
     alloc: Global,
     level: LevelId,
@@ -80,7 +80,7 @@ fn open_file<P: Sectors>(
     }
 }
 
-/// What the level halts for where no file is found.
+/// The halt of a level if no file is found.
 fn halt_of_find(fault: LabelFault) -> HaltCode
     ensures { result ≡ halt_of_find_spec fault }
 {
@@ -94,7 +94,7 @@ fn halt_of_find(fault: LabelFault) -> HaltCode
     }
 }
 
-/// What a file that the job uses comes to, behind those that passed so far.
+/// The state of a file that the job uses, after the files that passed so far.
 #[tactic(auto, using(crate::proofs::Steps::stated_sound, crate::proofs::Steps::any_mapped), unfolding(crate::specs::Inner::Tests::step_of))]
 fn start_of<P: Sectors>(
     alloc: Global,
@@ -127,7 +127,7 @@ fn start_of<P: Sectors>(
     }
 }
 
-/// Tests the file of one line, behind those that passed so far.
+/// Tests the file of one line, after those that passed so far.
 fn test_line<P: Sectors>(
     alloc: Global,
     level: LevelId,
@@ -156,7 +156,7 @@ fn test_line<P: Sectors>(
     }
 }
 
-/// Tests the files of some F lines one after another, up to the first that is refused, and puts those that pass behind the ones
+/// Tests the files of some F lines one after another, up to the first that is refused, and puts those that pass after the ones
 /// that passed before.
 pub fn test_lines<P: Sectors>(
     alloc: Global,

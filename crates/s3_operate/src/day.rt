@@ -25,7 +25,7 @@ const RUN_LIMIT: u64 = 4_194_304;
 /// The bytes of the markers that `run` wants, with their ends.
 const MARKERS: u64 = 22;
 
-/// With what a day that is refused no longer is operated, beside its pack.
+/// What an accepted day is operated with, in addition to its pack.
 #[derive(Drop)]
 pub struct Prepared<'a> {
     /// With what it is begun, as the log has it.
@@ -391,7 +391,7 @@ fn tell_size(rt: &HostRuntime, texts: Texts<'_>, script: u64) {
     }
 }
 
-/// Refuses a day that memory ran out for, or whose script or log can't be written, unless a person goes on without it.
+/// Refuses a day for which memory ran out, or whose script or log can't be written, unless a person continues without it.
 pub fn test_outputs<'n>(order: &Order<'n>, desk: &mut OwnDesk<'_>) -> Result<(), DayFault<'n>> {
     if desk.is_out_of_memory() {
         return Err(DayFault::Cli(OUT_OF_MEMORY));

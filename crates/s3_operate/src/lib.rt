@@ -1,7 +1,7 @@
 //! `bureau operate`: the desk, over real files, the terminal and the clock.
 //!
 //! What is proved: each call is safe and returns, and the exit status is at most 5 (`operate`). What a desk performs and writes of a day
-//! is proved in `s3_desk` and `s3_operating`. What is asked at a terminal, which status stands for what, and that a pack is saved whole
+//! is proved in `s3_desk` and `s3_operating`. What is asked at a terminal, which status means what, and that a pack is saved whole
 //! or not at all are tested, by rows. What files, standard input and output and the clock give isn't claimed: they are used as the
 //! toolchain offers them.
 
@@ -92,7 +92,7 @@ fn operate_again(rt: &HostRuntime, matches: &ArgMatches<'_>, words: &[String], p
     }
 }
 
-/// Does the day of a log again, by all its words.
+/// Does the day of a log again, by all of its options.
 fn operate_parsed<'a>(
     rt: &'a HostRuntime,
     parsed: &ArgMatches<'a>,
@@ -120,7 +120,7 @@ fn refuse_for_memory(rt: &HostRuntime) -> u8
     status_of_day(rt, Err(DayFault::Cli(OUT_OF_MEMORY)))
 }
 
-/// Refuses a log whose words this program doesn't take.
+/// Refuses a log with options that this program doesn't take.
 fn refuse_log(rt: &HostRuntime, path: &str) -> u8
     ensures { result ≤ 5 }
 {
@@ -230,7 +230,7 @@ fn wants_checksums(order: &Order<'_>, again: Option<Again<'_>>) -> bool {
     order.log.is_some() || again.is_some()
 }
 
-/// What a day has beside its decks.
+/// What a day has in addition to its decks.
 #[derive(Drop)]
 struct Rest {
     pack: DayPack,
@@ -373,7 +373,7 @@ fn begin_by_journal<'a>(
     begin_day(rt, order, name, given)
 }
 
-/// Looks at the decks, from where each is taken up. They are refused if they aren't those of a log that is done again.
+/// Looks at the decks, from the places at which they are taken up. Refused if they aren't the decks of a log that is done again.
 fn look_at_decks<'a>(
     rt: &HostRuntime,
     order: &Order<'a>,
@@ -474,7 +474,7 @@ fn mount<'n>(
     }
 }
 
-/// A pack that can be mounted, as it was given; any other is refused, before an output is emptied, and what tells why is named.
+/// A pack that can be mounted, as it was given; any other is refused before an output is emptied, with the command that shows why.
 fn mountable<'a>(
     rt: &HostRuntime,
     path: Option<&str>,
@@ -490,7 +490,7 @@ fn mountable<'a>(
     }
 }
 
-/// Reports why a pack can't be mounted, and what to do, given the words of a file that doesn't begin as a pack does.
+/// Reports why a pack can't be mounted, and what to do, given the text for a file that doesn't begin as a pack does.
 fn tell_refused(rt: &HostRuntime, path: Option<&str>, beginning: &str, fault: Refusal) {
     let (Refusal::BadPack(fault), Some(path)) = (fault, path) else {
         return;

@@ -43,7 +43,7 @@ pub fn write_paper<'n>(
     Ok(())
 }
 
-/// Reports where the pages are, and of how many jobs.
+/// Reports where the pages are, and how many jobs they have.
 fn report_paper(rt: &HostRuntime, folder: &str, jobs: usize) {
     let folder = Shown(folder);
     let _ = match jobs {

@@ -258,7 +258,7 @@ fn unsynced<'n>(rt: &HostRuntime, name: &'n str, error: &io::Error) -> DayFault<
     DayFault::File(name)
 }
 
-/// Saves the pack. A file that has appeared since the day began is overwritten only if that is asked for. A new file lets nobody do more
+/// Saves the pack. A file that has appeared since the day began is overwritten only if that is asked for. A new file gives no more access
 /// than the limit.
 fn saved(
     rt: &HostRuntime,

@@ -5,7 +5,7 @@ use s3_day_log::{DayLog, LoggedReply, Replier};
 use s3_operator::{HaltCode, allowed, letters};
 use s3_replies::Rules;
 
-/// Who gives a reply.
+/// Whoever gives a reply.
 #[derive(Clone, Copy)]
 pub(crate) enum Giver {
     /// The log.

@@ -4,7 +4,7 @@ use crate::message::Message;
 use s3_cards::{LevelId, PrintLine, trim_end};
 use s3_operator::{HaltCode, allowed, meaning};
 
-/// What else may be typed.
+/// The other commands that may be typed.
 const WORDS: &'static str =
     "  show   the halt once more\n  lines  the last printed lines, as lines 2 30 for thirty of level 2\n  stop   ends the day here\n";
 

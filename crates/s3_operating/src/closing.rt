@@ -179,7 +179,7 @@ fn push_end(message: &mut Message, seat: &Seat<'_>, end: LevelEnd) {
     }
 }
 
-/// Appends where a level is that isn't done, and what is left of its deck.
+/// Appends the place of a level that isn't done, and what is left of its deck.
 fn push_where(message: &mut Message, seat: &Seat<'_>, how: &str) {
     message.push(how);
     if let Some(code) = seat.waits {

@@ -8,7 +8,7 @@ use std::alloc::{AllocError, Global};
 struct DeckFile<'a> {
     /// Its name, as it was given.
     name: &'a str,
-    /// Where its text ends in that of the deck.
+    /// The place in the deck's text at which its own text ends.
     end: usize,
     /// How many blank lines at its end are passed over.
     blank_lines: usize,
@@ -80,8 +80,7 @@ impl<'a> JoinedFiles<'a> {
     }
 }
 
-/// The deck of a level on a day. Which line of which file a card is, is only found where it is asked: most days need it of
-/// none.
+/// The deck of a level on a day. The file and the line of a card are only looked up when they are needed: most days need none.
 #[derive(Drop)]
 pub enum DayDeck<'a> {
     /// All cards of its files.

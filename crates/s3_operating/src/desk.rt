@@ -37,13 +37,13 @@ const STOPPED: &'static str = "the day stops here, and nothing is saved\n";
 const SAVE: &'static str =
     "\na reply has ended a job after it had changed files: save the pack? yes or no ";
 
-/// How long the work goes on at least between two lines that tell how far it is, in milliseconds.
+/// The least time between two lines of progress, in milliseconds.
 const BETWEEN: u64 = 1_000;
 
 /// How many turns both levels take at least between two looks at the clock for such a line.
 const TURNS_BETWEEN: u64 = 1_000;
 
-/// The one who is asked for what neither a log nor a rule answers.
+/// The person or the input that is asked if no log and no rule answers.
 #[derive(Clone, Copy)]
 pub enum Questioned {
     /// Nobody: such a halt stays unanswered.
@@ -74,11 +74,11 @@ pub struct Settings<'a> {
     pub logged: Option<&'a DayLog>,
     /// How far each level goes at most.
     pub bounds: Bounds,
-    /// Neither progress nor what a log or a rule answers is reported.
+    /// Whether progress and the answers of a log or a rule aren't reported.
     pub is_quiet: bool,
     /// The one who is asked.
     pub questioned: Questioned,
-    /// The day isn't begun where a deck can't be read.
+    /// Whether the day must not begin if a deck can't be read.
     pub wants_decks: bool,
 }
 
@@ -302,7 +302,7 @@ impl<'a, R: Read + Drop, W: Write + Drop, F: Write + Drop, C: Clock + Drop> Desk
         Ok(())
     }
 
-    /// Finds the reply to a level's halt: that of the log or a rule, else by a question.
+    /// Finds the reply to a level's halt: by the log or a rule, else by a question.
     fn answer<S: PackStore>(
         &mut self,
         machine: &Bureau<S>,
@@ -474,7 +474,8 @@ impl<'a, R: Read + Drop, W: Write + Drop, F: Write + Drop, C: Clock + Drop> Desk
         }
     }
 
-    /// Reports a log or a script that can't be written. A person may choose to go on without it; else the day ends, which is `Err`.
+    /// Reports a log or a script that can't be written. A person may choose to continue without it; else the day ends, which is
+    /// `Err`.
     pub fn test_outputs(&mut self) -> Result<(), AllocError> {
         if self.has_given_up {
             return Err(AllocError);
@@ -525,7 +526,7 @@ impl<'a, R: Read + Drop, W: Write + Drop, F: Write + Drop, C: Clock + Drop> Desk
         }
     }
 
-    /// Asks a person whether the day goes on without an output. Else the day ends, which is `Err`.
+    /// Asks a person whether the day continues without an output. Else the day ends, which is `Err`.
     fn go_on_without(&mut self) -> Result<(), AllocError> {
         if self.levels.is_person_asked() && self.agrees(WITHOUT)? {
             return Ok(());

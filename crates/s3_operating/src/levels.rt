@@ -190,7 +190,7 @@ impl<'a> Levels<'a> {
         Answer { digit, giver }
     }
 
-    /// For what a level halts, if that may be answered where this level is asked.
+    /// For what a level halts, if that may be answered if this level is asked.
     fn asked_in(&self, level: LevelId, asked: LevelId) -> Option<HaltCode> {
         if self.may_answer(level, asked) {
             self.seat(asked).waits
@@ -389,7 +389,7 @@ impl<'a> Levels<'a> {
         message
     }
 
-    /// Appends what may be answered to the halt of a level, and to that of the other one, level 1 first.
+    /// Appends what may be answered to the halt of a level and to the halt of the other level, level 1 first.
     fn push_choices(&self, message: &mut Message, level: LevelId) {
         let one = self.asked_in(level, LevelId::One);
         let two = self.asked_in(level, LevelId::Two);
@@ -475,7 +475,7 @@ impl<'a> Levels<'a> {
         }
     }
 
-    /// A digit without a level: for the one that is asked, unless a person is asked for both.
+    /// A digit without a level: for the level that is asked, unless a person is asked for both.
     fn hear_digit(&self, message: &mut Message, level: LevelId, digit: u8) -> Said {
         if self.is_person_asked() && self.asked_in(level, level.other()).is_some() {
             push_both(message, digit);

@@ -2,14 +2,10 @@
 //! person at a terminal; what is printed meanwhile; the script and the log as they are written; and the summary of a day.
 //! docs/OPERATING.md has all of it.
 //!
-//! What is proved here: each call is safe and returns. What is printed and written is tested. The proved parts of the operator are in
-//! other crates:
-//!
-//! - what a line or a list of replies says, and which rule answers a halt: `s3_replies`;
-//! - the script that is written: `Tape` of `s3_replay`;
-//! - the reports that are written while lines are printed: `Reports` of `s3_reports`, and `Printing` of `s3_desk`;
-//! - how the jobs of a day ended: `s3_day_log`;
-//! - what a day gives, for this operator as for any: `s3_desk`.
+//! Each call is proved to be safe and to return; what is printed and written is tested. The proved parts of the operator are in
+//! other crates: lines of replies and rules in `s3_replies`, the written script in `s3_replay` (`Tape`), the reports in
+//! `s3_reports` and `s3_desk` (`Printing`), and how the jobs of a day ended in `s3_day_log`. What a day gives, for this operator
+//! as for any, is proved in `s3_desk`.
 
 #![tactic(auto)]
 

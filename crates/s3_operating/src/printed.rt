@@ -18,7 +18,7 @@ pub struct PrintedJob {
     pub number: usize,
     /// The program that it runs, if its statements name one.
     pub program: Option<Name>,
-    /// The date that it had: six digits mmddyy, in EBCDIC, all 0 where no job has set one.
+    /// The date that it had: six digits mmddyy, in EBCDIC, all 0 if no job has set one.
     pub date: [u8; 6],
     /// How many lines it printed.
     pub lines: u64,

@@ -20,7 +20,7 @@ pub struct Seat<'a> {
     deck: &'a DayDeck<'a>,
     /// The line of a file for each card, once it was asked for.
     places: Option<DeckText<'a>>,
-    /// The number of the card at fault, from 1, and its fault, where the deck can't be read.
+    /// The number of the card in error, from 1, and its fault, if the deck can't be read.
     pub(crate) unread: Option<(u16, CardFault)>,
     pub(crate) ledger: Ledger,
     /// The jobs that were begun when a halt was shown last, with what blocks of halts need of them.
@@ -73,7 +73,7 @@ impl<'a> Seat<'a> {
         }
     }
 
-    /// Takes the jobs of the deck, given its cards: none where it can't be read, whose fault is found then.
+    /// Takes the jobs of the deck, given its cards: none if it can't be read, whose fault is found then.
     pub(crate) fn read(&mut self, alloc: Global, cards: &Deck) -> Result<(), AllocError> {
         if cards.is_empty() && !self.deck.text().is_empty() {
             self.unread = fault_of(alloc, self.deck.text())?;
@@ -81,7 +81,7 @@ impl<'a> Seat<'a> {
         self.ledger.read(alloc, cards)
     }
 
-    /// Takes the jobs of the deck where nobody has its cards.
+    /// Takes the jobs of the deck if its cards aren't in memory.
     pub(crate) fn read_text(&mut self, alloc: Global) -> Result<(), AllocError> {
         match Deck::read(alloc, self.deck.text()) {
             Ok(cards) => self.read(alloc, &cards),
@@ -219,7 +219,7 @@ fn is_idle(level: &Level) -> bool {
     !level.has_work() && level.waits().is_none()
 }
 
-/// The number of the card at fault of a deck, from 1, and its fault, if it has one.
+/// The number of the card in error of a deck, from 1, and its fault, if it has one.
 fn fault_of(alloc: Global, text: &[u8]) -> Result<Option<(u16, CardFault)>, AllocError> {
     match Deck::read(alloc, text) {
         Ok(_) => Ok(None),

@@ -7,8 +7,8 @@ use std::alloc::AllocError;
 /// The most columns of a card that are shown.
 const SHOWN: usize = 120;
 
-/// Appends why the deck of a level can't be read, from the number of the card at fault, from 1, and its fault: the place and the
-/// cure, and the card under a ruler with what is at fault marked, unless there are only too many cards.
+/// Appends why the deck of a level can't be read, from the number of the card in error, from 1, and its fault: the place and the
+/// cure, and the card under a ruler with what is in error marked, unless there are only too many cards.
 pub fn push_unread(
     text: &mut String,
     level: LevelId,
@@ -53,7 +53,7 @@ fn line_of(text: &[u8], card: usize) -> Option<&[u8]> {
     Some(line)
 }
 
-/// Appends a card's line under a ruler, with what is at fault marked.
+/// Appends a card's line under a ruler, with what is in error marked.
 fn push_card(text: &mut String, line: &[u8], fault: CardFault) -> Result<(), AllocError> {
     let shown = line.get(..SHOWN).unwrap_or(line);
     push_ruler(text, shown.len())?;
@@ -72,7 +72,7 @@ fn push_card(text: &mut String, line: &[u8], fault: CardFault) -> Result<(), All
     text.push('\n')
 }
 
-/// Whether the byte at a place of a line, from 0, is at fault.
+/// Whether the byte at a place of a line, from 0, is in error.
 fn is_at_fault(fault: CardFault, place: usize, byte: u8) -> bool {
     match fault {
         CardFault::TooWide => place >= COLUMNS,

@@ -23,7 +23,7 @@ const DAY: usize = 3;
 
 const YEAR: usize = 4;
 
-/// The form of a field; one of characters has that of a digit.
+/// The form of a field. A field of characters has the form of a digit.
 fn form_of(shape: Shape) -> Form
     requires { shape_in_range shape ≡ true }
     ensures { digits_and_decimals result ≡ form_in_shape shape }

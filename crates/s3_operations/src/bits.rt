@@ -1,4 +1,4 @@
-//! Bits of the words of a run.
+//! The bits in the machine words of a run.
 ghost use Rattle.std.specs.Prelude.{◌≡◌, ◌^◌, ◌<◌};
 
 use crate::places::{WORD_BITS, place_of};

@@ -127,7 +127,7 @@ fn whole_order(left: &[u8], right: &[u8]) -> Ordering
     }
 }
 
-/// The order of two texts by their codes, the shorter one padded with blanks. Most are told apart by their first code.
+/// The order of two texts by their codes, the shorter one padded with blanks. Most texts differ in their first code.
 pub fn text_order(left: &[u8], right: &[u8]) -> Ordering
     ensures { result ≡ text_order_spec left.now right.now }
 {

@@ -8,7 +8,7 @@ use s3_decimal::{Dec, Form};
 pub struct Division {
     /// What was divided.
     pub dividend: Dec,
-    /// By what.
+    /// The divisor.
     pub divisor: Dec,
     /// The form of its quotient.
     pub form: Form,

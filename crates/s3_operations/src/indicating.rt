@@ -28,14 +28,14 @@ fn levels() -> Bits
 }
 
 impl Indicators {
-    /// L1 to L9 go on or off.
+    /// Turns L1 to L9 on or off.
     fn turn_levels(&mut self, to: bool)
         ensures { (other : Indicator) → on_in self.new other ≡ (if is_level other then to else on_in self.old other) }
     {
         self.turn_bits(levels(), to);
     }
 
-    /// L1 to this level go on or off.
+    /// Turns L1 to this level on or off.
     fn turn_levels_to(&mut self, level: u8, to: bool)
         ensures { (other : Indicator) → on_in self.new other ≡ (if is_level_to level other then to else on_in self.old other) }
     {
@@ -53,7 +53,7 @@ impl Values {
         self.indicators.is_on(indicator)
     }
 
-    /// An indicator that is no switch goes on or off.
+    /// Turns an indicator that is no switch on or off.
     pub fn turn(&mut self, program: &Program, indicator: Indicator, to: bool)
         requires sound { IsSound program.now self.old }
         requires settable { is_settable indicator ≡ true }
@@ -62,7 +62,7 @@ impl Values {
         self.indicators.turn(indicator, to);
     }
 
-    /// L1 to L9 go on or off.
+    /// Turns L1 to L9 on or off.
     pub fn turn_levels(&mut self, program: &Program, to: bool)
         requires sound { IsSound program.now self.old }
         ensures { Changes program.now self.old self.new (λ source. turn_levels to) }
@@ -70,7 +70,7 @@ impl Values {
         self.indicators.turn_levels(to);
     }
 
-    /// L1 to this level go on; none at 0.
+    /// Turns L1 to this level on; none if the level is 0.
     pub fn raise_levels(&mut self, program: &Program, level: u8)
         requires sound { IsSound program.now self.old }
         ensures { Changes program.now self.old self.new (λ source. with_levels_to level) }
@@ -78,7 +78,7 @@ impl Values {
         self.indicators.turn_levels_to(level, true);
     }
 
-    /// LR and L1 to L9 go on.
+    /// Turns LR and L1 to L9 on.
     pub fn turn_last_record_on(&mut self, program: &Program)
         requires sound { IsSound program.now self.old }
         ensures { Changes program.now self.old self.new (λ source. with_last_record) }

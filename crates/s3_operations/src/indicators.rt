@@ -77,7 +77,7 @@ impl Indicators {
         self.turn_bits(Bits::at(place), to);
     }
 
-    /// An indicator that is no switch goes on or off.
+    /// Turns an indicator that is no switch on or off.
     pub fn turn(&mut self, indicator: Indicator, to: bool)
         requires { is_settable indicator ≡ true }
         ensures { (other : Indicator) → on_in self.new other ≡ (if same_indicator other indicator then to else on_in self.old other) }

@@ -20,7 +20,7 @@ pub(crate) const MOST_DIGITS: usize = 15;
 pub struct Span {
     /// Its first byte.
     pub from: usize,
-    /// Behind its last byte.
+    /// The place after its last byte.
     pub to: usize,
 }
 
@@ -34,7 +34,7 @@ impl Span {
     }
 }
 
-/// The texts of fields, by slot, one behind the other; each keeps its length. A number has an empty text.
+/// The texts of fields, by slot, one after the other; each keeps its length. A number has an empty text.
 #[derive(Drop)]
 pub struct Texts {
     bytes: Vec<u8>,
@@ -68,7 +68,7 @@ fn add_blanks(bytes: &mut Vec<u8>, count: usize) -> Result<(), AllocError>
     Ok(())
 }
 
-/// Adds a blank text of so many characters behind the others.
+/// Adds a blank text of so many characters after the others.
 fn add_blank(bytes: &mut Vec<u8>, spans: &mut Vec<Span>, count: usize) -> Result<(), AllocError>
     ensures { OnOk result (IsAdded spans.old.items bytes.old.items spans.new.items bytes.new.items (replicate count BLANK)) }
 {
@@ -79,7 +79,7 @@ fn add_blank(bytes: &mut Vec<u8>, spans: &mut Vec<Span>, count: usize) -> Result
     Ok(())
 }
 
-/// Adds a text behind the others.
+/// Adds a text after the others.
 fn add_text(bytes: &mut Vec<u8>, spans: &mut Vec<Span>, text: &[u8]) -> Result<(), AllocError>
     ensures { OnOk result (IsAdded spans.old.items bytes.old.items spans.new.items bytes.new.items text.now) }
 {
@@ -110,7 +110,7 @@ fn overlay_long_number(target: &mut [u8], number: Dec)
     overlay_right(target, digits);
 }
 
-/// Lays the zoned bytes of a number over a text, right to right: where they fit, they are written into it.
+/// Lays the zoned bytes of a number over a text from the right. If they fit, they are written directly into it.
 fn overlay_number(target: &mut [u8], number: Dec)
     ensures { target.new ≡ moved_right (zoned number.digits number.value) target.old }
 {
@@ -137,7 +137,7 @@ impl Texts {
     ghost use Rattle.s3_operations.specs.Inner.Held.{HasTexts};
     ghost use Rattle.s3_operations.specs.Inner.Texts.{LiesIn, blank_texts, text_on, texts_of, with_part};
 
-    /// A blank text for each field of a program, and behind these the texts of its constants; refused only where memory runs out.
+    /// A blank text for each field of a program, and after these the texts of its constants; refused only if memory runs out.
     pub fn of(alloc: Global, program: &Program) -> Result<Texts, AllocError>
         ensures texts { IfOk result (λ texts. texts_of texts ≡ blank_texts program.now.fields.items ++ map (λ constant. constant.text) (constants program.now)) }
         ensures area { IfOk result (HasTexts program.now) }
@@ -181,7 +181,7 @@ impl Texts {
         &self.bytes[span.from..span.to]
     }
 
-    /// Lays a text over the one that lies there, which is as long.
+    /// Puts a text in the place of the text at a span, which has the same length.
     pub fn put(&mut self, span: Span, text: &[u8])
         requires lies { LiesIn self.old span }
         requires same { length text.now ≡ span.to - span.from }
@@ -190,7 +190,7 @@ impl Texts {
         lay(&mut self.bytes[span.from..span.to], text);
     }
 
-    /// Lays what lies there over what lies from a byte on, which is as long; it may be some of the same.
+    /// Copies the bytes of a span over the bytes from a place on. The two may overlap.
     pub fn copy(&mut self, from: Span, to: usize)
         requires lies { LiesIn self.old from }
         requires room { to + (from.to - from.from) ≤ length self.old.bytes }

@@ -21,11 +21,11 @@ pub enum HaltCode {
     KeyChanged,
     /// NU: a file without a current record was to be updated.
     NothingToUpdate,
-    /// EX: a record was to be added to a file that has no room for it.
+    /// EX: a record was to be added to a file that has no space for it.
     FileFull,
-    /// KA: a load's record has a key that doesn't come behind that of the last one.
+    /// KA: a loaded record has a key that isn't above the key of the record before it.
     KeyNotAscending,
-    /// OC: the job's statements are at fault.
+    /// OC: the job's statements are in error.
     FaultyJob,
     /// PG: the program isn't in the library.
     NoProgram,
@@ -37,13 +37,13 @@ pub enum HaltCode {
     DamagedLabel,
     /// MU: a master would be changed, or a file made under its label.
     MasterForUpdate,
-    /// NS: no slot is free for the label of a file to be made, or its region has no room for it.
+    /// NS: no slot is free for the label of a file to be made, or its region has no space for the file.
     NoSpace,
-    /// RT: the file in the way of one to be made is kept for good.
+    /// RT: a file to be made would replace one that is kept for good.
     RetainedFile,
     /// DU: two files of the job have one label.
     DuplicateLabel,
-    /// LN: record length, organization or key of a file aren't those of its label.
+    /// LN: a file's record length, organization or key differs from its label.
     LabelMismatch,
     /// IX: the index of a file isn't good.
     BadIndex,

@@ -1,12 +1,12 @@
-//! Where a job stands when it halts.
+//! The point at which a job halts.
 
-/// Where a job stands when it halts, which says what replies do: 2 and 3 are always allowed.
+/// The point at which a job halts. It decides what replies do. Replies 2 and 3 are always allowed.
 #[derive(Clone, Copy)]
 pub enum HaltKind {
-    /// At work, and reply 0 goes on.
+    /// At work, and reply 0 continues the job.
     GoesOn,
-    /// At work, and it can't go on.
+    /// At work, and the job can't continue.
     Ends,
-    /// Not started: no cycle of it has begun, and 2 and 3 pass it over.
+    /// Not started: no cycle of the job has begun, and replies 2 and 3 pass the job over.
     NotStarted,
 }

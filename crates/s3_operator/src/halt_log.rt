@@ -10,7 +10,7 @@ use crate::reply_fault::ReplyFault;
 use std::alloc::{AllocError, Global};
 use std::marker::Model;
 
-/// The halts that a level has shown, in order; the last one waits where it has no reply.
+/// The halts that a level has shown, in order. The last one waits if it has no reply.
 #[derive(Drop)]
 pub struct HaltLog {
     halts: Vec<Halt>,
@@ -36,7 +36,7 @@ impl HaltLog {
         }
     }
 
-    /// What the halt that waits for a reply was shown for; `None` where none waits.
+    /// What the halt that waits for a reply was shown for; `None` if none waits.
     pub fn waiting(&self) -> Option<HaltCode>
         ensures { result ≡ waiting self.now }
     {
@@ -51,7 +51,7 @@ impl HaltLog {
         self.waiting().is_some()
     }
 
-    /// Shows a halt of a job: it comes behind the others and waits. On a refusal nothing changes.
+    /// Shows a halt of a job: it comes after the others and waits. On a refusal nothing changes.
     pub fn show(
         &mut self,
         job: u16,
@@ -70,8 +70,8 @@ impl HaltLog {
         Ok(())
     }
 
-    /// Answers the halt that waits with a digit: refused where none waits, and else where it doesn't allow the digit; then
-    /// nothing changes. It takes no memory.
+    /// Answers the halt that waits with a digit. Refused if no halt waits, or if the halt doesn't allow the digit; then nothing
+    /// changes. It takes no memory.
     pub fn reply(&mut self, digit: u8) -> Result<(), ReplyFault>
         ensures answer { result ≡ answer_to digit (waiting self.old) }
         ensures filled { OnOk result (self.new ≡ with_reply digit self.old) }

@@ -11,15 +11,15 @@ use crate::halt_kind::HaltKind;
 pub(crate) struct HaltRow {
     /// Its two letters, in ASCII.
     pub letters: [u8; 2],
-    /// Where its job stands, which says what replies do.
+    /// The point at which its job halts, which decides what replies do.
     pub kind: HaltKind,
-    /// What it means, as it stands behind its letters.
+    /// What it means, as it is shown after its letters.
     pub meaning: &'static str,
-    /// What reply 0 does; `None` where it isn't allowed.
+    /// What reply 0 does; `None` if it isn't allowed.
     pub reply_0: Option<&'static str>,
 }
 
-/// A halt that the job can go on from; last what reply 0 does.
+/// A halt after which the job can continue; the last argument says what reply 0 does.
 fn goes_on(letters: [u8; 2], meaning: &'static str, reply_0: &'static str) -> HaltRow
     ensures letters { result.letters ≡ letters }
     ensures kind { result.kind ≡ HaltKind.GoesOn }

@@ -1,4 +1,4 @@
-//! What the definitions say of themselves: worked rows.
+//! What the definitions say of themselves: worked examples.
 ghost use Rattle.std.specs.Prelude.{◌≡◌, [], ◌∷◌, Ok, Err, map, None, Some};
 ghost use Rattle.s3_operator.specs.declared.halt_code.HaltCode.TheVariants.{ZeroDivisor, FileFull, NoSpace};
 ghost use Rattle.s3_operator.specs.declared.reply_fault.ReplyFault.TheVariants.{NotHalted, NotAllowed};
@@ -12,8 +12,8 @@ pub fn replies_are_by_table()
     ensures ending { map (λ code. map (is_allowed code) digits) ending_codes ≡ map (λ code. ending) ending_codes }
 {}
 
-/// Where no halt waits a reply is refused, and so is a digit that the halt doesn't allow; an allowed one stands in the halt,
-/// which waits no longer.
+/// A reply is refused if no halt waits, or if the halt doesn't allow the digit. An allowed digit is kept in the halt, which then
+/// waits no longer.
 pub fn a_reply_is_kept_once()
     ensures none_waits { answer_to 0 (waiting []) ≡ Err NotHalted }
     ensures not_allowed { answer_to 0 (waiting (with_halt 7 FileFull [] [])) ≡ Err NotAllowed }

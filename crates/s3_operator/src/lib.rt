@@ -1,11 +1,11 @@
 //! What a level halts for, which replies an operator can give, and the log of the halts that were shown. docs/MESSAGES.md has
 //! each halt with its cause and cure.
 //!
-//! What is proved: `allowed` is the table of replies, for every halt and every digit (`replies_are_by_table`).
-//! `HaltLog::show` puts one halt behind the others, and changes nothing where memory is refused. `reply` fills in the halt
-//! that waits, or refuses exactly where none waits or the halt doesn't allow the digit, and then changes nothing; it takes
-//! no memory (`a_reply_is_kept_once` has worked rows). `letters` gives the two letters of each halt. `code_of` gives a halt for
-//! its own letters, and `None` only if no halt has them. The words of halts, replies and refusals are only tested.
+//! `allowed` is proved to be the table of replies, for every halt and every digit (`replies_are_by_table`). `HaltLog::show` is
+//! proved to add one halt at the end, and to change nothing if memory is refused. `reply` is proved to answer the halt that
+//! waits, or to refuse exactly if none waits or the halt doesn't allow the digit; a refused reply changes nothing
+//! (`a_reply_is_kept_once`). The two letters of each halt are proved to be its own (`letters`, `code_of`). The texts of halts,
+//! replies and refusals are only tested.
 
 #![tactic(auto)]
 

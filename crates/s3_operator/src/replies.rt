@@ -6,8 +6,9 @@ use crate::halt_code::HaltCode;
 use crate::halt_kind::HaltKind;
 use crate::halt_table::row;
 
-/// Whether a halt allows a reply, a digit of 0 to 9: 0 goes on, 2 ends the job after the totals of the last record, 3 ends it
-/// at once. A full file and a load out of order can't go on; of a job that can't be started, 2 and 3 pass it over.
+/// Whether a halt allows a reply, a digit of 0 to 9. Reply 0 continues the job, 2 ends it after the totals of the last record,
+/// and 3 ends it at once. After a full file and a load out of order, the job can't continue. A job that can't be started is
+/// passed over by 2 and 3.
 pub fn allowed(code: HaltCode, digit: u8) -> bool
     ensures { result ≡ is_allowed code digit }
 {

@@ -1,4 +1,5 @@
-//! What halts and replies mean, in words, and which halts are of a job that couldn't be started. No contract speaks of the words.
+//! What halts and replies mean, in words, and which halts are of a job that couldn't be started. The texts are tested, not
+//! proved.
 ghost use Rattle.std.specs.Prelude.{◌≡◌};
 ghost use Rattle.s3_operator.specs.Inner.Starts.{is_at_start};
 
@@ -7,7 +8,7 @@ use crate::halt_kind::HaltKind;
 use crate::halt_table::row;
 use crate::replies::allowed;
 
-/// What a halt means, as it stands behind its letters.
+/// What a halt means, as it is shown after its letters.
 pub fn meaning(code: HaltCode) -> &'static str {
     row(code).meaning
 }
@@ -28,7 +29,7 @@ pub fn choices(code: HaltCode) -> &'static str {
     }
 }
 
-/// What a reply does to the job that halts; `None` where the halt doesn't allow it. docs/MESSAGES.md has each reply at length.
+/// What a reply does to the job that halts; `None` if the halt doesn't allow it. docs/MESSAGES.md has each reply at length.
 pub fn effect(code: HaltCode, digit: u8) -> Option<&'static str> {
     match digit {
         0 => row(code).reply_0,

@@ -9,13 +9,13 @@ use s3_lines::sheet::Spacing;
 /// The last line of a page.
 const LAST_LINE: u8 = 66;
 
-/// The line past which overflow goes on.
+/// The line past which the overflow indicator is turned on.
 const OVERFLOW_LINE: u8 = 60;
 
 /// The page before page 0.
 const LAST_PAGE: u16 = 9999;
 
-/// Where the carriage stands.
+/// The position of the carriage.
 #[derive(Clone, Copy)]
 pub struct Carriage {
     /// The page, 0 to 9,999.
@@ -30,22 +30,22 @@ pub struct Carriage {
 /// Where the carriage has moved to.
 #[derive(Clone, Copy)]
 pub struct Moved {
-    /// Where it stands now.
+    /// Its position now.
     pub carriage: Carriage,
-    /// Overflow goes on.
+    /// Whether the overflow indicator is turned on.
     pub overflow: bool,
 }
 
-/// Where a line is printed, and where the carriage has moved to behind it.
+/// Where a line is printed, and where the carriage has moved to after it.
 #[derive(Clone, Copy)]
 pub struct Printed {
     /// The place of print.
     pub place: Moved,
-    /// Behind the line.
+    /// The carriage after the line.
     pub behind: Moved,
 }
 
-/// The page behind a page.
+/// The page after a page.
 fn next_page(page: u16) -> u16
     requires { page ≤ 9999 }
     ensures value { result ≡ meaning.next_page page }
@@ -91,7 +91,8 @@ fn space_after_alone(spacing: &Spacing) -> Option<u8>
 impl Moved {
     ghost use Rattle.s3_output.specs.Inner.Carriages.{place_moved};
 
-    /// So many lines on; line 1 of the next page comes after line 66. Above the overflow line, as mostly, nothing else changes.
+    /// Moves the carriage by this number of lines; line 1 of the next page comes after line 66. Above the overflow line, the
+    /// usual case, nothing else changes.
     fn spaced(self, lines: u8) -> Moved
         requires { lines ≤ 3 }
         ensures { place_moved result ≡ meaning.spaced lines (place_moved self) }
@@ -188,8 +189,8 @@ impl Carriage {
         }
     }
 
-    /// Where a line is printed that has a space after alone, and where the carriage moves to behind it. None unless the line is
-    /// printed above line 60 and the carriage moves down to that line at most, as mostly.
+    /// Where a line that only has a space after is printed, and where the carriage moves to after it. None unless the line is
+    /// printed above line 60 and the carriage moves at most down to that line.
     fn printed_above_overflow(self, spacing: &Spacing) -> Option<Printed>
         requires { spacing_in_range spacing.now ≡ true }
         ensures { IfSome result (IsPrinted spacing.now self) }
@@ -213,7 +214,7 @@ impl Carriage {
         Some(Printed { place, behind })
     }
 
-    /// Where a line is printed from here, and where the carriage has moved to behind it.
+    /// Where a line is printed from here, and where the carriage has moved to after it.
     pub fn print(self, spacing: &Spacing) -> Printed
         requires { spacing_in_range spacing.now ≡ true }
         ensures { IsPrinted spacing.now self result }

@@ -26,10 +26,10 @@ static ALL_PUT: [bool; LONGEST_RECORD] = [true; LONGEST_RECORD];
 pub struct Composition {
     /// A blank where nothing is put.
     codes: Box<[u8; LONGEST_RECORD]>,
-    /// Where something is put, if that is told.
+    /// The positions at which something is put, if they are recorded.
     put: Box<[bool; LONGEST_RECORD]>,
     length: usize,
-    /// It is told where something is put; else a blank is put wherever nothing else is.
+    /// Whether the positions at which something is put are recorded. If not, a blank is put wherever nothing else is.
     is_told: bool,
 }
 
@@ -50,7 +50,7 @@ fn overlay(text: &mut [u8], end: usize, content: &[u8])
     lay(&mut text[end - content.len()..end], content);
 }
 
-/// Writes a number over a text, up to an end position, as its field is put out.
+/// Writes a number over a text, up to an end position, as its field is written.
 fn overlay_number(text: &mut [u8], end: usize, number: i64, form: &NumberForm)
     requires fits { FitsNumber number form.now end }
     requires ends { end ≤ length text.old }
@@ -92,7 +92,7 @@ fn mark_field(field: &mut [bool])
     }
 }
 
-/// Something is put at so many positions, up to an end position, if that is told.
+/// Records that something is put at so many positions, up to an end position, if that is recorded.
 #[inline(always)]
 fn mark(put: &mut [bool], is_told: bool, end: usize, count: usize)
     requires begins { count ≤ end }
@@ -117,7 +117,7 @@ fn blank(codes: &mut [u8; LONGEST_RECORD], count: usize)
     }
 }
 
-/// Nothing is put at the first positions, if that is told.
+/// Records that nothing is put at the first positions, if that is recorded.
 fn unmark(put: &mut [bool], is_told: bool, count: usize)
     requires { count ≤ length put.old }
     ensures { is_told ≡ true → take count put.new ≡ replicate count false }
@@ -140,7 +140,7 @@ impl Composition {
         })
     }
 
-    /// Begins a record of a length: one in which nothing is put yet, or, where that needn't be told, one of blanks.
+    /// Begins a record of a length: one in which nothing is put yet, or one of blanks if the positions needn't be recorded.
     pub fn clear(&mut self, length: usize, is_told: bool)
         requires { length ≤ 1024 }
         ensures { self.new ≡ replicate length (first_position is_told) }
@@ -163,7 +163,7 @@ impl Composition {
         mark(self.put.as_mut(), self.is_told, end, content.len());
     }
 
-    /// Lays a number over the record, up to an end position, as its field is put out.
+    /// Lays a number over the record, up to an end position, as its field is written.
     #[inline(always)]
     pub fn lay_number(&mut self, end: usize, number: i64, form: &NumberForm)
         requires fits { FitsNumber number form.now end }
@@ -175,14 +175,14 @@ impl Composition {
         mark(self.put.as_mut(), self.is_told, end, form.width);
     }
 
-    /// The record as it is put out, blank where nothing is put.
+    /// The record as it is written, blank where nothing is put.
     pub fn codes(&self) -> &[u8]
         ensures { result.now ≡ filled self.now }
     {
         &self.codes[..self.length]
     }
 
-    /// For each position whether something is put there. Where that isn't told it is so at all of them: blanks count as put then.
+    /// For each position whether something is put there. If the positions aren't recorded, it is true for all of them.
     pub fn marks(&self) -> &[bool]
         ensures { result.now ≡ map is_some self.now }
     {

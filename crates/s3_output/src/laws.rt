@@ -1,4 +1,4 @@
-//! What the definitions say of themselves: worked rows, and the lines that start at the places of a program.
+//! What the definitions say of themselves: worked examples, and the lines that start at the places of a program.
 ghost use Rattle.std.specs.Prelude.{◌≡◌, ◌∷◌, [], true, pos, negsuc, Some, is_some, filter, filter_map, slice_get, ℕ};
 ghost use Rattle.s3_lines.specs.declared.sheet.OutputForm.TheVariants.{Plain, Packed, Edited};
 ghost use Rattle.s3_meaning.specs.OutputLines.{Output};
@@ -29,8 +29,8 @@ pub fn worked_rows_of_the_carriage()
     ensures last_page { to_print (skip_to 1) (at 9999 60) ≡ at 0 1 }
 {}
 
-/// PAGE is put out as under Z, where a zero is blank, and page 0 comes after page 9,999; a zero has no sign, and a negative number
-/// bears it in its last byte, or behind its digits.
+/// PAGE is printed as under Z, so a zero is blank, and page 0 comes after page 9,999. A zero has no sign, and a negative number
+/// has its sign in its last byte or after its digits.
 pub fn worked_rows_of_numbers()
     ensures page_seven { (source : Source) → number_bytes source page Plain (pos 7) ≡ 0x40 ∷ 0x40 ∷ 0x40 ∷ 0xf7 ∷ [] }
     ensures page_zero { (source : Source) → number_bytes source page Plain (pos 0) ≡ 0x40 ∷ 0x40 ∷ 0x40 ∷ 0x40 ∷ [] }
@@ -43,8 +43,8 @@ pub fn worked_rows_of_numbers()
     ensures edited_zero { number_bytes no_lines umonth (Edited credit) (pos 0) ≡ 0x40 ∷ 0xf0 ∷ 0x40 ∷ 0x40 ∷ [] }
 {}
 
-/// The lines of the source that are put out together are those that start at the places of the walk, in their order; each of these is
-/// a start of the program, and its file is that of its slot.
+/// The lines of the source that are written together start at the places of the walk, in their order. Each of these places is a
+/// start of the program, and its file is the file of its slot.
 pub fn lines_start_there()
     ensures walked { (program : Program) (walk : Walk) → filter_map (output_at (tables program) program.outputs.items) (walked walk program.files.items program.outputs.items)
         ≡ filter (λ line. is_walked walk line.kind) (source_named program).outputs }

@@ -15,7 +15,7 @@ pub enum DiskRequest {
     Update,
     /// A record goes in by its key.
     Add,
-    /// A record goes behind the last one.
+    /// A record goes after the last one.
     Append,
 }
 
@@ -30,8 +30,8 @@ fn is_updated(file: &FileLine) -> bool
     }
 }
 
-/// What a line of a disk file asks for. Without ADD it is an update, in an update file or a direct load; with ADD it is a record
-/// more by its key, where the file has keys. Else it is a record behind the last one.
+/// The request of a line of a disk file. Without ADD it is an update, in an update file or a direct load. With ADD it adds a
+/// record by its key, if the file has keys. Else it adds a record after the last one.
 pub fn disk_request(file: &FileLine, is_addition: bool) -> DiskRequest
     ensures { (line : Output) (positions : List (Option ℕ)) (e : Environment) → line.is_addition ≡ is_addition
         → meaning.disk_request file.now line positions e ≡ request_of result file.now positions e }

@@ -57,7 +57,7 @@ fn mount_source(
     }
 }
 
-/// Reads the file of a label in an area of a mounted pack. Refused with `SourceLabel` where there is no such file, and with
+/// Reads the file of a label in an area of a mounted pack. Refused with `SourceLabel` if there is no such file, and with
 /// `NoMemory`.
 fn read_file(
     alloc: Global,
@@ -82,7 +82,7 @@ fn read_file(
     }
 }
 
-/// Reads the file of a label in an area of a pack. Refused with `SourceMount`, with `SourceLabel` where there is no such file, and
+/// Reads the file of a label in an area of a pack. Refused with `SourceMount`, with `SourceLabel` if there is no such file, and
 /// with `NoMemory`.
 fn source_of(alloc: Global, pack: Vec<u8>, area: u16, name: Name) -> Result<Source, CareFault>
     requires { area < 3 }
@@ -109,7 +109,7 @@ fn slots_copied(alloc: Global, slots: &[Slot]) -> Result<Vec<Slot>, AllocError>
     Ok(copy)
 }
 
-/// What is asked for where a file is to have a copy under this name, in as many tracks.
+/// The new file for a copy of a file under this name, with the same number of tracks.
 fn asked(name: Name, source: &FileLabel) -> NewFile
     ensures name { result.name ≡ name }
     ensures key { result.key_length ≡ source.now.key_length }
@@ -128,7 +128,7 @@ fn asked(name: Name, source: &FileLabel) -> NewFile
     }
 }
 
-/// The masters' slots where a level gets a file, which may not have the label of one; none where the masters get it.
+/// The masters' slots if a level gets the file, which must not have the label of a master; none if the masters get it.
 fn masters_beside(areas: &AreaSlots, area: u16) -> &[Slot]
     ensures { result.now ≡ masters_beside_spec area areas.now }
 {
@@ -138,8 +138,8 @@ fn masters_beside(areas: &AreaSlots, area: u16) -> &[Slot]
     }
 }
 
-/// That nothing stands under a name in an area without damage. Refused with `NoName`, with `Damaged` where a slot of the area is
-/// damaged, and with `Exists` where a file has the name.
+/// Checks that an area without damage has no file of a name. Refused with `NoName`, with `Damaged` if a slot of the area is
+/// damaged, and with `Exists` if a file has the name.
 #[tactic(auto, using(crate::proofs::Refusals::exists_there, crate::proofs::Refusals::unblocked))]
 fn unused(areas: &AreaSlots, area: u16, name: Name, source: &FileLabel) -> Result<(), CareFault>
     requires area { area < 3 }
@@ -160,9 +160,9 @@ fn unused(areas: &AreaSlots, area: u16, name: Name, source: &FileLabel) -> Resul
     }
 }
 
-/// The lowest free slot of an area, and the label that a copy of a file gets there. Refused with `NoName`; with `Damaged` where a
-/// slot of the area is damaged; with `Exists` where a file has its label; with `Label` where there is no room, no slot or a master
-/// of that label; and with `NoMemory`.
+/// The lowest free slot of an area, and the label that a copy of a file gets there. Refused with `NoName`; with `Damaged` if a
+/// slot of the area is damaged; with `Exists` if a file has its label; with `Label` if there is no room, no slot or a master of
+/// that label; and with `NoMemory`.
 fn room_for(
     alloc: Global,
     areas: &AreaSlots,
@@ -199,7 +199,8 @@ fn room_for(
     Ok((made.at as u16, label))
 }
 
-/// Reads the codes of a name and a date, so that the prover knows how wide they are: it learns that where an array is read.
+/// Reads the codes of a name and a date, so that the prover knows their widths. It learns the width of an array when the array is
+/// read.
 fn know_widths(codes: &[u8; 8], date: &[u8; 6])
     ensures codes { length codes.now ≡ 8 }
     ensures date { length date.now ≡ 6 }
@@ -279,10 +280,10 @@ fn with_copy(
 /// that no file there has. The copy has the same records in the same order, and the same index. An area is 0 for the masters, 1
 /// or 2 for a level. The copy gets a free slot and free sectors, and no other byte of the pack changes.
 ///
-/// Refused with `SourceMount` or `Mount` by a header; with `SourceLabel` where there is no such file, or a damaged slot blocks its
-/// label; with `NoName` where the label of the copy isn't a name; with `Damaged` where a slot of the area is damaged, so that
-/// nothing is written over what it may hold; with `Exists` where a file has that label; with `Label` where, for a level, a master
-/// has it, or the area has no free slot or no room; and with `NoMemory`.
+/// Refused with `SourceMount` or `Mount` by a header; with `SourceLabel` if there is no such file, or a damaged slot blocks its
+/// label; with `NoName` if the label of the copy isn't a name; with `Damaged` if a slot of the area is damaged, so that nothing
+/// is written over what it may hold; with `Exists` if a file has that label; with `Label` if, for a level, a master has it, or
+/// the area has no free slot or no room; and with `NoMemory`.
 #[tactic(auto, using(crate::proofs::Refusals::memory_refuses))]
 pub fn copy(
     alloc: Global,

@@ -22,17 +22,17 @@ use s3_slots::place_in;
 use s3_store::{MemoryStore, Sectors};
 use std::alloc::Global;
 
-/// Which file of an area is meant.
+/// The choice of a file of an area.
 #[derive(Clone, Copy)]
 pub enum Chosen {
     /// The sound file of this label.
     Label(Name),
-    /// What stands in this slot, from 0, sound or damaged.
+    /// The file of this slot, from 0, sound or damaged.
     Slot(u16),
 }
 
-/// The slot, 0 to 31, that is meant. Refused with `Label` where no sound file has the label, and with `NoSlot` where there is no
-/// such slot.
+/// The slot, 0 to 31, that is meant. Refused with `Label` if no sound file has the label, and with `NoSlot` if there is no such
+/// slot.
 fn slot_of(areas: &AreaSlots, area: u16, chosen: Chosen) -> Result<u16, CareFault>
     requires { area < 3 }
     ensures within { IfOk result (λ slot. slot < 32) }
@@ -71,7 +71,7 @@ fn read_slot(store: &mut MemoryStore, area: u16, i: u16) -> Result<[u8; 64], Car
     }
 }
 
-/// Whether what stands in a slot is to be kept: a permanent file, or what is damaged and has the retention of one in its bytes.
+/// Whether a slot is to be kept: it has a permanent file, or it is damaged and its bytes have the retention of a permanent file.
 fn is_kept(slot: &Slot, bytes: &[u8; 64]) -> bool
     ensures { result ≡ is_kept_spec slot.now bytes.now }
 {
@@ -102,15 +102,15 @@ fn is_free(slot: &Slot) -> bool
     }
 }
 
-/// Whether what stands in a slot stays: it is to be kept, and it isn't said that it is meant.
+/// Whether a slot stays: it is to be kept, and the caller doesn't mean permanent files.
 fn stays(slot: &Slot, bytes: &[u8; 64], is_permanent_meant: bool) -> bool
     ensures { result ≡ (is_kept_spec slot.now bytes.now && not is_permanent_meant) }
 {
     is_kept(slot, bytes) && !is_permanent_meant
 }
 
-/// That a slot may be freed. Refused with `NoFile` where it is free, and with `Permanent` where what stands in it is to be kept and
-/// it isn't said that this is meant.
+/// Checks that a slot may be freed. Refused with `NoFile` if it is free, and with `Permanent` if it is to be kept and the caller
+/// doesn't mean permanent files.
 #[tactic(auto, using(crate::proofs::Deletes::may_go))]
 fn permit(slot: &Slot, bytes: &[u8; 64], is_permanent_meant: bool) -> Result<(), CareFault>
     ensures permitted { OnOk result (MayFree slot.now bytes.now is_permanent_meant) }
@@ -155,9 +155,9 @@ fn freed(
 /// The pack of these bytes without a file of an area: 0 for the masters, 1 and 2 for the levels. The slot of the file is filled with
 /// zeros, and no other byte changes.
 ///
-/// Refused with `Mount` by the header; with `Label` where no sound file has the label, and with `NoFile` where the slot has none;
-/// with `NoSlot` where there is no such slot; with `Permanent` unless that is meant; with `Uncovers` where a slot that is damaged
-/// for what it has in common with the file would have a file again; and with `NoMemory`.
+/// Refused with `Mount` by the header; with `Label` if no sound file has the label, and with `NoFile` if the slot has none; with
+/// `NoSlot` if there is no such slot; with `Permanent` unless that is meant; with `Uncovers` if a slot that is damaged for what
+/// it has in common with the file would have a file again; and with `NoMemory`.
 #[tactic(auto, using(crate::proofs::Deletes::memory_refuses))]
 pub fn delete(
     alloc: Global,

@@ -23,12 +23,12 @@ pub enum CareFault {
     SourceLabel(LabelFault),
     /// A file of the area has the label that a copy is to get.
     Exists,
-    /// This slot, the first damaged one of the area that is to get a copy. What it holds can't be told, so its tracks can't be kept
-    /// from the copy.
+    /// This slot, the first damaged one of the area that is to get a copy. Which tracks its file has isn't known, so they can't
+    /// be kept from the copy.
     Damaged(u16),
     /// The label that a copy is to get isn't a name.
     NoName,
-    /// This slot, which is damaged for what it has in common with the file, would have a file again.
+    /// This slot is damaged only because of what it shares with the file, and would become valid.
     Uncovers(u16),
 }
 

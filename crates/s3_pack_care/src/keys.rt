@@ -22,7 +22,7 @@ fn rank(value: i64) -> u64
     }
 }
 
-/// A rank, the other way round where that is asked for.
+/// A rank, reversed if the field is descending.
 fn turned(descending: bool, greatest: u64, rank: u64) -> u64
     ensures { result ≡ turned_spec descending greatest rank }
 {

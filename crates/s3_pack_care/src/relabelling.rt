@@ -1,4 +1,4 @@
-//! A slot written, and all slots judged anew.
+//! A slot written, and all slots judged again.
 ghost use Rattle.std.specs.Prelude.{◌≡◌, ◌≢◌, ◌<◌, ℕ, true, length, slice_get, Ok, Some, IfOk, IfErr, IfNone, IfSome, ◌&&◌, not, nat_eq};
 ghost use Rattle.s3_slots.specs.Header.{mounted};
 ghost use Rattle.s3_labels.specs.Inner.Areas.{IsReady, slots_in};
@@ -51,7 +51,7 @@ fn is_changed(old: &AreaSlots, new: &AreaSlots, area: u16, written: u16, i: u16)
     i != written && !is_alike(old, new, area, i)
 }
 
-/// The first slot of an area, but for the one that was written, that isn't of the kind that it was.
+/// The first slot of an area, except for the one that was written, that isn't of the kind that it was.
 fn first_other(old: &AreaSlots, new: &AreaSlots, area: u16, written: u16) -> Option<u16>
     requires { area < 3 }
     ensures none { IfNone result ((i : ℕ) → i < 32 → i ≢ written → alike (slice_get (slots_in area old.now) i) (slice_get (slots_in area new.now) i) ≡ true) }
@@ -74,7 +74,7 @@ fn written_in(a: u16, area: u16, slot: u16) -> u16
     if a == area { slot } else { 32 }
 }
 
-/// The first slot of the three areas, but for the one that was written, that isn't of the kind that it was.
+/// The first slot of the three areas, except for the one that was written, that isn't of the kind that it was.
 fn first_changed(old: &AreaSlots, new: &AreaSlots, area: u16, slot: u16) -> Option<u16>
     requires { area < 3 }
     ensures none { IfNone result ((a i : ℕ) → IsOther area slot a i → alike (slice_get (slots_in a old.now) i) (slice_get (slots_in a new.now) i) ≡ true) }
@@ -101,7 +101,7 @@ pub fn mount(alloc: Global, store: MemoryStore) -> Result<MountedPack, CareFault
     }
 }
 
-/// Why a store in memory isn't mounted.
+/// The refusal of a call, from the refusal of a mount over a store in memory, which never fails.
 fn fault_of(refusal: Refusal) -> CareFault
     ensures { result ≡ fault_of_spec refusal }
 {
@@ -111,7 +111,7 @@ fn fault_of(refusal: Refusal) -> CareFault
     }
 }
 
-/// Writes the 64 bytes of slot `slot`, 0 to 31, of an area, and judges all slots anew. Refused with `Uncovers` where another slot
+/// Writes the 64 bytes of slot `slot`, 0 to 31, of an area, and judges all slots again. Refused with `Uncovers` if another slot
 /// would not be what it was, free, damaged or with its file, and with `NoMemory`.
 pub fn relabelled(
     alloc: Global,

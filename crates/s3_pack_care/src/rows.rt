@@ -81,7 +81,7 @@ impl Ord for Row {
     }
 }
 
-/// Record `i` of a file beside its key.
+/// Record `i` of a file with its key.
 fn row_at(
     alloc: Global,
     store: &mut MemoryStore,

@@ -108,12 +108,12 @@ fn sorted(
     }
 }
 
-/// The pack of these bytes with the records of a file sorted: first by the first field, where that is the same by the next one,
-/// and where all are the same as they stood. The file has no index, and its records stand in order. No byte outside of its sectors
-/// changes. An area is 0 for the masters, 1 or 2 for a level.
+/// The pack of these bytes with the records of a file sorted by the fields, the first field first. Records that are equal in all
+/// fields keep their order. The file must be a sequential one. No byte outside of its sectors changes. An area is 0 for the
+/// masters, 1 or 2 for a level.
 ///
-/// Refused with `Mount` by the header; with `Label` where no sound file has the label; with `NotInOrder` where the file is indexed
-/// or direct; with `Field` where a field doesn't fit its records; and with `NoMemory`.
+/// Refused with `Mount` by the header; with `Label` if no sound file has the label; with `NotInOrder` if the file is indexed or
+/// direct; with `Field` if a field doesn't fit its records; and with `NoMemory`.
 pub fn sort(
     alloc: Global,
     pack: Vec<u8>,

@@ -24,7 +24,7 @@ use std::alloc::Global;
 pub enum Cause {
     /// The label can't be used.
     Label(Damage),
-    /// The index isn't that of the records; the first entry at fault.
+    /// The index isn't the key order of the records; the first entry in error.
     Index(Option<WrongEntry>),
 }
 
@@ -35,7 +35,7 @@ pub struct Wrong {
     pub area: u16,
     /// The slot, 0 to 31.
     pub slot: u16,
-    /// The label, where it is a name.
+    /// The label, if it is a name.
     pub name: Option<Name>,
     /// What is wrong.
     pub cause: Cause,
@@ -184,8 +184,8 @@ fn damaged_place(slots: &[Slot]) -> Option<usize>
     slots.iter().position(|slot| is_damaged(slot))
 }
 
-/// The first damaged slot of an area, 0 to 31, if one is; an area is 0 for the masters, 1 and 2 for the levels. What a damaged slot
-/// holds can't be told, so nothing new may be written into the room of its area: it might be that of the slot's file.
+/// The first damaged slot of an area, 0 to 31, if one is damaged. An area is 0 for the masters, 1 or 2 for a level. Which sectors
+/// a damaged slot's file has isn't known, so nothing new may be written into its area.
 pub fn first_damaged(areas: &AreaSlots, area: u16) -> Option<u16>
     requires { area < 3 }
     ensures first { result ≡ first_damaged_spec (slots_in area areas.now) }
@@ -209,7 +209,7 @@ pub fn region_of(areas: &AreaSlots, area: u16) -> Stretch
     }
 }
 
-/// The label of a slot, where it is a name.
+/// The label of a slot, if it is a name.
 fn name_on(slot: &Slot) -> Option<Name>
     ensures { result ≡ name_on_spec slot.now }
 {
@@ -286,9 +286,8 @@ fn wrongs_of<P: Sectors>(
     Ok(wrongs)
 }
 
-/// All that is wrong with a pack, by its first 65,535 whole sectors: of each used slot that isn't sound why it isn't, and of each
-/// file with an index that isn't good the first entry at fault. The masters come first, then level 1 and level 2, each in slot
-/// order.
+/// All that is wrong with a pack, by its first 65,535 whole sectors: the reason of each used slot that isn't sound, and the first
+/// entry in error of each index that isn't good. The masters come first, then level 1 and level 2, each in slot order.
 ///
 /// Refused with `Mount` by the header alone, and with `NoMemory`.
 pub fn check_pack(alloc: Global, pack: &[u8]) -> Result<Vec<Wrong>, CheckFault>
@@ -302,7 +301,7 @@ pub fn check_pack(alloc: Global, pack: &[u8]) -> Result<Vec<Wrong>, CheckFault>
     }
 }
 
-/// Why a pack isn't checked where a mount over a store in memory is refused: such a store never fails.
+/// The refusal of a check, from the refusal of a mount over a store in memory, which never fails.
 fn fault_of(refusal: Refusal) -> CheckFault
     ensures { result ≡ fault_of_spec refusal }
 {

@@ -12,10 +12,10 @@ use s3_slots::{is_count_of, is_key_of, judge, organization_by, place_of, retenti
 use s3_store::Stretch;
 use thiserror::Error;
 
-/// Why the label of a slot can't be used: the first of these that is so.
+/// Why the label of a slot can't be used: the first of these reasons that applies.
 #[derive(Clone, Copy, Debug, Error)]
 pub enum Damage {
-    /// The slot's first byte is neither 0 nor 1.
+    /// The slot's first byte isn't 0 or 1.
     #[error("its first byte is neither 0, for a free slot, nor 1, for a used one")]
     Mark,
     /// The label isn't a name.
@@ -30,7 +30,7 @@ pub enum Damage {
     /// The record length isn't 1 to 1,024.
     #[error("its record length isn't 1 to 1024")]
     RecordLength,
-    /// The key isn't 1 to 29 bytes of the record, or there is one where there is no index.
+    /// The key isn't 1 to 29 bytes of the record, or there is one if there is no index.
     #[error("its key isn't 1 to 29 bytes of the record, or it has one without an index")]
     Key,
     /// The capacity is 0.
@@ -50,7 +50,7 @@ pub enum Damage {
     Overlap,
 }
 
-/// Whether a code stands for a retention.
+/// Whether a code is the code of a retention.
 fn is_retention(code: u8) -> bool
     ensures { result ≡ is_some (retention_spec code) }
 {
@@ -71,7 +71,7 @@ fn is_capacity(capacity: u32) -> bool
     1 <= capacity
 }
 
-/// What a test that isn't passed says, else what comes behind it.
+/// The damage of a test that isn't passed, else `behind`.
 fn unless(passed: bool, damage: Damage, behind: Option<Damage>) -> Option<Damage>
     ensures { result ≡ unless_spec passed damage behind }
 {
@@ -94,7 +94,7 @@ fn word_at(bytes: &[u8; 64], at: usize) -> u32
     BigEndian::read_u32(&bytes[at..])
 }
 
-/// What is wrong with the numbers of a label, but for its extents.
+/// What is wrong with the numbers of a label, except for its extents.
 fn number_damage(organization: Organization, bytes: &[u8; 64]) -> Option<Damage>
     ensures { result ≡ number_spec organization bytes.now }
 {
@@ -114,7 +114,7 @@ fn number_damage(organization: Organization, bytes: &[u8; 64]) -> Option<Damage>
     )
 }
 
-/// What is wrong with the fields of a label, but for its extents.
+/// What is wrong with the fields of a label, except for its extents.
 fn field_damage(bytes: &[u8; 64]) -> Option<Damage>
     ensures { result ≡ field_spec bytes.now }
 {
@@ -162,8 +162,8 @@ fn room_damage(
     }
 }
 
-/// Why a slot of an area is damaged that a mount judges so, by its 64 bytes and by the slots before it (docs/PACK_CARE.md,
-/// "What is damaged and why").
+/// The reason of a damaged slot of an area, by its 64 bytes and the slots before it (docs/PACK_CARE.md, "What is damaged and
+/// why").
 #[tactic(auto, unfolding(crate::specs::Inner::Damages::damage_of))]
 pub fn damage_of(
     format: Format,

@@ -1,4 +1,4 @@
-//! The first entry at fault of an index that isn't good.
+//! The first entry in error of an index that isn't good.
 ghost use Rattle.std.specs.Prelude.{◌≡◌, ◌≤◌, ◌*◌, ◌/◌, ◌%◌};
 ghost use Rattle.s3_store.specs.Bytes.{part};
 ghost use Rattle.s3_slots.specs.Slots.{record_sectors as record_sectors_spec, entries_per_sector as entries_spec};
@@ -11,7 +11,7 @@ use s3_labels::FileLabel;
 /// What is wrong with an entry of an index. Records are counted from 1.
 #[derive(Clone, Copy)]
 pub enum EntryFlaw {
-    /// Its key isn't above that of the entry before it.
+    /// Its key isn't above the key of the entry before it.
     Order,
     /// It names this record, which the file doesn't have.
     Record(u32),
@@ -114,7 +114,7 @@ fn key_of_entry<'a>(label: &FileLabel, bytes: &'a [u8], i: u32) -> &'a [u8]
     )
 }
 
-/// Whether the key of entry `i`, from 0, is above that of the entry before it, if there is one.
+/// Whether the key of entry `i`, from 0, is above the key of the entry before it, if there is one.
 fn is_first_or_above(label: &FileLabel, bytes: &[u8], i: u32) -> bool
     requires { label.now.key_length ≤ 29 }
     ensures { result ≡ is_first_or_above_spec label.now bytes.now i }
@@ -135,7 +135,7 @@ fn record_place(i: u32, record_length: u16) -> usize
     i as usize * usize::from(record_length)
 }
 
-/// The number of the record that entry `i` names, from 1; 0 where the entry doesn't lie in the file.
+/// The number of the record that entry `i` names, from 1; 0 if the entry isn't within the file.
 fn entry_number(label: &FileLabel, bytes: &[u8], i: u32) -> u32
     requires { label.now.key_length ≤ 29 }
     ensures { result ≡ entry_number_spec label.now bytes.now i }
@@ -166,8 +166,8 @@ fn has_key_of(label: &FileLabel, bytes: &[u8], number: u32, i: u32) -> bool
     part_of(bytes, at, usize::from(label.key_length)) == key_of_entry(label, bytes, i)
 }
 
-/// What is wrong with entry `i` of the index, from 0: its key isn't above that of the entry before it, it names no record of the
-/// file, or one with another key.
+/// What is wrong with entry `i` of the index, from 0: its key isn't above the key of the entry before it, or it names no record
+/// of the file, or a record with another key.
 fn flaw_of(label: &FileLabel, bytes: &[u8], i: u32) -> Option<EntryFlaw>
     requires key { label.now.key_length ≤ 29 }
     requires start { 1 ≤ label.now.key_start }

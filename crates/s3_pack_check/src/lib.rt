@@ -1,11 +1,10 @@
-//! All that is wrong with a pack: labels that are damaged, each with the reason, and indexes that aren't those of their records,
-//! each with the first entry at fault.
+//! All that is wrong with a pack: labels that are damaged, each with the reason, and indexes that don't match their records, each
+//! with the first entry in error.
 //!
-//! What is proved, for every pack: `check_pack` tells exactly what is defined, slot by slot, of the slots that a mount judges and
-//! of the indexes by their bytes (`told`); it is refused by the header alone, or where memory is refused (`refused`). What is
-//! defined is nothing exactly where each used slot is sound and each index good (`nothing_is_told_of_a_sound_pack`).
-//!
-//! That an index that isn't good has an entry at fault isn't claimed: where none is found, the index is told without one.
+//! `check_pack` is proved to report exactly what is specified, slot by slot and index by index (`told`). It is proved to be
+//! refused only by the header, or if memory is refused (`refused`). It reports nothing exactly if each used slot is sound and
+//! each index good (`nothing_is_told_of_a_sound_pack`). Not proved: that each bad index has an entry in error. If none is found,
+//! the index is reported without an entry.
 
 #![tactic(auto)]
 

@@ -13,7 +13,7 @@ pub fn push_cause(text: &mut String, cause: Cause) -> Result<(), AllocError> {
     }
 }
 
-/// Appends what is wrong with an entry of an index, in the words of a halt for it; entries are counted from 1.
+/// Appends what is wrong with an entry of an index, with the text of the halt for it. Entries are counted from 1.
 fn push_entry(text: &mut String, wrong: WrongEntry) -> Result<(), AllocError> {
     let entry = u64::from(wrong.place) + 1;
     match wrong.flaw {

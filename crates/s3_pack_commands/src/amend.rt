@@ -10,7 +10,7 @@ use s3_data_commands::cells::{Reading, with_cells};
 use s3_data_commands::fault::Fault;
 use s3_data_commands::filled::Words;
 use s3_data_commands::inputs::layout_of;
-use s3_data_commands::journaling::journal_for;
+use s3_data_commands::journaling::{journal_for, unmade_if_refused};
 use s3_data_commands::pack_words::{
     Save, area_number, keep_input, label_of, label_words, mount_words, pack_to_change, refused,
     saved, tell_done, wrong_words,
@@ -86,8 +86,8 @@ pub const AMEND: CommandWords = CommandWords {
     ],
 };
 
-/// Does what the options of `bureau amend` ask, and gives the exit status: 0 if it is done, else that of the refusal, whose sentences it
-/// wrote on standard error. A refusal changes no pack, except for one of standard output, which is written after the pack is saved.
+/// Runs `bureau amend`, and returns the exit status: 0 if it is done, else the status of the refusal, whose sentences were
+/// written on standard error. A refusal changes no pack, unless standard output failed, which is written after the pack is saved.
 pub fn amend_file(rt: &HostRuntime, matches: &ArgMatches<'_>) -> u8
     ensures { result ≤ 4 }
 {
@@ -165,7 +165,7 @@ fn settings_of<'a>(rt: &HostRuntime, matches: &ArgMatches<'a>) -> Result<Vec<Set
     Ok(settings)
 }
 
-/// That an argument has no value.
+/// The refusal of an argument without a value.
 fn no_setting(alloc: Global, text: &str) -> Fault {
     let text = Shown(text);
     match format!(in alloc;
@@ -183,7 +183,8 @@ fn amend_record(rt: &HostRuntime, matches: &ArgMatches<'_>) -> Result<(), Fault>
     let (pack, locked) = pack_to_change(rt, matches, asked.path, asked.save)?;
     keep_input(rt, asked.save, asked.source)?;
     let journal = journal_for(rt, matches, asked.path, &pack, Posting::Nothing)?;
-    let Amended { pack, changed } = amended(rt, &asked, &layout, &settings, pack)?;
+    let done = amended(rt, &asked, &layout, &settings, pack);
+    let Amended { pack, changed } = unmade_if_refused(rt, &journal, done)?;
     let save = Save {
         locked,
         journal,
@@ -288,7 +289,7 @@ fn done_sentence(
         )
 }
 
-/// Prints the record on standard output: a line for each field, with its value, or the one before and the one after.
+/// Prints the record on standard output: a line for each field, with its value, or with the values before and after.
 fn print_record(
     rt: &HostRuntime,
     layout: &SourceLayout,

@@ -1,4 +1,4 @@
-//! `bureau dump` and `bureau restore`: a pack as text, and the pack that a text stands for.
+//! `bureau dump` and `bureau restore`: a pack as text, and the pack that a text represents.
 ghost use Rattle.std.specs.Prelude.{◌≤◌};
 
 use clap::ArgMatches;
@@ -55,8 +55,8 @@ pub const RESTORE: CommandWords = CommandWords {
     words: &[SAVE, OVERWRITE],
 };
 
-/// Does what the options of `bureau dump` ask, and gives the exit status: 0 if it is done, else that of the refusal, whose sentence it
-/// wrote on standard error.
+/// Runs `bureau dump`, and returns the exit status: 0 if it is done, else the status of the refusal, whose sentence was written
+/// on standard error.
 pub fn dump_pack(rt: &HostRuntime, matches: &ArgMatches<'_>) -> u8
     ensures { result ≤ 4 }
 {
@@ -82,8 +82,8 @@ fn print_dump(rt: &HostRuntime, path: &str) -> Result<(), Fault> {
     }
 }
 
-/// Does what the options of `bureau restore` ask, and gives the exit status: 0 if it is done, else that of the refusal, whose sentence it
-/// wrote on standard error; then nothing is saved.
+/// Runs `bureau restore`, and returns the exit status: 0 if it is done, else the status of the refusal, whose sentence was
+/// written on standard error; then nothing is saved.
 pub fn restore_pack(rt: &HostRuntime, matches: &ArgMatches<'_>) -> u8
     ensures { result ≤ 4 }
 {
@@ -139,7 +139,7 @@ fn dump_text(rt: &HostRuntime) -> Result<Vec<u8>, Fault> {
     }
 }
 
-/// That standard input is no dump.
+/// The refusal of standard input that is no dump.
 fn no_dump(rt: &HostRuntime, fault: RestoreFault) -> Fault {
     match fault {
         RestoreFault::NoMemory => Fault::NoMemory,

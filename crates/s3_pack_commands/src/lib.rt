@@ -1,8 +1,8 @@
-//! The commands `amend`, `dump`, `restore` and `check --json`: their options, over real files, standard input and standard output. docs/DATA.md and
-//! docs/PACK_CARE.md have them.
+//! The commands `amend`, `dump`, `restore` and `check --json`: their options, over real files, standard input and standard
+//! output. docs/DATA.md and docs/PACK_CARE.md have them.
 //!
-//! Each call is proved safe and returns, and a status is at most 4. What becomes of a record is proved in `s3_amend`, what a dump
-//! restores in `s3_dump`. That the options are followed, and the texts of refusals, are tested with golden tests.
+//! Each call is proved to be safe and to return, and a status is at most 4. What happens to a record is proved in `s3_amend`, and
+//! what a dump restores in `s3_dump`. That the options are followed, and the texts of refusals, are tested with golden tests.
 #![tactic(auto)]
 
 pub mod amend;

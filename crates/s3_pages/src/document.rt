@@ -22,7 +22,7 @@ pub const MOST_PAGES: u32 = 4_000_000;
 /// Writes the pages of a job's lines as a PDF document, on forms of 132 columns and 66 lines with light bars or plain. Lines at one
 /// place are drawn over each other. An empty page, and a job without lines, is an empty form. The title is a text of ASCII.
 ///
-/// Refused with `NoMemory` or `File`, and with `TooLong` where there are over 4,000,000 pages, or 10,000,000,000 bytes; some of the
+/// Refused with `NoMemory` or `File`, and with `TooLong` if there are over 4,000,000 pages, or 10,000,000,000 bytes; some of the
 /// document may be written then.
 pub fn write_pdf<W: Write>(
     alloc: Global,
@@ -163,8 +163,8 @@ fn put_two<W: Write>(
     put_object(alloc, table, second, writer)
 }
 
-/// Writes an object after those of a table, under the next number. It is `TooLong` where the document would have too many bytes for
-/// its table.
+/// Writes an object after those of a table, under the next number. Refused with `TooLong` if the document would have too many
+/// bytes for its table.
 pub fn put_object<W: Write>(
     alloc: Global,
     table: &mut Table,

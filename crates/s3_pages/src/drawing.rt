@@ -8,7 +8,7 @@ use crate::{push_shown, row_of};
 use s3_cards::PrintLine;
 use std::alloc::AllocError;
 
-/// Where the first line is written, in points from the bottom of the form.
+/// The position of the first line, in points from the bottom of the form.
 const FIRST_BASELINE: u64 = 783;
 
 /// The height of a line, in points: six lines are an inch.
@@ -53,7 +53,7 @@ fn push_line(text: &mut Vec<u8>, room: &mut Vec<u8>, line: &PrintLine) -> Result
     Ok(())
 }
 
-/// Where a line is written, in points from the bottom of the form.
+/// The position of a line, in points from the bottom of the form.
 fn baseline(line: &PrintLine) -> u64
     ensures { result ≡ baseline_spec line.now }
 {
@@ -79,7 +79,7 @@ fn push_bytes(text: &mut Vec<u8>, bytes: &[u8]) -> Result<(), AllocError>
     Ok(())
 }
 
-/// Appends a byte of a text, with a backslash in front where it has a meaning of its own.
+/// Appends a byte of a text, after a backslash if the byte has a special meaning.
 fn push_byte(text: &mut Vec<u8>, byte: u8) -> Result<(), AllocError>
     ensures { OnOk result (text.new.items ≡ text.old.items ++ escaped byte) }
 {

@@ -1,21 +1,12 @@
-//! Printed lines as the pages of a job: which page has which lines, which lines belong to which job, and the pages as a text and as a
-//! PDF document of forms with 132 columns and 66 lines. docs/OPERATING.md has the rules, under "Paper".
+//! Printed lines as the pages of a job: which page has which lines, which lines belong to which job, and the pages as a text and
+//! as a PDF document of forms with 132 columns and 66 lines. docs/OPERATING.md has the rules, under "Paper".
 //!
-//! What is proved, for all printed lines:
-//!
-//! - `Pages` gives the pages of a job's lines, one after another. Each line is on its page, and a page has no other lines (`pages`,
-//!   `Iterator::next`, `pages_have_all_lines`).
-//! - `parts` gives each job as many lines as it printed, and the rest to the last job. All parts together are all lines in order
-//!   (`parts`, `whole`).
-//! - `push_page` appends the text of a page: each line at its line number, overprinted lines over each other.
-//! - `write_text` writes exactly the text of the pages, with a form feed between two pages (`wrote`).
-//! - `write_pdf` writes exactly the bytes that are defined for the lines (`wrote`): numbered objects one after another, and a table
-//!   with the place of each (`file_of`, `places`). Each page of the job has one page of the document, and each of its lines is
-//!   drawn once, at its line number. `write_pdf` refuses a document as too long only if it has more pages or bytes than it may have
-//!   (`too_long`).
-//!
-//! Not specified: what a writer that fails has written, and that `NoMemory` comes only if memory was refused. That PDF readers show
-//! the document as forms is tested by `tools/test-paper`.
+//! Each line is proved to be on its page, and a page has no other lines (`Pages`, `pages_have_all_lines`). `parts` is proved to
+//! give each job as many lines as it printed, and the rest to the last job. `write_text` is proved to write exactly the text of
+//! the pages, with a form feed between two pages, and `write_pdf` exactly the specified bytes: numbered objects, and a table with
+//! the place of each (`file_of`, `places`). `write_pdf` refuses a document as too long only if it has too many pages or bytes
+//! (`too_long`). Not specified: what a writer that fails has written, and when `NoMemory` comes. That PDF readers show the
+//! document as forms is tested by `tools/search/test-paper`.
 #![tactic(auto)]
 
 mod bodies;

@@ -16,7 +16,7 @@ const END_LIMIT: u64 = 10_000_000_000;
 /// The first line of a document.
 const FIRST_LINE: &[u8] = b"%PDF-1.4\n";
 
-/// Where each object begins that was written, and where the file ends so far.
+/// The place at which each written object begins, and the place at which the file ends so far.
 #[derive(Drop)]
 pub struct Table {
     starts: Vec<u64>,
@@ -24,7 +24,7 @@ pub struct Table {
 }
 
 impl Table {
-    /// That of a file which has its first line.
+    /// The table of a file that has its first line.
     pub fn new(alloc: Global) -> Table
         ensures starts { result.starts.items ≡ [] }
         ensures end { result.end ≡ 9 }
@@ -49,7 +49,7 @@ impl Table {
         self.end
     }
 
-    /// Takes note of an object that begins where the file ends.
+    /// Notes an object that begins at the end of the file.
     pub fn note(&mut self, end: u64) -> Result<(), AllocError>
         ensures starts { OnOk result (self.new.starts.items ≡ self.old.starts.items ++ self.old.end ∷ []) }
         ensures end { OnOk result (self.new.end ≡ end) }
@@ -68,7 +68,7 @@ pub fn put_first_line<W: Write>(writer: &mut W) -> Result<(), PaperFault>
     write(writer, FIRST_LINE)
 }
 
-/// Where a file ends with so many bytes more, if its table has digits enough for that.
+/// The end of a file with so many bytes more; none if its table has too few digits for it.
 pub fn end_with(end: u64, len: usize) -> Option<u64>
     ensures { SomeIff result (end + len < 10 ^ 10) (end + len) }
 {
@@ -146,7 +146,7 @@ fn push_trailer(text: &mut Vec<u8>, count: u64, at: u64) -> Result<(), AllocErro
     Ok(())
 }
 
-/// Writes all of the bytes; refused with `PaperFault::File` where the writer fails.
+/// Writes all of the bytes; refused with `PaperFault::File` if the writer fails.
 pub fn write<W: Write>(writer: &mut W, bytes: &[u8]) -> Result<(), PaperFault>
     ensures wrote { OnOk result (Appends (W.contents writer.old) (W.contents writer.new) bytes.now) }
     ensures failed { OnErr result (result ≡ Err File) }

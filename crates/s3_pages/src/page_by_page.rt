@@ -38,7 +38,7 @@ impl<'a> Pages<'a> {
         }
     }
 
-    /// The pages after that of a number, given the lines that are printed after it.
+    /// The pages after the page of a number, given the lines that are printed after it.
     fn behind(number: u16, lines: &'a [PrintLine]) -> Pages<'a>
         ensures { pages_left result ≡ pages_behind number lines.now }
     {

@@ -36,7 +36,7 @@ pub fn write_text<W: Write>(
     write_behind(pages, text, writer)
 }
 
-/// Writes the pages after another one, each with a form feed in front of it. The text is a room that is used again.
+/// Writes the pages after another one, each with a form feed before it. The text is a room that is used again.
 fn write_behind<W: Write>(
     pages: Pages<'_>,
     mut text: Vec<u8>,
@@ -51,7 +51,7 @@ fn write_behind<W: Write>(
     Ok(())
 }
 
-/// Puts a page and the form feed in front of it in place of a text.
+/// Puts a page and the form feed before it in place of a text.
 fn put_next_page(text: &mut Vec<u8>, page: &[PrintLine]) -> Result<(), AllocError>
     ensures { OnOk result (text.new.items ≡ next_page_text page.now) }
 {

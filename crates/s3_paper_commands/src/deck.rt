@@ -35,7 +35,7 @@ struct ReadDeck<'a> {
     typed: TypedFiles<'a>,
 }
 
-/// A deck after some of its files: where the next one begins, and whether one of them is in error.
+/// A deck after some of its files: the place at which the next one begins, and whether one of them is in error.
 #[derive(Clone, Copy)]
 struct Standing {
     begun: Begun,

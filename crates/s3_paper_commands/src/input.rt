@@ -3,7 +3,7 @@
 use std::io;
 use std::io::{ErrorKind, Read};
 
-/// The name that stands for standard input.
+/// The name that means standard input.
 pub const STANDARD_INPUT: &str = "-";
 
 /// What messages call it.

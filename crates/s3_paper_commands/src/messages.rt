@@ -16,11 +16,11 @@ use std::io::Write;
 pub enum Report {
     /// In sentences, as `day.rpg, line 3, column 8: ..`, with what is to be done.
     Sentences,
-    /// As messages for editors, and nothing else.
+    /// Only as messages for editors.
     Messages,
 }
 
-/// Appends where a message is about, and what follows it: `day.rpg:3:8: `.
+/// Appends the place of a message, and what follows it: `day.rpg:3:8: `.
 pub fn push_spot(
     text: &mut String,
     place: &FilePlace<'_>,

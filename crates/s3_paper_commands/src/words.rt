@@ -11,7 +11,7 @@ pub struct CommandWords {
     pub name: &'static str,
     /// What it does, as its help says it.
     pub about: &'static str,
-    /// Second names of its words, which no help lists.
+    /// Second names of its options, which no help lists.
     pub aliases: &'static [Alias],
     /// Its exit statuses, in ascending order.
     pub statuses: &'static [Status],
@@ -53,7 +53,7 @@ pub struct Example {
 pub struct Choice {
     /// The value.
     pub name: &'static str,
-    /// What it stands for.
+    /// What it means.
     pub help: &'static str,
 }
 
@@ -68,7 +68,7 @@ pub struct Word {
     pub help: &'static str,
 }
 
-/// What is given with a word. What stands for the value in the help comes first.
+/// The value of an option. Its placeholder in the help comes first.
 #[derive(Clone, Copy)]
 pub enum Takes {
     /// Nothing: the word is alone.
@@ -85,9 +85,9 @@ pub enum Takes {
     U32(&'static str),
     /// A number from 0 to 65535.
     U16(&'static str),
-    /// A number from 0 to 65535, and the one that holds where the word isn't given.
+    /// A number from 0 to 65535, and its default.
     U16Or(&'static str, &'static str),
-    /// A number from 0 to 255, and the one that holds where the word isn't given.
+    /// A number from 0 to 255, and its default.
     U8Or(&'static str, &'static str),
     /// A file, and the word may be given several times.
     Files,

@@ -3,7 +3,7 @@ ghost use Rattle.std.specs.Prelude.{◌≡◌, map, IfOk};
 
 use std::alloc::{AllocError, Global};
 
-/// New lists with the same items as these lists; refused only where memory runs out.
+/// New lists with the same items as these lists; refused only if memory runs out.
 pub fn copied_all<T: Copy>(alloc: Global, lists: &[Vec<T>]) -> Result<Vec<Vec<T>>, AllocError>
     ensures { IfOk result (λ copies. map (λ list. list.items) copies.items ≡ map (λ list. list.items) lists.now) }
 {
@@ -14,7 +14,7 @@ pub fn copied_all<T: Copy>(alloc: Global, lists: &[Vec<T>]) -> Result<Vec<Vec<T>
     Ok(copies)
 }
 
-/// A new list with the same items as this one; refused only where memory runs out.
+/// A new list with the same items as this one; refused only if memory runs out.
 pub fn copied<T: Copy>(alloc: Global, items: &[T]) -> Result<Vec<T>, AllocError>
     ensures { IfOk result (λ copy. copy.items ≡ items.now) }
 {

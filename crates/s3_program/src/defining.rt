@@ -9,8 +9,7 @@ use s3_cards::Name;
 use s3_lines::sheet::{FileLine, Line, SheetLine};
 use std::alloc::{AllocError, Global};
 
-/// Puts an entry for a name behind the others of a table, unless the name is there already. It is refused only where memory runs
-/// out.
+/// Puts an entry for a name after the others of a table, unless the name is there already. It is refused only if memory runs out.
 pub fn note<T: Copy>(
     table: &mut IndexMap<Name, T>,
     name: Name,
@@ -35,7 +34,7 @@ fn note_file(table: &mut IndexMap<Name, FileLine>, line: &Line) -> Result<(), Al
     Ok(())
 }
 
-/// The files that lines define, each under its name and by the first F line with that name; refused only where memory runs out.
+/// The files that lines define, each under its name and by the first F line with that name; refused only if memory runs out.
 pub fn files_defined(alloc: Global, lines: &[Line]) -> Result<IndexMap<Name, FileLine>, AllocError>
     ensures { IfOk result (λ table. table.entries ≡ spec.firsts (spec.files_given lines.now)) }
 {

@@ -27,19 +27,20 @@ pub fn worked_programs()
     ensures lines { list_any is_valid wrong_lines ≡ false }
 {}
 
-/// What starts at the places of the tables are the record types and the output lines of the source that a program stands for.
+/// The record types and the output lines of the source that a program represents start at the places of the tables.
 pub fn the_source_starts_there()
     ensures types { (program : Program) → filter_map (type_at (tables_of (parts_of program)) program.inputs.items) (type_starts program.files.items program.inputs.items) ≡ (source_named program).types }
     ensures outputs { (program : Program) → filter_map (output_at (tables_of (parts_of program)) program.outputs.items) (output_starts program.files.items program.outputs.items) ≡ (source_named program).outputs }
 {}
 
-/// Each file of a program has a name: the blank name, which a line card without a file has where none stands before it, finds none.
+/// Each file of a program has a name. The blank name finds no file; a line card without a file has it if no line card with a file
+/// comes before it.
 pub fn files_have_names()
     ensures { (program : Program) → file_named (source_named program) no_name ≡ None }
 {}
 
-/// Of many entries a name has what the first one gives it, and no name stands twice among the first ones; with the reserved
-/// fields before them these stay the first ones.
+/// A name has what its first entry gives it. No name is twice among the first entries, which stay the first ones with the
+/// reserved fields before them.
 pub fn first_entries_count()
     ensures found { (name : Name) (entries : List (Name × Shape)) → lookup (same_name name) (firsts entries) ≡ lookup (same_name name) entries }
     ensures distinct { (entries : List (Name × Shape)) → are_distinct (keys_of (firsts entries)) ≡ true }
@@ -48,7 +49,7 @@ pub fn first_entries_count()
     ensures reserved { (entries : List (Name × Shape)) → begin_reserved (firsts (reserved_shapes ++ entries)) ≡ true }
 {}
 
-/// Where the ninth call of a chain would be forbidden, a chain has fewer than eight calls.
+/// If no chain of eight calls ends in a subroutine, every chain that ends in it has fewer than eight calls.
 pub fn calls_go_eight_deep()
     ensures { (calls : List Call) (n : ℕ) (subroutine : Option ℕ) → ends_chain calls 8 subroutine ≡ false → ends_chain calls n subroutine ≡ true → n < 8 }
 {}

@@ -1,19 +1,12 @@
 //! A compiled program: the lines of its source, with slots for names.
 //!
-//! The crate also has the conditions of the diagnostics 5 to 12, each as one test of a line of meanings where it stands: they serve
-//! the diagnostics of a source and the validity of a program alike.
-//!
-//! What is proved:
-//! - a program that `translate` makes stands for its source, by one equation: the source that has each slot's name in place of the
-//!   slot is the source itself;
-//! - each program is valid: slots are there and of the right kind, entries in their ranges and positions within their records, edit
-//!   codes fit, calls go at most eight deep (`calls_go_eight_deep`), and no condition of 5 to 12 holds;
-//! - its tables of starts are those of its source: where record types, output lines and sections begin (`the_source_starts_there`);
-//! - `Program::copy` gives the same program;
-//! - of many entries the first of each name counts (`first_entries_count`), and each file has a name (`files_have_names`);
-//! - worked programs, right ones and wrong ones, are judged as they must be (`worked_programs`).
-//!
-//! Only tested: that memory is said to run out only where a growth was refused, which no contract can say.
+//! The crate also has the conditions of the diagnostics 5 to 12, each as a test of a line in its context; the diagnostics of a
+//! source and the validity of a program use the same tests. A program that `translate` makes is proved to represent its source:
+//! with names in place of the slots it is the source itself. Each program is proved valid: slots are there and of the right kind,
+//! entries in their ranges, positions within their records, calls at most eight deep (`calls_go_eight_deep`), and no condition of
+//! 5 to 12 holds. Its tables say where record types, output lines and sections begin (`the_source_starts_there`). Worked
+//! programs, right and wrong ones, are computed by the proofs (`worked_programs`). Only tested: that memory is reported to run
+//! out only if an allocation was refused.
 #![tactic(auto)]
 
 pub mod call;

@@ -22,7 +22,7 @@ pub enum Kind {
     Subroutine,
 }
 
-/// What a line of a program names: its kind, and its slot, which is its place among all of that kind, from 0.
+/// What a line of a program names: its kind, and its slot, the place among all of its kind, from 0.
 #[derive(Clone, Copy)]
 pub enum Reference {
     /// A file.
@@ -35,7 +35,7 @@ pub enum Reference {
     Subroutine(usize),
 }
 
-/// Where a tag stands.
+/// The place of a tag.
 #[derive(Clone, Copy)]
 pub struct TagPlace {
     /// The place of its TAG among the calculation lines, from 0.
@@ -44,7 +44,7 @@ pub struct TagPlace {
     pub section: usize,
 }
 
-/// Where a subroutine stands.
+/// The place of a subroutine.
 #[derive(Clone, Copy)]
 pub struct SubroutinePlace {
     /// The place of its BEGSR among the calculation lines, from 0.
@@ -56,14 +56,14 @@ pub struct SubroutinePlace {
 pub struct Defined<T> {
     /// Its name, which no other of its kind has.
     pub name: Name,
-    /// What bears the name.
+    /// What has the name.
     pub meaning: T,
 }
 
 /// What a name on a line means.
 #[derive(Clone, Copy)]
 pub enum Meaning {
-    /// Nothing bears it.
+    /// Nothing has the name.
     Undefined,
     /// It names a file, with this F line.
     File(FileLine),
@@ -112,7 +112,7 @@ impl Program {
     ghost use Rattle.std.specs.Prelude.{◌≡◌, IfOk};
     ghost use Rattle.s3_program.specs.Inner.Stands.{parts_of};
 
-    /// A copy of this program; refused only where memory runs out.
+    /// A copy of this program; refused only if memory runs out.
     #[tactic(auto, using(crate::proofs::PartsLemmas::same_parts, crate::proofs::PartsLemmas::still_valid))]
     pub fn copy(&self, alloc: Global) -> Result<Program, AllocError>
         ensures parts { IfOk result (λ copy. parts_of copy ≡ parts_of self.now) }

@@ -50,9 +50,9 @@ pub enum Marking {
 pub enum Pairing {
     /// Nothing.
     Free,
-    /// That both are numeric, or both alphanumeric.
+    /// Both must be numeric, or both alphanumeric.
     Alike,
-    /// That factor 1 is a key, or a record number, of the file in factor 2.
+    /// Factor 1 must be a key, or a record number, of the file in factor 2.
     KeyOfFile,
 }
 
@@ -65,10 +65,10 @@ pub struct Row {
     pub factor2: Operand,
     /// What the result has to be (columns 43 to 48).
     pub result: Target,
-    /// Whether H may stand in column 53.
+    /// Whether H is allowed in column 53.
     pub half_adjust: bool,
     /// Which resulting indicators there are (columns 54 to 59).
     pub indicators: Marking,
-    /// What else is asked of the factors.
+    /// What the two factors must be together.
     pub pairing: Pairing,
 }

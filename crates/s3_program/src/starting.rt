@@ -12,7 +12,7 @@ use s3_lines::sheet::{
 };
 use std::alloc::{AllocError, Global};
 
-/// The slot of a file; what is no file leaves that of the line before.
+/// The slot of a file. For anything else, the slot of the line before.
 fn file_slot(last: usize, file: Reference) -> usize
     ensures { result ≡ spec.file_slot last file }
 {
@@ -22,7 +22,7 @@ fn file_slot(last: usize, file: Reference) -> usize
     }
 }
 
-/// The file of the record types at and behind a line.
+/// The file of the record types at and after a line.
 fn type_file(last: usize, line: &InputLine<Reference>) -> usize
     ensures { result ≡ spec.type_file last line.now }
 {
@@ -63,7 +63,7 @@ fn first_behind(inputs: &[InputLine<Reference>], from: usize) -> usize
     inputs.len()
 }
 
-/// Where the fields begin behind a line, if it is known where they begin at it.
+/// Where the fields begin after a line, if it is known where they begin at it.
 fn fields_behind(inputs: &[InputLine<Reference>], place: usize, known: usize) -> usize
     requires within { place < length inputs.now }
     requires known { place < known → known ≡ spec.fields_begin place (drop place inputs.now) }
@@ -147,7 +147,7 @@ fn types_by_file(
     Ok(types)
 }
 
-/// The file of the output lines at and behind a line.
+/// The file of the output lines at and after a line.
 fn output_file(last: usize, line: &OutputLine<Reference>) -> usize
     ensures { result ≡ spec.output_file last line.now }
 {
@@ -249,7 +249,7 @@ fn begins_subroutines(time: CalculationTime) -> bool
     }
 }
 
-/// The place of the first total line, or that of the first subroutine.
+/// The place of the first total line, or of the first subroutine.
 fn totals(calculations: &[CalculationLine<Reference>]) -> usize
     ensures { result ≡ spec.first_from (λ line. spec.begins_totals line.time) 0 calculations.now }
 {
@@ -273,7 +273,7 @@ fn subroutines(calculations: &[CalculationLine<Reference>]) -> usize
     calculations.len()
 }
 
-/// Where the record types, output lines and sections of a program with these I, C and O lines start; refused only where memory runs
+/// Where the record types, output lines and sections of a program with these I, C and O lines start; refused only if memory runs
 /// out.
 pub fn starts_of(
     alloc: Global,

@@ -4,29 +4,29 @@ use crate::copied::{copied, copied_all};
 use s3_lines::sheet::OutputKind;
 use std::alloc::{AllocError, Global};
 
-/// Where a record type stands among the I lines: at a record line, or at an OR line that goes on with one.
+/// The start of a record type among the I lines: a record line, or an OR line that continues a record line.
 #[derive(Clone, Copy)]
 pub struct TypeStart {
     /// The slot of its file.
     pub file: usize,
-    /// The place of its line, behind which its AND lines stand.
+    /// The place of its line, which its AND lines follow.
     pub place: usize,
-    /// The place behind the AND and OR lines of its group, where the fields begin.
+    /// The place after the AND and OR lines of its group, where the fields begin.
     pub fields: usize,
 }
 
-/// Where an output line stands among the O lines.
+/// The start of an output line among the O lines.
 #[derive(Clone, Copy)]
 pub struct OutputStart {
-    /// The slot of its file; a line without a file's name takes that of the line before.
+    /// The slot of its file. A line without a file's name takes the file of the line before.
     pub file: usize,
-    /// When it is put out.
+    /// When the line is written.
     pub kind: OutputKind,
-    /// The place of its card, behind which its AND and OR cards and its fields stand.
+    /// The place of its card, which its AND and OR cards and its fields follow.
     pub place: usize,
 }
 
-/// The lists of output lines that are put out together.
+/// The lists of output lines that are written together.
 #[derive(Clone, Copy)]
 pub enum Walk {
     /// Headings and details, at the start of a cycle.
@@ -42,7 +42,7 @@ pub enum Walk {
 /// Where the sections of the C lines begin. The detail lines begin at place 0.
 #[derive(Clone, Copy)]
 pub struct Sections {
-    /// The place of the first total line, or that of the first subroutine.
+    /// The place of the first total line, or of the first subroutine.
     pub totals: usize,
     /// The place of the first subroutine, or the count of lines.
     pub subroutines: usize,
@@ -59,7 +59,7 @@ pub struct Starts {
     pub totals: Vec<OutputStart>,
     /// Exception lines, in order of the O sheet.
     pub exceptions: Vec<OutputStart>,
-    /// Headings, details and totals, which overflow may put out, in order of the O sheet.
+    /// Headings, details and totals, which overflow may print, in the order of the O sheet.
     pub overflow: Vec<OutputStart>,
     /// The sections of the C lines.
     pub sections: Sections,
@@ -69,7 +69,7 @@ impl Starts {
     ghost use Rattle.std.specs.Prelude.{IfOk};
     ghost use Rattle.s3_program.specs.Inner.Starts.{SameStarts};
 
-    /// A copy of these starts; refused only where memory runs out.
+    /// A copy of these starts; refused only if memory runs out.
     pub fn copy(&self, alloc: Global) -> Result<Starts, AllocError>
         ensures { IfOk result (λ copy. SameStarts copy self.now) }
     {

@@ -21,14 +21,14 @@ use s3_lines::sheet::{
 };
 use std::alloc::{AllocError, Global};
 
-/// RPGOBJ, the name of a program whose H card bears none.
+/// RPGOBJ, the name of a program whose H card has none.
 const RPGOBJ: Name = Name {
     codes: [
         LETTER_R, LETTER_P, LETTER_G, LETTER_O, LETTER_B, LETTER_J, BLANK, BLANK,
     ],
 };
 
-/// The slot of a name; one that isn't there has the slot behind the last.
+/// The slot of a name; one that isn't there has the slot after the last.
 fn slot<T>(table: &IndexMap<Name, T>, name: &Name) -> usize
     ensures { result ≡ slot_in table.now.entries name.now }
 {
@@ -229,14 +229,14 @@ fn header_name(line: &Line) -> Option<Name>
     }
 }
 
-/// The first H card that bears a name.
+/// The first H card that has a name.
 fn named_header(lines: &[Line]) -> Option<&Line>
     ensures { option_copied result ≡ find (λ line. is_some (header_name_spec line)) lines.now }
 {
     lines.iter().find(|line| header_name(line).is_some())
 }
 
-/// The name of the first H card that bears one, or RPGOBJ.
+/// The name on the first H card that has one, or RPGOBJ.
 fn program_name(lines: &[Line]) -> Name
     ensures { result ≡ program_name_spec lines.now }
 {
@@ -305,7 +305,7 @@ fn outputs(
         .collect(alloc)
 }
 
-/// The program that stands for these lines, which have no diagnostics; `known` is what they define. It is refused only where memory
+/// The program that represents these lines, which must have no diagnostics. `known` is what they define. Refused only if memory
 /// runs out.
 pub fn translate(alloc: Global, known: &Definitions, lines: &[Line]) -> Result<Program, AllocError>
     requires accepted { spec.IsAccepted known.now lines.now }

@@ -235,7 +235,7 @@ fn is_on_cards(character: char) -> bool
 }
 
 /// The card character that a character becomes: a small letter its capital, a card character itself, and one of the table its
-/// plain one; `None` where it becomes none.
+/// plain one; `None` if it becomes none.
 #[tactic(auto, unfolding(crate::specs::Inner::Characters::plain_of))]
 pub fn plain(character: char) -> Option<u8>
     ensures { result ≡ plain_of character }

@@ -24,7 +24,7 @@ const MAX_CARDS: usize = 9_999;
 pub struct Begun {
     /// The part of the deck that its first line is in.
     pub part: Part,
-    /// How many cards are in front of it, at most 9,999.
+    /// How many cards are before it, at most 9,999.
     pub cards: usize,
     /// Whether the remarks of C cards are blanked.
     pub blanks_remarks: bool,
@@ -139,7 +139,7 @@ impl Punched {
         self.origins.len()
     }
 
-    /// Appends the card of a line, and tells what is wrong with it; so many cards are in front of the text.
+    /// Appends the card of a line, and reports what is wrong with it; so many cards are before the text.
     fn add_written(
         &mut self,
         alloc: Global,
@@ -207,7 +207,7 @@ fn drop_end(text: &mut Vec<u8>)
     }
 }
 
-/// Whether a line in front of others ended with a carriage return and a line feed.
+/// Whether a line before others ended with a carriage return and a line feed.
 fn had_return(rest: &[u8], line: &[u8], after: &[u8]) -> bool {
     rest.len().saturating_sub(after.len()) > line.len().saturating_add(1)
 }
@@ -247,7 +247,7 @@ fn punch_text(alloc: Global, text: &[u8], begun: &Begun) -> Result<Punched, Allo
 
 /// Punches a text. Lines end with a line feed, and one carriage return before it is dropped.
 ///
-/// Nothing is refused: all that is wrong is listed, and where nothing is, the text that comes out is a deck. A text that is a
+/// Nothing is refused: all faults are listed, and if there are none, the resulting text is a deck. A text that is a
 /// deck already, without carriage returns, without blank lines outside of data, and without lines there that begin with `#` or
 /// `%`, comes out as it was.
 pub fn punch(alloc: Global, text: &[u8], begun: &Begun) -> Result<Punched, AllocError>

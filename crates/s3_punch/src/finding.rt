@@ -147,7 +147,7 @@ fn apostrophes(text: &[u8]) -> usize
     text.iter().filter(|byte| **byte == b'\'').count()
 }
 
-/// How many bytes are in front of the first apostrophe of a text.
+/// How many bytes are before the first apostrophe of a text.
 fn in_front_of_apostrophe(text: &[u8]) -> usize
     ensures value { result ≡ prefix_len (λ byte. not (is_apostrophe byte)) text.now }
     ensures within { result ≤ length text.now }

@@ -12,7 +12,7 @@
 //! `typed_column` gives the column of a plain line that has a column of its card: the same column if the line has no tabs.
 //!
 //! Only tested: that column in a line in pieces; what is reported of changes, and the texts of faults. Nothing says that the parts of a deck are those that `s3_ocl` reads,
-//! nor that memory is said to run out only where it was refused.
+//! nor that memory is said to run out only if it was refused.
 
 #![tactic(auto)]
 

@@ -12,7 +12,7 @@ use crate::stops::fill_up;
 use bstr::ByteSlice;
 use std::alloc::{AllocError, Global};
 
-/// The last column in front of those of a remark.
+/// The last column before those of a remark.
 const IN_FRONT_OF_REMARK: usize = 59;
 
 /// The last column of a remark.
@@ -25,7 +25,7 @@ pub fn characters_of(alloc: Global, line: &[u8]) -> Result<Vec<char>, AllocError
     line.chars().collect(alloc)
 }
 
-/// The text of a line that begins with `%`, after that, with 0 where it is parted.
+/// The text of a line that begins with `%`, after the `%`, with 0 where it is parted.
 pub fn text_of_pieces(alloc: Global, characters: &[char]) -> Result<Vec<u8>, AllocError>
     ensures { IfOk result (λ text. text.items ≡ part_text_spec characters.now) }
 {

@@ -6,7 +6,7 @@ ghost use Rattle.s3_punch.specs.Inner.Parts.{behind_load as behind_load_spec, be
 /// The part of a deck that a card is in.
 #[derive(Clone, Copy)]
 pub enum Part {
-    /// Between jobs, or among the statements of a job in front of its LOAD.
+    /// Between jobs, or among the statements of a job before its LOAD.
     Statements,
     /// After the LOAD of the compiler.
     ToCompile,
@@ -110,7 +110,7 @@ fn split_word(text: &[u8]) -> (&[u8], &[u8])
     from_word.split_at(word_len(from_word))
 }
 
-/// How many blanks are in front of a text.
+/// How many blanks are before a text.
 fn blanks_in_front(text: &[u8]) -> usize
     ensures value { result ≡ prefix_len is_blank text.now }
     ensures within { result ≤ length text.now }
@@ -118,7 +118,7 @@ fn blanks_in_front(text: &[u8]) -> usize
     text.iter().take_while(|byte| **byte == b' ').count()
 }
 
-/// How many bytes a text has in front of its first blank.
+/// How many bytes a text has before its first blank.
 fn word_len(text: &[u8]) -> usize
     ensures value { result ≡ prefix_len is_mark text.now }
     ensures within { result ≤ length text.now }

@@ -117,7 +117,7 @@ fn piece_at<'a>(part: &'a [u8], colon: usize) -> Option<Piece<'a>>
     }
 }
 
-/// The piece that a part is; `None` where it isn't a column from 1 to 96, a colon and a text.
+/// The piece that a part is; `None` if it isn't a column from 1 to 96, a colon and a text.
 pub fn piece_of<'a>(part: &'a [u8]) -> Option<Piece<'a>>
     ensures value { option_map piece_seen result ≡ piece_of_spec part.now }
     ensures within { IfSome result (λ piece. (1 ≤ piece.column) × (piece.column ≤ 96)) }

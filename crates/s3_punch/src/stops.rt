@@ -72,7 +72,7 @@ fn starts_on(card: &[u8]) -> Option<&'static [usize]>
     }
 }
 
-/// How many columns are filled in front of the next start, or of column 97.
+/// How many columns are filled before the next start, or of column 97.
 fn up_to_start(starts: &[usize], width: usize) -> usize
     requires { width < 2 ^ 63 }
     ensures { result ≡ up_to_start_spec starts.now width }
@@ -88,7 +88,7 @@ fn next_start(starts: &[usize], width: usize) -> Option<usize>
     starts.iter().copied().find(|start| width + 1 < *start)
 }
 
-/// How many columns are filled in front of the next one of columns 9, 17, 25 and so on.
+/// How many columns are filled before the next one of columns 9, 17, 25 and so on.
 fn up_to_eighth(width: usize) -> usize
     requires { width < 2 ^ 63 }
     ensures { result ≡ up_to_eighth_spec width }
@@ -96,7 +96,7 @@ fn up_to_eighth(width: usize) -> usize
     (width / 8 + 1) * 8
 }
 
-/// How many columns are filled in front of the next stop.
+/// How many columns are filled before the next stop.
 fn next_stop(card: &[u8], is_source: bool) -> usize
     requires { length card.now < 2 ^ 63 }
     ensures { result ≡ up_to_stop (if is_source then starts_on_spec card.now else None) (length card.now) }

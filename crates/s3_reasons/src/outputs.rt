@@ -9,14 +9,14 @@ use std::alloc::AllocError;
 
 const NAME: Entry = Entry { from: 32, to: 37 };
 
-/// Why a field can't be put out so.
+/// Why a field can't be written so.
 #[derive(Clone, Copy)]
 enum Cause {
-    /// An edit code stands for a text.
+    /// An edit code is used for a text.
     EditedText,
-    /// Y stands for another number than a date.
+    /// Y is used for a number that isn't a date.
     NoDate,
-    /// P stands for a text.
+    /// P is used for a text.
     PackedText,
     /// The end position is too low.
     NoSpace,
@@ -42,7 +42,7 @@ fn words_of(cause: Cause) -> &'static str {
     }
 }
 
-/// Appends why a field can't be put out as its card says.
+/// Appends why a field can't be written as its card says.
 pub fn push_output_reason(
     text: &mut String,
     known: &Known,

@@ -16,7 +16,7 @@ pub struct Entry {
 }
 
 /// The codes of an entry; none outside the card.
-fn codes_of(card: &Card, entry: Entry) -> &[u8] {
+pub fn codes_of(card: &Card, entry: Entry) -> &[u8] {
     card.get(entry.from.saturating_sub(1)..entry.to)
         .unwrap_or(&[])
 }

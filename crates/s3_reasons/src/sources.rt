@@ -3,6 +3,7 @@ ghost use Rattle.std.specs.Prelude.{◌≤◌, length};
 
 use crate::calculations::Misfit;
 use crate::outputs::push_output_reason;
+use crate::similar::push_similar;
 use indexmap::IndexMap;
 use s3_blame::Known;
 use s3_cards::ebcdic::{BLANK, SLASH};
@@ -18,11 +19,19 @@ const OUT_OF_ORDER: u8 = 1;
 /// The number of an operation or an edit that doesn't fit.
 const MISFIT: u8 = 8;
 
-/// Why cards of a source have a diagnostic 01 or 08, as far as words say more than the diagnostic does; by the cards' numbers. A card has
-/// one of them at most.
+/// The number of a name that isn't defined.
+const UNDEFINED: u8 = 5;
+
+/// For how many cards similar names are looked for, since each takes a walk over all lines.
+const MOST_SEARCHES: usize = 20;
+
+/// Why cards of a source have a diagnostic 01, 05 or 08, as far as words say more than the diagnostic does; by the cards' numbers.
 #[derive(Drop)]
 pub struct Reasons {
+    /// Those of 01 and 08. A card has one of them at most.
     by_card: IndexMap<u16, String>,
+    /// Those of 05.
+    similar: IndexMap<u16, String>,
 }
 
 impl Reasons {
@@ -30,14 +39,20 @@ impl Reasons {
     pub fn none(alloc: Global) -> Reasons {
         Reasons {
             by_card: IndexMap::new(alloc),
+            similar: IndexMap::new(alloc),
         }
     }
 
-    /// Why a card has the diagnostic of a number; empty if no words say more than the diagnostic.
+    /// Why a card has the diagnostic of a number; empty if there is no more to say than the diagnostic.
     pub fn of(&self, card: u16, number: u8) -> &str {
-        match (number, self.by_card.get(&card)) {
-            (OUT_OF_ORDER | MISFIT, Some(text)) => text.as_str(),
-            _ => "",
+        let found = match number {
+            OUT_OF_ORDER | MISFIT => self.by_card.get(&card),
+            UNDEFINED => self.similar.get(&card),
+            _ => None,
+        };
+        match found {
+            Some(text) => text.as_str(),
+            None => "",
         }
     }
 }
@@ -54,8 +69,9 @@ pub fn reasons_of(
 ) -> Result<Reasons, AllocError> {
     let mut reasons = Reasons::none(alloc);
     add_statements(alloc, deck, told, &mut reasons)?;
-    if from <= to && to <= deck.len() && told.iter().any(|found| found.number == MISFIT) {
-        add_misfits(alloc, deck, from, to, entries, &mut reasons)?;
+    let is_wanted = told.iter().any(|found| found.number == MISFIT || found.number == UNDEFINED);
+    if from <= to && to <= deck.len() && is_wanted {
+        add_by_lines(alloc, deck, from, to, entries, &mut reasons)?;
     }
     Ok(reasons)
 }
@@ -92,8 +108,8 @@ fn card_of(deck: &Deck, number: u16) -> Option<&Card> {
     deck.card(usize::from(number).checked_sub(1)?)
 }
 
-/// Adds the reason of each diagnostic 08.
-fn add_misfits(
+/// Adds the reasons of the diagnostics 05 and 08.
+fn add_by_lines(
     alloc: Global,
     deck: &Deck,
     from: usize,
@@ -114,8 +130,46 @@ fn add_misfits(
     for line in &lines {
         rest = from_card(rest, line.card);
         add_misfit(alloc, deck, &known, line, rest, reasons)?;
+        add_similar(alloc, deck, line, &lines, rest, reasons)?;
     }
     Ok(())
+}
+
+/// Adds which names are similar to those of a line that aren't defined. The entries to blame begin with those of the line's card.
+fn add_similar(
+    alloc: Global,
+    deck: &Deck,
+    line: &Line,
+    lines: &[Line],
+    entries: &[FaultyEntry],
+    reasons: &mut Reasons,
+) -> Result<(), AllocError> {
+    let found = faulty_of(alloc, entries, line.card, UNDEFINED)?;
+    let Some(card) = card_of(deck, line.card) else {
+        return Ok(());
+    };
+    if found.is_empty() || reasons.similar.len() >= MOST_SEARCHES {
+        return Ok(());
+    }
+    let mut text = String::new(alloc);
+    push_similar(alloc, &mut text, card, line, lines, &found)?;
+    reasons.similar.insert(line.card, text)?;
+    Ok(())
+}
+
+/// The entries of a card that have a number, of a list that begins with the card's.
+fn faulty_of(
+    alloc: Global,
+    entries: &[FaultyEntry],
+    card: u16,
+    number: u8,
+) -> Result<Vec<FaultyEntry>, AllocError> {
+    entries
+        .iter()
+        .take_while(|entry| entry.card == card)
+        .filter(|entry| entry.number == number)
+        .copied()
+        .collect(alloc)
 }
 
 /// The entries of a list from the first on that isn't of a card before this one.
@@ -133,12 +187,7 @@ fn add_misfit(
     entries: &[FaultyEntry],
     reasons: &mut Reasons,
 ) -> Result<(), AllocError> {
-    let found: Vec<FaultyEntry> = entries
-        .iter()
-        .take_while(|entry| entry.card == line.card)
-        .filter(|entry| entry.number == MISFIT)
-        .copied()
-        .collect(alloc)?;
+    let found = faulty_of(alloc, entries, line.card, MISFIT)?;
     let Some(card) = card_of(deck, line.card) else {
         return Ok(());
     };

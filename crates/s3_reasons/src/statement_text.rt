@@ -4,7 +4,7 @@ use s3_cards::{Card, trim_end};
 use s3_decks::push_characters;
 use std::alloc::{AllocError, Global};
 
-/// What a card has where a statement is wanted, in characters.
+/// What a card in the place of a statement has, in characters.
 #[derive(Drop)]
 pub struct CardText {
     text: String,
@@ -28,7 +28,7 @@ impl CardText {
         self.text.as_str().starts_with(characters)
     }
 
-    /// The word of a place behind `//`, from 0; an empty one if there are fewer, or no `//` and a blank.
+    /// The word of a place after `//`, from 0; an empty one if there are fewer, or no `//` and a blank.
     pub fn word(&self, place: usize) -> &str {
         let mut words = self.text.as_str().split_ascii_whitespace();
         if words.next() != Some("//") {
@@ -43,7 +43,7 @@ impl CardText {
 pub enum Part {
     /// It begins a statement.
     Beginning,
-    /// The parameters of the card before go on here.
+    /// The parameters of the card before continue here.
     Continuation,
 }
 

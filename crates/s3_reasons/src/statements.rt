@@ -11,7 +11,7 @@ use std::alloc::{AllocError, Global};
 struct Place {
     /// The number of the job's first card.
     first: usize,
-    /// The number of the card at fault.
+    /// The number of the card in error.
     number: usize,
     /// What that card has.
     card: CardText,
@@ -21,8 +21,8 @@ struct Place {
     keyword: Option<Keyword>,
 }
 
-/// Why the statements of a job are faulty, on the card that the fault names; empty if no words say more than the fault. The job's first
-/// card has this number, from 1. It is refused only if memory runs out.
+/// Why the statements of a job are faulty, on the card that the fault names; empty if there is no more to say than the fault. The
+/// job's first card has this number, from 1. Refused only if memory runs out.
 pub fn statement_reason(
     alloc: Global,
     deck: &Deck,
@@ -187,7 +187,7 @@ impl Place {
         }
     }
 
-    /// Whether the card ends with a comma, and no card goes on with it.
+    /// Whether the card ends with a comma, and no card continues with it.
     fn ends_open(&self, alloc: Global, deck: &Deck) -> Result<bool, AllocError> {
         if !self.parameters().ends_with(",") {
             return Ok(false);

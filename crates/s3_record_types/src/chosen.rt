@@ -66,7 +66,7 @@ impl ChosenRecords {
     }
 }
 
-/// Whether the first type all of whose codes a record has is the one of an indicator.
+/// Whether the first type whose codes a record all has is the type of an indicator.
 fn is_of(indicator: Indicator, kinds: &[RecordKind], bytes: &[u8]) -> bool
     ensures { result ≡ is_of_spec indicator kinds.now bytes.now }
 {
@@ -88,7 +88,7 @@ fn type_in(kinds: &[RecordKind], bytes: &[u8]) -> Option<Indicator>
     None
 }
 
-/// The codes of the first type of an indicator; none where there is no such type.
+/// The codes of the first type of an indicator; none if there is no such type.
 fn codes_of(indicator: Indicator, kinds: &[RecordKind]) -> &[RecordCode]
     ensures { result.now ≡ codes_in (find (is_kind indicator) kinds.now) }
 {

@@ -1,8 +1,9 @@
-//! What a refused command prints in addition to its line: file names that a terminal shows, the system's reason, the process that has a
-//! file, what a number means, and what to do.
+//! What a refused command prints in addition to its line: file names that a terminal shows, the system's reason, the process that
+//! has a file, what a number means, and what to do.
 //!
-//! What is proved: which words stand for a failed call (`call_words`), for each refusal of a pack (`pack_words`) and for a file that
-//! doesn't begin as a pack does (`beginning_words`), and the exit status of a refusal (`Refused::tell`). Each call is safe and returns. The sentences around these words are tested.
+//! Proved are the texts of a failed call (`call_words`), of each refusal of a pack (`pack_words`) and of a file that doesn't
+//! begin as a pack does (`beginning_words`), and the exit status of a refusal (`Refused::tell`). Each call is proved to be safe
+//! and to return. The sentences around these texts are tested.
 
 #![tactic(auto)]
 

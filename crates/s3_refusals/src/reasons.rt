@@ -6,7 +6,7 @@ use std::fmt::Display;
 use std::io::ErrorKind;
 use std::{fmt, io};
 
-/// Why a call on a file failed, and what to do, by the kind of the failure; no words for a kind that needs the system's own.
+/// Why a call on a file failed, and what to do, by the kind of the failure. Empty for a kind that needs the system's own text.
 pub fn call_words(kind: ErrorKind) -> &'static str
     ensures { result.now ≡ words_of_call kind }
 {

@@ -14,7 +14,7 @@ use std::io::Write;
 /// What a command was at when it was refused.
 #[derive(Clone, Copy)]
 pub enum Work<'a> {
-    /// No file, and neither standard input nor output, was in error.
+    /// No file was in error, and neither were standard input and output.
     Options,
     /// This file was in error, in this work.
     File(&'a str, FileWork),
@@ -41,7 +41,7 @@ pub enum FileWork {
     Hindered(Hindrance),
     /// The file is this standard stream as well.
     Stream(StandardStream),
-    /// No pack is saved there: it is this standard stream, which is a pipe or a terminal.
+    /// The pack isn't saved, because the target is this standard stream, which is a pipe or a terminal.
     Talk(StandardStream),
     /// The pack is saved, but its folder couldn't be brought to the disk.
     Unsynced(io::Error),

@@ -9,8 +9,8 @@ ghost use Rattle.s3_bureau.specs.Runs.{cards_of, level_texts, run_alone};
 ghost use Rattle.s3_replay.specs.Inner.Scripts.{DoTheSame, RunsAlike, first_world};
 ghost use Rattle.s3_replay.specs.Inner.Written.{ReadsBack};
 
-/// Where by two lists of entries a level accepts the same replies and comes to rest, it ends in the same world and has the same
-/// texts; and two runs with such scripts give the same texts and files of it, whatever the other level does.
+/// If a level accepts the same replies by two lists of entries and comes to rest by both, it ends in the same abstract state and
+/// has the same texts. Two runs with such scripts give the level the same texts and files, whatever the other level does.
 pub fn when_makes_no_difference()
     ensures worlds { (level : LevelId) (header : Header) (pack deck : List ℕ) (one other : List Action) → DoTheSame (first_world level header pack deck) one other → run_alone level header (contents_of pack) (cards_of (deck_of deck)) one ≡ run_alone level header (contents_of pack) (cards_of (deck_of deck)) other }
     ensures texts { (level : LevelId) (header : Header) (pack deck : List ℕ) (one other : List Action) → DoTheSame (first_world level header pack deck) one other → level_texts level header (contents_of pack) deck one ≡ level_texts level header (contents_of pack) deck other }

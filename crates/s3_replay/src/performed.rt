@@ -7,7 +7,7 @@ use s3_bureau::Entry;
 use std::alloc::{AllocError, Global};
 use std::marker::Model;
 
-/// An entry, so many times one behind the other.
+/// An entry, so many times one after the other.
 #[derive(Clone, Copy)]
 pub struct Repeated {
     /// The entry.
@@ -23,7 +23,7 @@ fn are_same(one: Entry, other: Entry) -> bool
     one == other
 }
 
-/// How often an entry was performed, where it comes again behind itself; `None` for another entry, and past the largest count.
+/// The number of times that an entry was performed, if it follows itself; `None` for another entry, and past the largest count.
 fn gone_on(last: Repeated, entry: Entry, times: u32) -> Option<u32>
     ensures { IfSome result (λ all. (last.entry ≡ entry) × (all ≡ last.times + times)) }
 {
@@ -78,7 +78,7 @@ impl Performed {
         Ok(())
     }
 
-    /// Entries that come again behind themselves are one part, with how many times. The last part may still grow.
+    /// Entries that come again after themselves are one part, with how many times. The last part may still grow.
     pub fn parts(&self) -> &[Repeated]
         ensures entries { entries_in result.now ≡ self.now }
         ensures writable { list_all is_part_writable result.now ≡ true }

@@ -55,7 +55,7 @@ fn most_in_a_line(action: Action) -> u16
     }
 }
 
-/// Appends a line of a letter, a level, and a count where it isn't 1.
+/// Appends a line of a letter, a level, and a count if it isn't 1.
 fn push_counted(text: &mut Vec<u8>, letter: u8, level: u8, count: u16) -> Result<(), AllocError>
     ensures { OnOk result (text.new.items ≡ text.old.items ++ (letter ∷ level ∷ count_behind count) ++ 10 ∷ []) }
 {

@@ -51,7 +51,7 @@ pub fn next_listed<R: Read>(alloc: Global, reader: &mut R) -> Result<Listed, All
     Ok(Listed::Failed)
 }
 
-/// What is read where the list ends, if a line was begun.
+/// What is read at the end of the list, if a line was begun.
 fn last_line(line: &[u8], is_begun: bool) -> Listed
     ensures { result ≡ last_of is_begun line.now }
 {

@@ -98,7 +98,7 @@ pub(crate) fn read_rule(line: &[u8], number: usize) -> Result<Option<Rule>, Line
     )
 }
 
-/// The rule of its parts, as its words say them; or the first fault.
+/// The rule of these parts, or the first fault.
 fn rule_from(
     number: usize,
     level: Option<Option<LevelId>>,

@@ -7,7 +7,7 @@ use crate::line_words::{first_word, is_word};
 use crate::rule::names_level;
 use s3_cards::{LevelId, number_spelled};
 
-/// How many lines are shown where no number is typed.
+/// The number of lines that are shown if no number is typed.
 pub const LINES_SHOWN: usize = 10;
 
 /// The longest number that is typed.
@@ -18,13 +18,13 @@ const DIGITS: usize = 7;
 pub enum Typed {
     /// An empty line.
     Nothing,
-    /// A digit, 0 to 9, for the halt of a level, or for the one that waits. Whether the halt allows it isn't tested here.
+    /// A digit, 0 to 9, for the halt of a level, or for the halt that waits. Whether the halt allows it isn't tested here.
     Reply(Option<LevelId>, u8),
     /// `?`: what the replies do.
     Help,
     /// `show`: the halt once more.
     Show,
-    /// `lines`: the last printed lines of a level, or of the one that waits, and how many.
+    /// `lines`: the last printed lines of a level, or of the level that waits, and how many.
     Lines(Option<LevelId>, usize),
     /// `stop`: the end of the day.
     Stop,

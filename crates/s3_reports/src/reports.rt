@@ -49,7 +49,7 @@ impl<W: Write + Drop> Reports<W> {
         self.print_two(two);
     }
 
-    /// Writes what isn't written of the reports and the halts. Returns whether all of it is written.
+    /// Writes the rest of the reports and the halts. Returns whether all of it is written.
     pub fn finish(&mut self, run: &RunLines) -> bool
         ensures wrote { Moves (W.contents self.old.output.writer) (W.contents self.new.output.writer) self.old.output.has_failed self.new.output.has_failed (written_at self.old.place run.now.one.lines.items run.now.two.lines.items run.now.one.halts.items) (output_of (lines_texts run.now)) }
         ensures all { result ≡ not self.new.output.has_failed }

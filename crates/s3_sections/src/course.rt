@@ -16,12 +16,12 @@ use s3_program::program::{Program, Reference};
 /// The most subroutines that are open at once.
 pub const MOST_CALLS: usize = 8;
 
-/// Where a run stands, and where it goes on when subroutines are done.
+/// The spot of a run, and the spots at which it continues when subroutines are done.
 #[derive(Drop)]
 pub struct Course {
-    /// Where it stands.
+    /// The spot of the run.
     pub here: Spot,
-    /// Where it goes on behind each EXSR that isn't done, the innermost last.
+    /// Where it continues after each EXSR that isn't done, the innermost last.
     pub returns: ArrayVec<Spot, MOST_CALLS>,
 }
 
@@ -38,7 +38,7 @@ impl Course {
         }
     }
 
-    /// Begins anew at a spot outside of all subroutines, with no subroutine open.
+    /// Begins again at a spot outside of all subroutines, with no subroutine open.
     pub fn restart(&mut self, here: Spot)
         ensures here { self.new.here ≡ here }
         ensures returns { self.new.returns.items ≡ [] }
@@ -50,7 +50,7 @@ impl Course {
         self.returns.clear();
     }
 
-    /// Goes on at another place of the section in which it stands.
+    /// Continues at another place of its section.
     pub fn move_to(&mut self, place: usize)
         ensures here { self.new.here ≡ record self.old.here { place = place } }
         ensures returns { self.new.returns ≡ self.old.returns }
@@ -59,7 +59,7 @@ impl Course {
         self.here.place = place;
     }
 
-    /// Goes to the subroutine that the EXSR at a place calls: behind its BEGSR.
+    /// Goes to the subroutine that the EXSR at a place calls: after its BEGSR.
     pub fn enter(
         &mut self,
         program: &Program,
@@ -81,7 +81,7 @@ impl Course {
         self.here = Spot::subroutine(program, line, begsr);
     }
 
-    /// At the end of a section, goes on behind the EXSR that called it; false where none did.
+    /// At the end of a section, continues after the EXSR that called it; false if no EXSR did.
     pub fn leave(&mut self) -> bool
         ensures { (program : Program) → spec.IsCourse program self.old → spec.Leaves program self.old self.new result }
     {

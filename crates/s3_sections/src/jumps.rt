@@ -1,4 +1,4 @@
-//! Where a run goes on behind a GOTO and an EXSR.
+//! Where a run continues after a GOTO and an EXSR.
 ghost use Rattle.std.specs.Prelude.{◌≡◌, Some};
 ghost use Rattle.s3_lines.specs.declared.sheet.Operation.TheVariants as op;
 ghost use Rattle.s3_meaning.specs.Calculations.{name_in};
@@ -17,9 +17,9 @@ use s3_program::program::{Program, Reference};
 /// Where a GOTO goes.
 #[derive(Clone, Copy)]
 pub enum Jump {
-    /// To a tag below it: what stands before the tag is passed over.
+    /// To a tag below it: the lines before the tag are passed over.
     Below(Spot),
-    /// To a tag above it: the section begins anew behind the tag.
+    /// To a tag above it: the section begins again after the tag.
     Above(Spot),
 }
 
@@ -84,7 +84,7 @@ pub fn subroutine_of(program: &Program, line: &CalculationLine<Reference>) -> us
 }
 
 impl Spot {
-    /// Where the GOTO at a place goes, which is of this spot's section and names the tag at another place.
+    /// Where the GOTO at a place continues. It must be in this spot's section, and its tag at another place.
     pub fn go_to(
         self,
         program: &Program,
@@ -110,7 +110,7 @@ impl Spot {
         }
     }
 
-    /// Where the subroutine begins that an EXSR calls: behind its BEGSR.
+    /// Where the subroutine begins that an EXSR calls: after its BEGSR.
     pub fn subroutine(program: &Program, line: &CalculationLine<Reference>, begsr: usize) -> Spot
         requires line { IsLineOf program.now line.now op.ExecuteSubroutine }
         requires begsr { spec.IsSubroutineOf program.now line.now begsr }

@@ -1,4 +1,4 @@
-//! Where a run stands in a section of the C sheet, and which calculation comes next.
+//! The spot of a run in a section of the C sheet, and the calculation that comes next.
 ghost use Rattle.std.specs.Prelude.{◌≡◌, None};
 ghost use Rattle.s3_meaning.specs.Source.{detail_calculations, total_calculations};
 ghost use Rattle.s3_program.specs.Inner.Stands.{source_named};
@@ -7,7 +7,7 @@ ghost use Rattle.s3_sections.specs.Inner.Spots.{IsSpot, subroutine_in};
 
 use s3_program::program::Program;
 
-/// A part of the C sheet whose lines are done one behind the other.
+/// A part of the C sheet whose lines are done one after the other.
 #[derive(Clone, Copy, Default)]
 pub enum Section {
     /// The detail lines.
@@ -15,18 +15,18 @@ pub enum Section {
     Detail,
     /// The total lines.
     Total,
-    /// The lines of a subroutine, behind its BEGSR.
+    /// The lines of a subroutine, after its BEGSR.
     Subroutine,
 }
 
-/// Where a run stands in a section.
+/// The spot of a run in a section.
 #[derive(Clone, Copy, Default)]
 pub struct Spot {
     /// Which section.
     pub section: Section,
-    /// The place at which the section begins: of its first line, or behind its BEGSR.
+    /// The place at which the section begins: of its first line, or after its BEGSR.
     pub begin: usize,
-    /// The place from which the section goes on.
+    /// The place from which the section continues.
     pub place: usize,
 }
 

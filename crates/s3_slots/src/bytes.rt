@@ -36,7 +36,7 @@ impl SlotBytes {
         }
     }
 
-    /// Puts these bytes behind the others.
+    /// Puts these bytes after the others.
     fn push(&mut self, part: &[u8])
         requires { length self.old + length part.now ≤ 64 }
         ensures bytes { self.new ≡ self.old ++ part.now }
@@ -46,7 +46,7 @@ impl SlotBytes {
         self.count += part.len();
     }
 
-    /// Puts a number of two bytes behind the others.
+    /// Puts a number of two bytes after the others.
     fn push_u16(&mut self, n: u16)
         requires { length self.old + 2 ≤ 64 }
         ensures bytes { self.new ≡ self.old ++ big_bytes 2 n }
@@ -57,7 +57,7 @@ impl SlotBytes {
         self.push(&bytes);
     }
 
-    /// Puts a number of four bytes behind the others.
+    /// Puts a number of four bytes after the others.
     fn push_u32(&mut self, n: u32)
         requires { length self.old + 4 ≤ 64 }
         ensures bytes { self.new ≡ self.old ++ big_bytes 4 n }
@@ -68,7 +68,7 @@ impl SlotBytes {
         self.push(&bytes);
     }
 
-    /// Puts start and length of a run of sectors behind the other bytes.
+    /// Puts start and length of a run of sectors after the other bytes.
     #[tactic(auto, using(std::proofs::Common::append_assoc))]
     fn push_stretch(&mut self, stretch: Stretch)
         requires { length self.old + 4 ≤ 64 }
@@ -111,7 +111,7 @@ fn retention_code(retention: Retention) -> u8
     }
 }
 
-/// An extent of a file, by its place among them; nothing behind the last one.
+/// An extent of a file, by its place among them; nothing after the last one.
 fn extent_at(extents: &Extents, i: usize) -> Stretch
     ensures { result ≡ extent_at_spec extents.now i }
 {

@@ -1,4 +1,4 @@
-//! What becomes of the slots of an area where a count is set or a label is dropped.
+//! The slots of an area after a count is set or a label is dropped.
 ghost use Rattle.std.specs.Prelude.{◌≡◌, ◌<◌, length, Some, None, IfOk, IfErr};
 ghost use Rattle.std.specs.List.{position_from};
 ghost use Rattle.s3_slots.specs.declared.slot.Slot.TheVariants.{Free, Sound};
@@ -10,8 +10,8 @@ use crate::making::LabelFault;
 use crate::slot::{Slot, Standing, place_of, standing_of};
 use s3_cards::Name;
 
-/// The place, from 0, of the slot that has the sound file of a label among the slots of an area. Refused with `DamagedLabel`
-/// where there is none but a damaged slot has the label, and with `NotFound` where no slot has it.
+/// The place, from 0, of the slot that has the sound file of a label among the slots of an area. Refused with `DamagedLabel` if
+/// there is none but a damaged slot has the label, and with `NotFound` if no slot has it.
 #[tactic(auto, using(crate::proofs::Makes::present_somewhere))]
 pub fn place_in(name: Name, slots: &[Slot]) -> Result<usize, LabelFault>
     ensures ok { IfOk result (λ i. refusal (standing_spec name slots.now) ≡ None) }

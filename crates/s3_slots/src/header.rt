@@ -12,7 +12,7 @@ use s3_store::Stretch;
 pub enum Format {
     /// The first format, `S3PACK01`: a file has one extent, and each level may have 64 lines queued.
     First,
-    /// The second format, `S3PACK02`: a file has up to four extents, and the quotas stand in the header.
+    /// The second format, `S3PACK02`: a file has up to four extents, and the header has the quotas.
     Second,
 }
 
@@ -59,7 +59,7 @@ fn format_in(bytes: &[u8; 256]) -> Option<Format>
     }
 }
 
-/// The run of sectors whose start and length stand in the bytes from a place on.
+/// The run of sectors whose start and length are the bytes from a place on.
 pub fn stretch_at(at: usize, bytes: &[u8]) -> Stretch
     requires { at + 4 ≤ length bytes.now }
     ensures { result ≡ stretch_spec at bytes.now }
@@ -103,7 +103,7 @@ pub fn are_quotas(one: u8, two: u8) -> bool
     1 <= one && 1 <= two && u16::from(one) + u16::from(two) <= 128
 }
 
-/// Whether a region is whole tracks, behind the spool blocks and before the end.
+/// Whether a region is whole tracks, after the spool blocks and before the end.
 fn is_region(total: u16, region: Stretch) -> bool
     ensures { result ≡ is_region_spec total region }
 {

@@ -30,13 +30,13 @@ pub struct FileLabel {
     pub retention: Retention,
     /// The length of each record in bytes, 1 to 1,024 in a sound label.
     pub record_length: u16,
-    /// The length of a key in bytes, 1 to 29 in a sound label; 0 where the file has no index.
+    /// The length of a key in bytes, 1 to 29 in a sound label; 0 if the file has no index.
     pub key_length: u8,
-    /// The first byte of the key in a record, from 1; 0 where the file has no index.
+    /// The first byte of the key in a record, from 1; 0 if the file has no index.
     pub key_start: u16,
-    /// The runs of sectors where the file is, one to four.
+    /// The runs of sectors of the file, one to four.
     pub extents: Extents,
-    /// For how many records the file has room, at least 1 in a sound label.
+    /// The number of records for which the file has space, at least 1 in a sound label.
     pub capacity: u32,
     /// How many records the file has, as the last job that closed it left it.
     pub count: u32,
@@ -64,7 +64,7 @@ impl FileLabel {
     }
 }
 
-/// The organization that a code stands for.
+/// The organization of a code.
 pub fn organization_by(code: u8) -> Option<Organization>
     ensures { result ≡ organization_spec code }
 {
@@ -79,7 +79,7 @@ pub fn organization_by(code: u8) -> Option<Organization>
     }
 }
 
-/// The retention that a code stands for.
+/// The retention of a code.
 pub fn retention_by(code: u8) -> Option<Retention>
     ensures { result ≡ retention_spec code }
 {

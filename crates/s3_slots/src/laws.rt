@@ -1,4 +1,4 @@
-//! Worked rows of headers, labels and slots.
+//! Worked examples of headers, labels and slots.
 ghost use Rattle.std.specs.Prelude.{ℕ, List, true, ◌≡◌, ◌*◌, ◌/◌, ◌++◌, [], ◌∷◌, length, take, drop, replicate, slice_get, slice_set, Some, Ok, Err};
 ghost use Rattle.s3_slots.specs.Header.{mounted};
 ghost use Rattle.s3_slots.specs.Inner.Labels.{label_bytes, IsWritable};
@@ -57,7 +57,7 @@ pub fn files_take_whole_tracks()
     ensures planned { planned 0 Second ten.level_one all_free (file 0xc1 6 ∷ file 0xc2 5 ∷ []) all_free ≡ Err (1, NoSpace) }
 {}
 
-/// Between files of 2 tracks, 3 free ones and 2, and 3 more behind: 5 tracks are made in two pieces, 7 aren't.
+/// Between files of 2 tracks, 3 free ones and 2, and 3 more after: 5 tracks are made in two pieces, 7 aren't.
 pub fn room_in_pieces_is_taken_in_the_second_format()
     ensures first { made First ten.level_one all_free (file 0xc4 5) (without_b First) ≡ Err NoSpace }
     ensures second { made Second ten.level_one all_free (file 0xc4 5) (without_b Second) ≡ Ok (slice_set (without_b Second) 1 (Sound d_label)) }
@@ -76,7 +76,7 @@ pub fn damage_blocks_its_label_and_its_slot()
     ensures elsewhere { standing (named 0xc2) (slots_of Second ten.level_two 1 (two_files 24 24 0)) ≡ Blocked }
 {}
 
-/// The files of an area stay apart: so a mount judges them, and so they stay where a file is made, counted or dropped.
+/// The files of an area don't overlap after a mount, and they still don't after a file is made, counted or dropped.
 pub fn files_stay_apart()
     ensures judged { (format : Format) (region : Stretch) (area : ℕ) (contents : List (List ℕ)) → AreKept region (slots_of format region area contents) }
     ensures made { (format : Format) (region : Stretch) (masters : List Slot) (new : NewFile) (slots after : List Slot) → IsWhole region → IsNewFile new → AreKept region slots → made format region masters new slots ≡ Ok after → AreKept region after }

@@ -1,18 +1,12 @@
-//! What a pack's header and its label slots say: regions, files, what of them is damaged, and where new files go.
-//! docs/PACK.md has the bytes and the rules.
+//! What a pack's header and its label slots say: regions, files, what of them is damaged, and where new files go. docs/PACK.md
+//! has the bytes and the rules.
 //!
-//! What is proved, for every input:
-//!
-//! - `accept` takes a header exactly by its tests, in their order.
-//! - `judge` makes of a slot what its bytes and the slots before it make it: free, damaged or sound. Damage blocks its slot
-//!   and its label, and nothing else (`damage_blocks_its_label_and_its_slot`).
-//! - `make_in` refuses a new file as is defined, or puts it into the lowest free slot, at the lowest place of its region
-//!   that meets no sound file, or in the second format into at most four free stretches, the lowest; `place_in`, `recount`
-//!   and `free` change the slot of a file alone. Files that stay apart still do after each of these (`files_stay_apart`).
-//! - A label that `bytes_of` writes reads back as itself, in both formats (`a_label_reads_back`).
-//!
-//! Headers, slots and room are worked by hand and computed (`a_header_is_accepted_by_its_tests`, `quotas_are_1_to_127`,
-//! `a_label_is_64_bytes`, `files_take_whole_tracks`, `room_in_pieces_is_taken_in_the_second_format`).
+//! `accept` is proved to accept a header exactly by its tests, in their order. `judge` is proved to classify a slot as free,
+//! damaged or sound by its bytes and the slots before it; damage blocks only the slot and its label
+//! (`damage_blocks_its_label_and_its_slot`). `make_in` is proved to refuse a new file as specified, or to put it into the lowest
+//! free slot at the lowest place that meets no sound file; in the second format a file may have up to four extents. Files that
+//! don't overlap still don't after each call (`files_stay_apart`), and a label that is written reads back (`a_label_reads_back`).
+//! Worked examples of headers, labels and slots are computed by the proofs.
 
 #![tactic(auto)]
 

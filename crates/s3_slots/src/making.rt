@@ -121,7 +121,7 @@ fn tracks_of(new: &NewFile) -> u64
     }
 }
 
-/// For how many records a new file has room.
+/// The number of records for which a new file has space.
 fn capacity_of(new: &NewFile) -> u32
     requires key { new.now.key_length ≤ 29 }
     requires length { 1 ≤ new.now.record_length }
@@ -206,7 +206,7 @@ fn put(
     })
 }
 
-/// Puts a new file in place of what stands under its name.
+/// Puts a new file in place of the old one of its name.
 fn put_over(
     format: Format,
     region: Stretch,
@@ -286,8 +286,8 @@ fn put_instead(
     }
 }
 
-/// Makes a file in a level's region: changes the level's slots, and says which. Where it is refused, with `Master` where a
-/// master has the label, then as `LabelFault` says, all slots stay. An old file of the label goes, unless it is permanent
+/// Makes a file in a level's region: changes the level's slots, and says which. Where it is refused, with `Master` if a master
+/// has the label, then as `LabelFault` says, all slots stay. An old file of the label goes, unless it is permanent
 /// (docs/PACK.md).
 #[tactic(auto, unfolding(crate::specs::Making::made))]
 pub fn make_in(

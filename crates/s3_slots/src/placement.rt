@@ -53,7 +53,7 @@ pub fn lowest_place(region: Stretch, slots: &[Slot], tracks: u64) -> Option<Stre
     None
 }
 
-/// Puts a run that has sectors behind the others.
+/// Puts a run that has sectors after the others.
 #[tactic(auto, using(std::proofs::Common::append_assoc))]
 fn end_run(runs: &mut Extents, run: Stretch)
     requires { length runs.old < 4 }
@@ -104,7 +104,7 @@ fn is_full(runs: &Extents) -> bool
     runs.as_slice().len() >= 4
 }
 
-/// Puts so many sectors of these stretches behind the others, the last one as far as needed.
+/// Puts so many sectors of these stretches after the others, the last one as far as needed.
 #[tactic(auto, using(std::proofs::Common::append_assoc))]
 fn cut(sectors: u64, stretches: &[Stretch], extents: &mut Extents)
     requires few { length extents.old + length stretches.now ≤ 4 }

@@ -9,7 +9,7 @@ use crate::stretch::{are_apart, is_apart_from_all, is_inside, sectors_of};
 use s3_cards::Name;
 use s3_store::Stretch;
 
-/// What stands in a slot.
+/// What a slot has.
 #[derive(Drop)]
 pub enum Slot {
     /// No file: the slot's first byte is 0.
@@ -213,14 +213,14 @@ fn are_clear(earlier: &[Slot], extents: &[Stretch]) -> bool
     extents.iter().all(|extent| is_clear(earlier, *extent))
 }
 
-/// Whether a label neither meets a sound extent nor repeats the name of a sound slot.
+/// Whether a label meets no sound extent and doesn't repeat the name of a sound slot.
 fn is_disentangled(earlier: &[Slot], label: &FileLabel) -> bool
     ensures { result ≡ is_disentangled_spec earlier.now label.now }
 {
     are_clear(earlier, label.extents.as_slice()) && !any_bears(label.name, earlier)
 }
 
-/// Whether a label is sound behind the slots before it.
+/// Whether a label is sound, given the slots before it.
 fn is_sound(region: Stretch, earlier: &[Slot], label: &FileLabel) -> bool
     ensures { result ≡ is_sound_spec region earlier.now label.now }
 {

@@ -6,7 +6,7 @@ ghost use Rattle.s3_slots.specs.Stretches.{is_apart as is_apart_spec, is_apart_f
 
 use s3_store::Stretch;
 
-/// The number of the first sector behind a run.
+/// The number of the first sector after a run.
 pub fn end_of(stretch: Stretch) -> u32
     ensures { result ≡ end_spec stretch }
 {

@@ -1,4 +1,4 @@
-//! What the definitions say of themselves: worked rows, and each switch after the start of a job.
+//! What the definitions say of themselves: worked examples, and each switch after the start of a job.
 ghost use Rattle.std.specs.Prelude.{◌≡◌, ◌≤◌, ℕ, false, List, [], ◌∷◌, Some, None, Ok};
 ghost use Rattle.s3_ocl.specs.declared.values.Switch.{Switch};
 ghost use Rattle.s3_meaning.specs.Environment.{switch_on};
@@ -22,7 +22,7 @@ ghost use Rattle.s3_solo.specs.Inner.Samples.{after_turns, at_halt, first_line, 
 /// The deck that compiles the card lister and lists ABC and DEF. Its turns are: compile, start, card, line, card, line, end of
 /// the cards, end of the job.
 pub fn card_lister_lists()
-    // both lines stand after eight turns, and nothing is left to do
+    // both lines are printed after eight turns, and nothing is left to do
     ensures whole { (after_turns 8).lines.printed ≡ listing }
     ensures over { (step_of (after_turns 8) Turn).did ≡ Idle }
     ensures no_halts { (after_turns 8).halts ≡ [] }
@@ -31,14 +31,14 @@ pub fn card_lister_lists()
     ensures five { (closed (after_turns 5)).lines.printed ≡ first_line ∷ [] }
 {}
 
-/// Each of U1 to U8 is on after the start of a job where the job sets it on, or leaves it and it was on.
+/// Each of U1 to U8 is on after the start of a job if the job sets it on, or leaves it and it was on.
 #[tactic(auto, using(crate::proofs::SwitchLaw::each_switch))]
 pub fn each_switch_is_set()
     ensures { (switches : List Switch) (was n : ℕ) → 1 ≤ n → n ≤ 8 → switch_on (switches_after switches was) n ≡ is_on_after (switch_of switches n) (switch_on was n) }
 {}
 
-/// A job that couldn't be started is passed over by reply 2 or 3, which stands in its halt: the next turn begins the next job.
-/// Reply 0 is refused with 2, and a reply where no halt waits with 1; both change nothing.
+/// Replies 2 and 3 pass over a job that couldn't be started: the halt has the reply, and the next turn begins the next job. Reply
+/// 0 is refused with 2, and a reply when no halt waits with 1; both change nothing.
 pub fn replies_pass_jobs_over()
     ensures not_allowed { step_of (at_halt two_jobs_deck) (Reply 0) ≡ refused 2 (at_halt two_jobs_deck) }
     ensures none_waits { step_of (at_first two_jobs_deck) (Reply 3) ≡ refused 1 (at_first two_jobs_deck) }
@@ -60,15 +60,15 @@ pub fn jobs_set_date_and_switches()
 {}
 
 /// A level goes the same way over a pack of the second format as over the same pack in the first, and its entries get the same
-/// answers, where no halt NS (no space) is shown.
+/// answers, if no halt NS (no space) is shown.
 pub fn formats_differ_in_space_alone()
     ensures run { (w : World) (actions : List Action) → shows_no_space (solo w actions).halts ≡ false → solo (over_second w) actions ≡ over_second (solo w actions) }
     ensures answers { (w : World) (actions : List Action) → shows_no_space (solo w actions).halts ≡ false → answers (over_second w) actions ≡ answers w actions }
     ensures end { (w : World) → closed (over_second w) ≡ over_second (closed w) }
 {}
 
-/// A level begins over a migrated pack as over the old one, but for the format. It goes the same way and its entries get the same
-/// answers, where no halt NS (no space) is shown.
+/// A level begins over a migrated pack as over the old one, except for the format. It goes the same way and its entries get the
+/// same answers, if no halt NS (no space) is shown.
 pub fn a_migrated_pack_gives_the_same_run()
     ensures start { (old new : List ℕ) (header : Header) (level : LevelId) (deck : List (List ℕ)) → mounted (contents_of old) ≡ Ok header → migrated old ≡ Ok new → at_start level (in_second header) (contents_of new) deck ≡ over_second (at_start level header (contents_of old) deck) }
     ensures run { (old new : List ℕ) (header : Header) (level : LevelId) (deck : List (List ℕ)) (actions : List Action) → mounted (contents_of old) ≡ Ok header → migrated old ≡ Ok new → shows_no_space (solo (at_start level header (contents_of old) deck) actions).halts ≡ false → solo (at_start level (in_second header) (contents_of new) deck) actions ≡ over_second (solo (at_start level header (contents_of old) deck) actions) }

@@ -1,18 +1,12 @@
-//! The world of one level and the solo run: what its own entries make of it, apart from any code.
+//! The abstract state of one level and the reference model: what its own entries make of it, apart from any code.
 //!
-//! The crate has definitions and laws of them, and no code that runs. A world is a level's deck, library, switches and date, its
-//! files and the masters', the job at work with its answers so far, printed lines and halts (specs/World.antt);
-//! specs/Serving.antt says what the start of a job and each request make of it, and specs/Solo.antt what a level's entries do.
-//! Nothing of the other level stands there.
-//!
-//! What is proved of the definitions:
-//! - worked rows: the card lister's run (`card_lister_lists`), each switch after the start of a job (`each_switch_is_set`), what
-//!   a job sets of date and switches (`jobs_set_date_and_switches`), replies to jobs that couldn't be started
-//!   (`replies_pass_jobs_over`);
-//! - a level goes the same way over a pack that was brought into the second format as over the old one, with the same answers,
-//!   unless a halt `NS` is shown there (`a_migrated_pack_gives_the_same_run`).
-//!
-//! No run over files is computed here; `s3_opening` and `s3_job_files` have computed rows of what it cites.
+//! The crate has definitions and theorems, and no code that runs. The abstract state is a level's deck, library, switches and
+//! date, its files and the masters' files, the job at work with its answers so far, the printed lines and the halts
+//! (specs/World.antt). specs/Serving.antt says what the start of a job and each request do to it, and specs/Solo.antt what a
+//! level's entries do; nothing of the other level is in it. A level is proved to go the same way over a migrated pack as over the
+//! old one, unless a halt `NS` is shown (`a_migrated_pack_gives_the_same_run`). Worked examples are computed by the proofs:
+//! `card_lister_lists`, `each_switch_is_set`, `jobs_set_date_and_switches` and `replies_pass_jobs_over`. Runs over files have
+//! worked examples in `s3_opening` and `s3_job_files`.
 
 #![tactic(auto)]
 

@@ -46,7 +46,7 @@ pub fn push_fault(
     writeln!(text, "   {number:02}  {words}")
 }
 
-/// Appends why a card has a fault, under the words of the fault; nothing for an empty reason.
+/// Appends why a card has a fault, under the text of the fault; nothing for an empty reason.
 pub fn push_reason(text: &mut String, margin: Margin, reason: &str) -> Result<(), AllocError> {
     if reason.is_empty() {
         return Ok(());

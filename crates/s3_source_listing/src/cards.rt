@@ -1,8 +1,8 @@
-//! The cards where a name or an indicator is.
+//! The cards on which a name or an indicator is.
 
 use std::alloc::{AllocError, Global};
 
-/// The cards where a name or an indicator is, in their order. A card is listed once where it names it again and again.
+/// The cards on which a name or an indicator is, in their order. A card that names it several times is listed once.
 #[derive(Drop)]
 pub struct Cards {
     /// Those that define the name, or set the indicator.
@@ -44,7 +44,7 @@ fn add_card(cards: &mut Vec<u16>, card: u16) -> Result<(), AllocError> {
     Ok(())
 }
 
-/// Appends the numbers of cards after a word; nothing where there is no card.
+/// Appends the numbers of cards after a word; nothing if there is no card.
 pub fn push_cards_behind(text: &mut String, word: &str, cards: &[u16]) -> Result<(), AllocError> {
     if cards.is_empty() {
         return Ok(());

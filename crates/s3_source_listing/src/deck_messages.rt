@@ -33,7 +33,7 @@ pub struct DeckMessages {
     pub outcome: Outcome,
 }
 
-/// The text of an error: its number, its words, and if there is one its reason.
+/// The text of an error: its number, its text, and its reason if there is one.
 fn error_text(alloc: Global, number: u8, words: &str, reason: &str) -> Result<String, AllocError> {
     let mut text = String::new(alloc);
     write!(text, "error {number:02}: {words}")?;

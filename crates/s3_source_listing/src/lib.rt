@@ -1,11 +1,10 @@
 //! Listings of sources: each card with its diagnostics, and then what the program has. docs/LISTINGS.md says what they look like.
 //!
-//! What is proved: `notes_of_cards` gives for each card exactly the numbers that it has among a source's diagnostics, in order, each with
-//! exactly the columns of those of its entries that are at fault by it, and `notes_under` what that has for a card; `s3_blame` says which
-//! diagnostics and entries a source has, and has the one table of words, and `s3_warnings`
-//! which warnings. `messages_of` gives a message for each diagnostic of a source, with the columns of its first marked entry, and one for
-//! each kind of warning of a card. Each call is safe and returns. How messages are written is tested. The layout, the tables after the
-//! cards, and the columns that are marked for 5 to 12 are tested.
+//! `notes_of_cards` is proved to give for each card exactly its numbers among a source's diagnostics, in order, each with the
+//! columns of the card's entries that are in error by it. `messages_of` is proved to give a message for each diagnostic of a
+//! source, with the columns of its first marked entry, and one for each kind of warning of a card. `s3_blame` has the
+//! diagnostics, their entries and their texts, and `s3_warnings` the warnings. Each call is proved to be safe and to return. Only
+//! tested: the form of messages, the layout, the tables after the cards, and the marked columns for 5 to 12.
 
 #![tactic(auto)]
 

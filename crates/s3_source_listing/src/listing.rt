@@ -100,7 +100,7 @@ pub(crate) fn columns_of_statement(card: &Card) -> Columns {
     }
 }
 
-/// Whether a card looks like one of a source: no more than page and line are in front of column 6, and there the letter of a sheet, or
+/// Whether a card looks like one of a source: no more than page and line are before column 6, and there the letter of a sheet, or
 /// after it the `*` of a comment.
 fn is_of_source(card: &Card) -> bool {
     let is_sheet = matches!(
@@ -113,7 +113,7 @@ fn is_of_source(card: &Card) -> bool {
             .all(|code| *code == BLANK || is_digit(*code))
 }
 
-/// Whether a card of a source is where a statement is wanted.
+/// Whether a card of a source is in the place of a statement.
 pub(crate) fn is_bare_source(fault: JobFault, card: &Card) -> bool {
     fault == JobFault::NotOcl && is_of_source(card)
 }

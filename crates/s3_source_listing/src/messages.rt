@@ -100,7 +100,7 @@ fn unmarked(run: RunCard, card: u16) -> Columns
     }
 }
 
-/// The message of a diagnostic, given the entries of its card that are at fault.
+/// The message of a diagnostic, given the entries of its card that are in error.
 fn error_of(
     alloc: Global,
     run: RunCard,
@@ -117,7 +117,8 @@ fn error_of(
     })
 }
 
-/// The messages of diagnostics, given the entries that are at fault. Each diagnostic is looked at with the entries of its card alone.
+/// The messages of diagnostics, given the entries that are in error. Each diagnostic is looked at with the entries of its card
+/// alone.
 #[tactic(auto, using(crate::proofs::MessageLemmas::narrowed_error))]
 fn errors_of(
     alloc: Global,
@@ -188,8 +189,8 @@ fn warned(alloc: Global, warnings: &[Warning]) -> Result<Vec<WarningMessage>, Al
     Ok(messages)
 }
 
-/// The messages of a source, which is in a deck from place `from` up to but without place `to`: its diagnostics, or its warnings if it has
-/// none. It is refused only if memory runs out.
+/// The messages of a source: its diagnostics, or its warnings if it has none. The source is in a deck from place `from` up to but
+/// without place `to`. Refused only if memory runs out.
 #[tactic(auto, using(crate::proofs::MessageLemmas::no_card_at_fault, crate::proofs::MessageLemmas::diagnosed_all))]
 pub fn messages_of(
     alloc: Global,

@@ -5,7 +5,7 @@ use s3_lines::sheet::{
     CalculationLine, Factor, FileLine, InputLine, Operation, OutputContent, OutputLine, SheetLine,
 };
 
-/// What a name stands for.
+/// The kind of a name.
 #[derive(Clone, Copy)]
 pub enum Sort {
     /// A file.
@@ -21,7 +21,7 @@ pub enum Sort {
 /// A name on a card.
 #[derive(Clone, Copy)]
 pub struct NameMention {
-    /// What it stands for.
+    /// The kind of the name.
     pub sort: Sort,
     /// The name.
     pub name: Name,
@@ -97,7 +97,7 @@ fn name_of_factor2(line: &CalculationLine) -> Option<NameMention> {
     }
 }
 
-/// The result, which the card defines where it has an operation and a length.
+/// The result, which the card defines if it has an operation and a length.
 fn name_of_result(line: &CalculationLine) -> Option<NameMention> {
     match (line.result, line.operation, line.definition) {
         (Some(name), Some(_), Some(_)) => defined(Sort::Field, name),

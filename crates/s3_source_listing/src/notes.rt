@@ -14,7 +14,7 @@ use std::alloc::{AllocError, Global};
 pub struct Note {
     /// The number of the diagnostic.
     pub number: u8,
-    /// The columns of the entries that are at fault by it.
+    /// The columns of the entries that are in error by it.
     pub marked: Vec<Columns>,
 }
 
@@ -69,7 +69,7 @@ fn add_note(alloc: Global, notes: &mut CardNotes, card: u16, note: Note) -> Resu
     Ok(())
 }
 
-/// Adds a diagnostic to the notes of its card, with the columns of those of the card's entries that are at fault by it.
+/// Adds a diagnostic to the notes of its card, with the columns of those of the card's entries that are in error by it.
 fn add_diagnostic(
     alloc: Global,
     notes: &mut CardNotes,
@@ -87,9 +87,9 @@ fn add_diagnostic(
     add_note(alloc, notes, diagnostic.card, note)
 }
 
-/// What a listing has under each card of a source: of all its diagnostics those of the card, in their order, each with the columns of
-/// those of the card's entries that are at fault by it. Each diagnostic and each entry is looked at once, and then only with those of
-/// its card. It is refused only if memory runs out.
+/// What a listing has under each card of a source: of all its diagnostics those of the card, in their order, each with the
+/// columns of those of the card's entries that are in error by it. Each diagnostic and each entry is looked at once, and then
+/// only with those of its card. It is refused only if memory runs out.
 pub fn notes_of_cards(
     alloc: Global,
     found: &[Diagnostic],
@@ -107,7 +107,7 @@ pub fn notes_of_cards(
     Ok(notes)
 }
 
-/// What a listing has under a card; nothing where it has no diagnostics.
+/// What a listing has under a card; nothing if it has no diagnostics.
 pub fn notes_under(notes: &CardNotes, card: u16) -> &[Note]
     ensures { result.now ≡ notes_in notes.now card }
 {

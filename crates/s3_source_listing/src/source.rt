@@ -252,7 +252,8 @@ fn push_what_it_has(
     }
 }
 
-/// What is wrong with a source: its diagnostics, by card and then number, and where they are of single cards all entries at fault.
+/// What is wrong with a source: its diagnostics, by card and then number, and all entries in error if the diagnostics are of
+/// single cards.
 pub(crate) fn faults_of(
     alloc: Global,
     deck: &Deck,

@@ -1,4 +1,4 @@
-//! What a program has: its files, fields, indicators, tags and subroutines, with the cards where they are.
+//! What a program has: its files, fields, indicators, tags and subroutines, with the cards on which they are.
 
 use crate::cards::{Cards, push_cards_behind, push_numbers};
 use crate::files::words_of_use;
@@ -30,7 +30,7 @@ pub fn push_tables(
     }
 }
 
-/// Appends the lines of a table under its heading; nothing where it has none.
+/// Appends the lines of a table under its heading; nothing if it has none.
 fn push_table(text: &mut String, heading: &str, lines: &str) -> Result<(), AllocError> {
     if lines.is_empty() {
         return Ok(());
@@ -264,7 +264,7 @@ fn push_reference_lines(
     push_all_indicators(text, &indicators)
 }
 
-/// What a name stands for, as a column of words.
+/// The kind of a name, as a column of words.
 fn words_of_sort(sort: Sort) -> &'static str {
     match sort {
         Sort::File => "file        ",

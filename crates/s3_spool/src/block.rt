@@ -39,7 +39,7 @@ fn put_text(block: &mut [u8; 256], text: &[u8])
     }
 }
 
-/// What stands before the text of a line.
+/// The bytes before the text of a line.
 fn head_of(page: u16, line: u8, length: u8) -> [u8; 4]
     ensures { result ≡ big_bytes 2 page ++ line ∷ «length» ∷ [] }
 {
@@ -78,7 +78,7 @@ fn text_length(length: u8) -> usize
     }
 }
 
-/// Makes the positions behind a text blank.
+/// Makes the positions after a text blank.
 fn blank_behind(width: usize, positions: &mut [u8])
     requires { width ≤ length positions.old }
     ensures { positions.new ≡ take width positions.old ++ replicate (length positions.old - width) BLANK }
@@ -86,7 +86,7 @@ fn blank_behind(width: usize, positions: &mut [u8])
     positions[width..].fill(BLANK);
 }
 
-/// The positions of a line whose text has this width, with blanks behind it.
+/// The positions of a line whose text has this width, with blanks after it.
 #[inline(always)]
 fn positions_of(block: &[u8; 256], width: usize) -> [u8; PRINT_POSITIONS]
     requires { width ≤ 132 }

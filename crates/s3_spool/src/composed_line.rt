@@ -3,8 +3,7 @@
 use s3_cards::PrintLine;
 use std::marker::Model;
 
-/// A printed line whose text stands elsewhere: its page, its line on the page, and the 1 to 132 EBCDIC bytes of the print
-/// record.
+/// A printed line whose text is borrowed: its page, its line on the page, and the 1 to 132 EBCDIC bytes of the print record.
 #[derive(Drop)]
 pub struct ComposedLine<'a> {
     page: u16,

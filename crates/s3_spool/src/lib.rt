@@ -1,12 +1,10 @@
 //! Queues of printed lines, one for each level, in the 128 spool blocks of a pack.
 //!
-//! What is proved, for every call: `put`, `put_composed` and `take` are those of a queue of lines for each level, whatever
-//! bytes stood in the blocks, and leave the other level's queue as it was; `QuotaFull` is answered exactly where the level
-//! has as many lines queued as its quota, and `Empty` exactly where it has none; refused, the queues stay. A `put` changes
-//! the sector of a block that holds no line, and no other; a `take` changes none. The count of failed transfers is that of
-//! the answers. A block is worked by hand and computed (`a_line_stands_in_its_block`).
-//!
-//! Nobody says which free block a line is put into.
+//! `put`, `put_composed` and `take` are proved to be those of a queue of lines for each level, whatever bytes were in the blocks,
+//! and to leave the other level's queue as it was. `QuotaFull` is proved to come exactly if the level has as many queued lines as
+//! its quota, and `Empty` exactly if it has none; a refused call leaves the queues as they were. A `put` changes only the sector
+//! of a block that holds no line, and a `take` changes none. A worked example of a block is computed by the proofs
+//! (`a_line_stands_in_its_block`). Which free block a line is put into isn't specified.
 
 #![tactic(auto)]
 

@@ -184,11 +184,11 @@ impl Spool {
         self.free.push_front(block);
     }
 
-    /// Puts a line behind the last one of a level's queue.
+    /// Puts a line after the last one of a level's queue.
     ///
-    /// Refused `QuotaFull` exactly where the level has as many lines queued as its quota, and by the sectors' faults;
-    /// refused, the queues stay, and at `QuotaFull` the sectors are left alone. `sectors` are those of a pack: the spool's
-    /// blocks are sectors 25 to 152.
+    /// Refused with `QuotaFull` exactly if the level has as many queued lines as its quota; then no sector is touched. Also
+    /// refused by the faults of the sectors. A refused call leaves the queues as they were. `sectors` are those of a pack: the
+    /// spool's blocks are sectors 25 to 152.
     pub fn put<P: Sectors>(
         &mut self,
         level: LevelId,
@@ -211,11 +211,11 @@ impl Spool {
         self.put_composed(level, &ComposedLine::of(line), sectors)
     }
 
-    /// Puts a line whose text stands elsewhere behind the last one of a level's queue.
+    /// Puts a line whose text is borrowed after the last one of a level's queue.
     ///
-    /// Refused `QuotaFull` exactly where the level has as many lines queued as its quota, and by the sectors' faults;
-    /// refused, the queues stay, and at `QuotaFull` the sectors are left alone. `sectors` are those of a pack: the spool's
-    /// blocks are sectors 25 to 152.
+    /// Refused with `QuotaFull` exactly if the level has as many queued lines as its quota; then no sector is touched. Also
+    /// refused by the faults of the sectors. A refused call leaves the queues as they were. `sectors` are those of a pack: the
+    /// spool's blocks are sectors 25 to 152.
     #[tactic(auto)]
     pub fn put_composed<P: Sectors>(
         &mut self,
@@ -249,7 +249,8 @@ impl Spool {
 
     /// Takes the first line off a level's queue.
     ///
-    /// Refused `Empty` exactly where the level has none queued, and by the sectors' faults; refused, the queues stay.
+    /// Refused with `Empty` exactly if the level has no queued line, and by the faults of the sectors. A refused call leaves the
+    /// queues as they were.
     #[tactic(auto, using(crate::proofs::BlocksLemmas::first_of_queue, crate::proofs::BlocksLemmas::taken_quota, crate::proofs::BlocksLemmas::taken_other))]
     pub fn take<P: Sectors>(
         &mut self,

@@ -58,7 +58,7 @@ impl Extents {
         &self.runs[..self.count]
     }
 
-    /// Puts one more run behind the others, of which there are at most three.
+    /// Puts one more run after the others, of which there are at most three.
     pub fn push(&mut self, run: Stretch)
         requires { length self.old < 4 }
         ensures { self.new ≡ self.old ++ run ∷ [] }

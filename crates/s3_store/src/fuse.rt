@@ -1,4 +1,4 @@
-//! A store that fails at one call, for tests of what stands above it.
+//! A store that fails at one call, for tests of the layers above it.
 ghost use Rattle.std.specs.Prelude.{◌≡◌, ◌≢◌, ◌+◌, ◌-◌, ◌<◌, ◌==◌, length, slice_get, slice_set, Some, OnOk, OnErr, IsErr, true, false, if◌then◌else◌};
 ghost use Rattle.s3_store.specs.Inner.Failures.{failed_calls, fuse_failures};
 
@@ -25,7 +25,7 @@ impl<S: PackStore> Model for FuseStore<S> {
 }
 
 impl<S: PackStore> FuseStore<S> {
-    /// Fails at read or write `k`, counted from 1, and at no other, and passes each other one on once. It never fails for 0.
+    /// A store that fails at read or write `k`, counted from 1, and passes every other call on once. It never fails if `k` is 0.
     pub fn new(inner: S, k: u64) -> Self
         ensures inner { result.inner ≡ inner }
         ensures calls_left { result.calls_left ≡ k }

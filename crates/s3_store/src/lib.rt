@@ -1,14 +1,10 @@
 //! Stores of sectors, and the trait of sectors that the layers above share.
 //!
-//! What is proved, for every call: what it reads, which sector it sets, and whether it counts as failed, as `PackStore` says
-//! for stores and `Sectors` for stores and the pool over them, where also a part of a sector is read or changed.
-//! `MemoryStore` is a `PackStore` that never fails; `FuseStore` fails at exactly the call that it is set for and else
-//! answers what the store behind it answers. `Extents` is a list of at most four runs. The definitions say, too, which
-//! sectors a call leaves as they were (`KeepsContents`, `ChangesWithin`), in the store as well, and the layers above are
-//! proved by that.
-//!
-//! Nobody says what a failed transfer leaves of the bytes that the caller reads into. That a real device does what
-//! `PackStore` says is a premise.
+//! `PackStore` says what a store does, and `Sectors` what a store or a pool over it does: what a call reads, which sector it
+//! sets, and whether it counts as failed. `MemoryStore` is proved to be a `PackStore` that never fails. `FuseStore` is proved to
+//! fail at exactly the call that it is set for, and to answer as the store below it at all other calls. Which sectors a call
+//! leaves as they were is part of the contracts (`KeepsContents`, `ChangesWithin`). Not specified: which bytes a failed transfer
+//! leaves in the caller's buffer. That a real device does what `PackStore` says is a premise.
 
 #![tactic(auto)]
 

@@ -26,7 +26,7 @@ impl Model for MemoryStore {
 impl MemoryStore {
     ghost use Rattle.s3_store.specs.Contents.{sectors_of};
 
-    /// A store of the first 65,535 whole sectors of these bytes, or of all if there are fewer; the bytes behind are dropped.
+    /// A store of the first 65,535 whole sectors of these bytes, or of all if there are fewer; the bytes after are dropped.
     pub fn from_bytes(mut bytes: Vec<u8>) -> Self
         ensures { result ≡ take 65535 (sectors_of bytes.items) }
     {

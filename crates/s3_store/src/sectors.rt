@@ -25,8 +25,8 @@ pub trait Sectors {
         ensures keeps { KeepsContents (state self.old) (state self.new) }
         ensures failures { (state self.new).failures ≡ (state self.old).failures + failed_transfers result };
 
-    /// Reads the bytes of sector `n`, which must be there, that begin at byte `at` and end within it. No sector changes;
-    /// refused with `Device` or `NoMemory`, where `piece` stays as it was.
+    /// Reads the bytes of sector `n`, which must be there, that begin at byte `at` and end within it. No sector changes. Refused
+    /// with `Device` or `NoMemory`; then `piece` stays as it was.
     fn read_part(&mut self, n: u16, at: usize, piece: &mut [u8]) -> Result<(), SectorFault>
         requires there { n < length (state self.old).contents }
         requires fits { at + length piece.old ≤ 256 }
@@ -35,7 +35,8 @@ pub trait Sectors {
         ensures keeps { KeepsContents (state self.old) (state self.new) }
         ensures failures { (state self.new).failures ≡ (state self.old).failures + failed_transfers result };
 
-    /// Sets sector `n`, which must be there, to these bytes. Refused with `Device` or `NoMemory`, no sector shows other bytes.
+    /// Sets sector `n`, which must be there, to these bytes. Refused with `Device` or `NoMemory`; then every sector shows the
+    /// bytes that it had.
     fn write_sector(&mut self, n: u16, bytes: &[u8; 256]) -> Result<(), SectorFault>
         requires { n < length (state self.old).contents }
         ensures ok { OnOk result ((state self.new).contents ≡ slice_set (state self.old).contents n bytes.now) }

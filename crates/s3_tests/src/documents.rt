@@ -1,5 +1,5 @@
 //! Documents that no command asks for: without lines, and with more pages than one may have. A whole one is in a worked row,
-//! `operate-paper-pdf`; `tools/test-paper` has others read by programs for PDF.
+//! `operate-paper-pdf`; `tools/search/test-paper` has others read by programs for PDF.
 
 use s3_cards::ebcdic::BLANK;
 use s3_cards::{PRINT_POSITIONS, PrintLine};

@@ -127,7 +127,7 @@ fn the_seventeenth_sector_sends_the_first_one_to_the_store(rt: HostRuntime) -> R
     Ok(())
 }
 
-/// A sector that is wholly overwritten is not read: the first transfer, which fails here, is that of the flush.
+/// A sector that is wholly overwritten isn't read: the first transfer, which fails here, is the transfer of the flush.
 #[test]
 fn a_whole_sector_is_written_without_a_read(rt: HostRuntime) -> Result<(), Fail> {
     let mut pool = blank_pool(rt.alloc(), 1)?;
@@ -142,7 +142,7 @@ fn a_whole_sector_is_written_without_a_read(rt: HostRuntime) -> Result<(), Fail>
     Ok(())
 }
 
-/// The store has a spool block at once where all buffers are in use, and no other sector is displaced for it.
+/// If all buffers are in use, a spool block is written to the store at once, and no other sector is displaced for it.
 #[test]
 fn a_spool_block_goes_past_a_full_pool(rt: HostRuntime) -> Result<(), Fail> {
     let mut pool = blank_pool(rt.alloc(), NO_CALL)?;
@@ -178,7 +178,7 @@ impl Run {
     }
 }
 
-/// Writes all, each sector twice where the first time may have failed.
+/// Writes all, each sector twice if the first time may have failed.
 fn write_all<S: PackStore>(pool: &mut Pool<S>, run: &mut Run) {
     for i in 0..COUNT {
         let n = FIRST + u16::from(i);
@@ -221,7 +221,7 @@ fn a_fuse_at_each_call_of_the_run(rt: HostRuntime) -> Result<(), Fail> {
         let run = run_with_fuse(rt.alloc(), k)?;
         assert!(rt; run.is_right & (run.faults <= 1), "fuse at call {k}");
         if run.faults == 0 {
-            // Of 17 sectors in turn none is still in one of 16 buffers, so each is read twice.
+            // If 17 sectors are read in turn, none is still in one of 16 buffers, so each is read twice.
             assert!(rt; k > 34, "the run made fewer than {k} transfers");
             return Ok(());
         }

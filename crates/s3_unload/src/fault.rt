@@ -14,7 +14,7 @@ pub enum UnloadFault {
     NotFound,
     /// A damaged slot has that label.
     DamagedLabel,
-    /// The index isn't that of the records.
+    /// The index isn't the key order of the records.
     BadIndex,
     /// The records of the file have this length, and those of the layout another one.
     OtherLength(u16),

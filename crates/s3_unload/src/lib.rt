@@ -5,7 +5,7 @@
 //! - `unload` writes exactly the heading and a row for each chosen record of the file, in the order of the keys where it has an
 //!   index: the cells that show the values of the layout's fields, each of which can be shown. It returns how many records aren't
 //!   chosen (`wrote`);
-//! - it is refused by the pack's header, its labels and the index alone, where a value can't be shown, or where memory or the
+//! - it is refused only by the pack's header, its labels and the index, if a value can't be shown, or if memory or the
 //!   writer fails (`refused`). The pack's bytes aren't changed.
 //! - what it writes with commas reads as the heading and those rows, by the rules of a reader of CSV
 //!   (`a_table_reads_as_its_rows`);
@@ -14,7 +14,7 @@
 //!   (`refused`).
 //!
 //! A chosen record that has a value that can't be shown is reported by its number in the file; that it is the first one of the table, that
-//! the field and the position that are told are those at fault, and that the rows before it are written and nothing at other
+//! the reported field and position are the ones in error, and that the rows before it are written and nothing after other
 //! refusals, is only tested. So is what is written with another delimiter than the comma, as what it reads, and the words of
 //! refusals.
 #![tactic(auto)]

@@ -28,7 +28,7 @@ pub enum LineForm {
     Hexadecimal,
 }
 
-/// Writes a line for each record of a file of an area, as they stand in the file, whatever its index says.
+/// Writes a line for each record of a file of an area, in the order of the file, whatever its index says.
 ///
 /// Refused as `unload` is; with `NoCharacter` at the first byte that has none, where the lines before it are written.
 pub fn unload_lines<W: Write>(

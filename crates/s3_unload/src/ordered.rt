@@ -29,7 +29,7 @@ fn is_indexed(organization: Organization) -> bool
 }
 
 impl Records {
-    /// The records of the file that a label describes. Refused with `BadIndex` where its index isn't that of the records.
+    /// The records of the file that a label describes. Refused with `BadIndex` if its index isn't the key order of the records.
     #[tactic(auto, using(s3_files::proofs::Rooms::of_pack_room))]
     pub fn open(
         alloc: Global,

@@ -29,7 +29,7 @@ use std::io::Write;
 /// Writes a file of an area as a table: the names of the layout's fields, and a row for each record that is chosen, in the order of
 /// the keys where the file has an index. Returns how many records aren't chosen, and so have no row.
 ///
-/// Refused with `Mount`, `NotFound`, `DamagedLabel`, `OtherLength`, `BadIndex` and `NoMemory`, where nothing is written; with
+/// Refused with `Mount`, `NotFound`, `DamagedLabel`, `OtherLength`, `BadIndex` and `NoMemory`, and then nothing is written; with
 /// `Hidden` at the first chosen record with a value that can't be shown, by its number in the file, where the rows before it are
 /// written; and with `File`.
 pub fn unload<W: Write>(

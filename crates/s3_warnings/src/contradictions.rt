@@ -40,7 +40,7 @@ fn contradiction(entries: &Entries, card: u16, entry: Option<IndicatorEntry>) ->
     }
 }
 
-/// The warnings of a card whose conditions can't hold together; refused only where memory runs out.
+/// The warnings of a card whose conditions can't hold together; refused only if memory runs out.
 pub fn contradictions_on(alloc: Global, line: &Line) -> Result<Vec<Warning>, AllocError>
     ensures { IfOk result (λ found. found.items ≡ spec.contradictions_on line.now) }
 {

@@ -143,7 +143,7 @@ pub fn tested_on(line: &SheetLine) -> Entries
     }
 }
 
-/// MR, which goes on by match fields.
+/// MR, which match fields turn on.
 fn matching(level: Option<u8>) -> Option<IndicatorEntry>
     ensures { result ≡ spec.matching level }
 {
@@ -175,7 +175,7 @@ fn set_on_calculation(line: &CalculationLine) -> Entries
     }
 }
 
-/// The indicators that may go on by what a card says.
+/// The indicators that a card may turn on.
 pub fn set_on(line: &SheetLine) -> Entries
     ensures { result ≡ spec.set_on line.now }
 {

@@ -126,7 +126,7 @@ fn at_name(kind: WarningKind, card: u16) -> Warning
     }
 }
 
-/// The warnings of a file; refused only where memory runs out.
+/// The warnings of a file; refused only if memory runs out.
 fn file_warnings(
     alloc: Global,
     lines: &[Line],
@@ -143,7 +143,7 @@ fn file_warnings(
     Ok(found)
 }
 
-/// The warnings of a card that are about its file, given all lines; refused only where memory runs out.
+/// The warnings of a card that are about its file, given all lines; refused only if memory runs out.
 pub fn files_on(alloc: Global, lines: &[Line], line: &Line) -> Result<Vec<Warning>, AllocError>
     ensures { IfOk result (λ found. found.items ≡ spec.files_on lines.now line.now) }
 {

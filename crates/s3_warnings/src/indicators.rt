@@ -87,7 +87,7 @@ fn never_tested(known: &Known, card: u16, entry: Option<IndicatorEntry>) -> Opti
     }
 }
 
-/// The warnings of a card that tests what is never on; refused only where memory runs out.
+/// The warnings of a card that tests what is never on; refused only if memory runs out.
 pub fn never_set_on(alloc: Global, known: &Known, line: &Line) -> Result<Vec<Warning>, AllocError>
     ensures { IfOk result (λ found. found.items ≡ spec.never_set_on (facts_shown known.now) line.now) }
 {
@@ -98,7 +98,7 @@ pub fn never_set_on(alloc: Global, known: &Known, line: &Line) -> Result<Vec<War
         .collect(alloc)
 }
 
-/// The warnings of a card that turns what is never tested; refused only where memory runs out.
+/// The warnings of a card that turns what is never tested; refused only if memory runs out.
 pub fn never_tested_on(
     alloc: Global,
     known: &Known,

@@ -18,7 +18,7 @@ pub enum WarningKind {
     NeverRead,
     /// A program never writes to a file that it has for writing.
     NeverWritten,
-    /// A result has fewer digits in front of the point than a factor.
+    /// A result has fewer digits before the point than a factor.
     ShortResult,
     /// A field covers positions of an earlier one of its output line.
     Overlap,
@@ -80,7 +80,7 @@ pub struct Warning {
     pub to: usize,
 }
 
-/// A warning, if what it warns of holds; refused only where memory runs out.
+/// A warning, if what it warns of holds; refused only if memory runs out.
 pub fn warned_if(alloc: Global, holds: bool, warning: Warning) -> Result<Vec<Warning>, AllocError>
     ensures { IfOk result (λ found. found.items ≡ warned_if_spec holds warning) }
 {

@@ -14,7 +14,7 @@ use std::alloc::{AllocError, Global};
 /// What the lines of a source set, test and define.
 #[derive(Drop)]
 pub struct Known {
-    /// The numbers of the indicators that may go on by what the lines say.
+    /// The numbers of the indicators that the lines may turn on.
     pub set: IndexSet<usize>,
     /// The numbers of the indicators that the lines test.
     pub tested: IndexSet<usize>,
@@ -42,7 +42,7 @@ fn add_all(set: &mut IndexSet<usize>, entries: &[Option<IndicatorEntry>]) -> Res
     Ok(())
 }
 
-/// The numbers of the indicators that may go on by what lines say; refused only where memory runs out.
+/// The numbers of the indicators that lines may turn on; refused only if memory runs out.
 pub fn set_by(alloc: Global, lines: &[Line]) -> Result<IndexSet<usize>, AllocError>
     ensures { IfOk result (λ set. (indicator : Indicator) → contains nat_eq set (indicator_number indicator) ≡ is_set_by lines.now indicator) }
 {
@@ -53,7 +53,7 @@ pub fn set_by(alloc: Global, lines: &[Line]) -> Result<IndexSet<usize>, AllocErr
     Ok(set)
 }
 
-/// The numbers of the indicators that lines test; refused only where memory runs out.
+/// The numbers of the indicators that lines test; refused only if memory runs out.
 pub fn tested_by(alloc: Global, lines: &[Line]) -> Result<IndexSet<usize>, AllocError>
     ensures { IfOk result (λ set. (indicator : Indicator) → contains nat_eq set (indicator_number indicator) ≡ is_tested_by lines.now indicator) }
 {

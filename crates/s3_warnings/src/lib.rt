@@ -1,8 +1,8 @@
 //! Warnings: what the language allows in a source, and what is probably wrong. docs/LISTINGS.md has what each kind is about.
 //!
-//! What is proved: `warnings_of` gives exactly the warnings of `specs/Inner/Warnings.antt`, in the order of the cards;
-//! `WarningKind::words` gives the text of one table. `specs/Inner/Samples.antt` has small sources with their warnings, which are
-//! computed with the proof.
+//! `warnings_of` is proved to give exactly the warnings of `specs/Inner/Warnings.antt`, in the order of the cards, and
+//! `WarningKind::words` the text of one table. Small sources with their warnings, in `specs/Inner/Samples.antt`, are computed by
+//! the proofs.
 
 #![tactic(auto)]
 

@@ -96,7 +96,7 @@ fn covers_another(known: &Known, taken: &IndexSet<usize>, field: &OutputField) -
     !is_conditioned(&field.conditions) && is_one_taken(taken, first, width)
 }
 
-/// The warning of a card whose field covers an earlier one of its line; refused only where memory runs out.
+/// The warning of a card whose field covers an earlier one of its line; refused only if memory runs out.
 fn overlap_on(
     alloc: Global,
     known: &Known,
@@ -162,7 +162,7 @@ fn push_overlap(
     pass(taken, known, &line.sheet)
 }
 
-/// Appends the warnings of fields that cover earlier ones, in the order of the cards. It is refused only where memory runs out.
+/// Appends the warnings of fields that cover earlier ones, in the order of the cards. It is refused only if memory runs out.
 pub fn push_overlaps(
     alloc: Global,
     found: &mut Vec<Warning>,

@@ -1,4 +1,4 @@
-//! Results with fewer digits in front of the point than what is put into them.
+//! Results with fewer digits before the point than what is put into them.
 ghost use Rattle.std.specs.Prelude.{◌≡◌, IfOk};
 ghost use Rattle.s3_warnings.specs.Inner.Results as spec;
 ghost use Rattle.s3_warnings.specs.Inner.Shown.{facts_shown};
@@ -20,7 +20,7 @@ fn keeps_digits(operation: Option<Operation>) -> bool
     )
 }
 
-/// The digits of a number in front of the point.
+/// The digits of a number before the point.
 fn whole_digits(shape: Option<Shape>) -> u8
     ensures { result ≡ spec.whole_digits shape }
 {
@@ -30,7 +30,7 @@ fn whole_digits(shape: Option<Shape>) -> u8
     }
 }
 
-/// The digits of a factor in front of the point.
+/// The digits of a factor before the point.
 fn whole_of_factor(known: &Known, factor: Option<Factor>) -> u8
     ensures { result ≡ spec.whole_of_factor (facts_shown known.now) factor }
 {
@@ -41,14 +41,14 @@ fn whole_of_factor(known: &Known, factor: Option<Factor>) -> u8
     }
 }
 
-/// Whether a factor has more digits in front of the point.
+/// Whether a factor has more digits before the point.
 fn is_below_factors(known: &Known, line: &CalculationLine, whole: u8) -> bool
     ensures { result ≡ spec.is_below_factors (facts_shown known.now) line.now whole }
 {
     whole < whole_of_factor(known, line.factor1) || whole < whole_of_factor(known, line.factor2)
 }
 
-/// Whether a result has too few digits in front of the point.
+/// Whether a result has too few digits before the point.
 fn is_too_short(known: &Known, line: &CalculationLine, name: Option<Name>) -> bool
     ensures { result ≡ spec.is_too_short (facts_shown known.now) line.now name }
 {
@@ -61,7 +61,7 @@ fn is_too_short(known: &Known, line: &CalculationLine, name: Option<Name>) -> bo
     }
 }
 
-/// The warning of a card whose result is too short; refused only where memory runs out.
+/// The warning of a card whose result is too short; refused only if memory runs out.
 pub fn results_on(alloc: Global, known: &Known, line: &Line) -> Result<Vec<Warning>, AllocError>
     ensures { IfOk result (λ found. found.items ≡ spec.results_on (facts_shown known.now) line.now) }
 {

@@ -90,7 +90,7 @@ fn note_shapes(shapes: &mut Shapes, lines: &[Line]) -> Result<(), AllocError>
     Ok(())
 }
 
-/// The shapes of all fields; refused only where memory runs out.
+/// The shapes of all fields; refused only if memory runs out.
 pub fn shapes_of(alloc: Global, lines: &[Line]) -> Result<Shapes, AllocError>
     requires { IsTrue (are_ranged lines.now) }
     ensures { IfOk result (λ shapes. shapes.entries ≡ firsts (reserved_shapes ++ filter_map shape_given_spec lines.now)) }
@@ -101,7 +101,7 @@ pub fn shapes_of(alloc: Global, lines: &[Line]) -> Result<Shapes, AllocError>
     Ok(shapes)
 }
 
-/// The shape of a field; none where nothing defines it.
+/// The shape of a field; none if nothing defines it.
 pub fn shape_of(shapes: &Shapes, name: Name) -> Option<Shape>
     ensures { result ≡ lookup (same_name name) shapes.now.entries }
 {

@@ -80,8 +80,8 @@ fn warnings_by_known(
     Ok(found)
 }
 
-/// The warnings of a source (docs/LISTINGS.md, "Warnings"), by card and then by kind, and then those of fields that cover others. The
-/// lines are those of a source without diagnostics, as `read_sheets` gives them. It is refused only where memory runs out.
+/// The warnings of a source (docs/LISTINGS.md, "Warnings"), by card and then by kind, and then those of fields that cover others.
+/// The lines are those of a source without diagnostics, as `read_sheets` gives them. It is refused only if memory runs out.
 #[tactic(auto, using(crate::proofs::RangeLemmas::ranged_of_read))]
 pub fn warnings_of(alloc: Global, lines: &[Line]) -> Result<Vec<Warning>, AllocError>
     requires { IsTrue (are_read lines.now) }

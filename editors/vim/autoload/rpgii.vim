@@ -1,4 +1,4 @@
-" What the cards of an RPG II source have in which columns. The table is in rpgii_entries.vim, which `tools/editors` writes.
+" What the cards of an RPG II source have in which columns. The table is in rpgii_entries.vim, which `tools/check/editors` writes.
 
 " Whether lines are those of a source or of a deck that begins with one: between its statements, each line that isn't blank is a card of a
 " sheet, and there are two at least.

@@ -1,4 +1,4 @@
-" The syntax of RPG II cards, by sheet and column: made by tools/editors from `bureau entries --json`; change the program's table (crates/s3_entries) instead.
+" The syntax of RPG II cards, by sheet and column: made by tools/check/editors from `bureau entries --json`; change the program's table (crates/s3_entries) instead.
 if exists("b:current_syntax")
   finish
 endif

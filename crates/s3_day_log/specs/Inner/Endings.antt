@@ -1,5 +1,5 @@
 -- How the jobs of a day end.
-use Rattle.std.specs.Prelude.{ℕ, ◌==◌, ◌-◌, Bool, true, false, ◌||◌, ◌&&◌, List, length, set, slice_get, Option, None, Some, is_some, if◌then◌else◌}
+use Rattle.std.specs.Prelude.{◌≡◌, ℕ, ◌==◌, ◌-◌, Bool, true, false, ◌||◌, ◌&&◌, List, [], ◌∷◌, ◌++◌, length, map, replicate, set, slice_get, Option, None, Some, is_some, if◌then◌else◌}
 use Rattle.std.specs.List.{list_any}
 use Rattle.s3_day_log.specs.declared.event.JobEnd.{JobEnd}
 use Rattle.s3_day_log.specs.declared.event.JobEnd.TheVariants.{Ended, Replied, PassedOver}
@@ -26,6 +26,24 @@ behind_reply code digit jobs = if digit == 0 then jobs else on (slice_get jobs (
     on : Option BegunJob → List BegunJob
     on None = jobs
     on (Some job) = set jobs (length jobs - 1) (record job { ending = Some (code, digit); is_over = job.is_over || is_at_start code })
+
+-- whether the last job is at work or halted after such a reply
+abbrev pub is_open_behind : (code : HaltCode) → (digit : ℕ) → Bool → Bool
+is_open_behind code digit was_open = if digit == 0 then was_open else if is_at_start code then false else was_open
+
+-- for each job that was begun, the halt and the reply that ended it, if a reply did
+abbrev pub endings : List BegunJob → List (Option (HaltCode × ℕ))
+endings jobs = map (λ job. job.ending) jobs
+
+-- a job has begun, which no reply has ended; or no job has begun
+abbrev pub begins_one : Bool → List (Option (HaltCode × ℕ)) → List (Option (HaltCode × ℕ))
+begins_one true before = before ++ None ∷ []
+begins_one false before = before
+
+-- jobs have begun, which no reply has ended, and the jobs before them have ended as they had
+pub record Begins (old new : List BegunJob) : Type 0 where
+  pub count : ℕ
+  pub begun : endings new ≡ endings old ++ replicate count None
 
 -- a job was ended by a reply, or passed over
 abbrev pub has_passed : List BegunJob → Bool

@@ -1,6 +1,6 @@
 -- Dumps: texts that stand for bytes. A line is empty, a note, a run of zeros or codes. It stands for no bytes, for so many zeros, or for the
 -- codes. The bytes of a dump are those of its lines, one line after another.
-use Rattle.std.specs.Prelude.{◌≡◌, ℕ, ◌+◌, ◌-◌, ◌*◌, ◌==◌, ◌&&◌, nat_le, nat_lt, Bool, true, false, List, [], ◌∷◌, ◌++◌, replicate, Option, Some, None, ⊤, if◌then◌else◌}
+use Rattle.std.specs.Prelude.{◌≡◌, ℕ, ◌+◌, ◌-◌, ◌*◌, ◌==◌, ◌&&◌, nat_le, nat_lt, Bool, true, false, List, [], ◌∷◌, ◌++◌, replicate, take, drop, Option, Some, None, ⊤, if◌then◌else◌}
 use Rattle.std.specs.List.{fold}
 use Rattle.s3_cards.specs.Codes.{ebcdic_of}
 use Rattle.s3_dump.specs.declared.fault.RestoreFault.{RestoreFault}
@@ -97,7 +97,32 @@ whole (Some state) = if is_start state.mode then Some state.bytes else None
 abbrev pub restored : List ℕ → Option (List ℕ)
 restored text = whole (fold step (Some begun) text)
 
--- a text isn't restored: it stands for no bytes, or memory was refused
+-- the line of the character after c, which is in this line
+abbrev pub next_line : ℕ → ℕ → ℕ
+next_line line c = if c == line_end then line + 1 else line
+
+-- the line, from 1, in which the next character after a text is
+abbrev pub line_after : List ℕ → ℕ
+line_after text = fold next_line 1 text
+
+-- a text is no dump from its next character on: that can't follow here, or the text ends inside a line
+abbrev pub Stops : State → List ℕ → Type 0
+Stops state (c ∷ later) = step_by state.mode c state.bytes ≡ None
+Stops state [] = is_start state.mode ≡ false
+
+-- the first line at which a text is no dump: all that is before some place can begin a dump, and what is there can't go on with it
+pub record IsWrongIn (text : List ℕ) (line : ℕ) : Type 0 where
+  pub place : ℕ
+  pub state : State
+  pub begins : fold step (Some begun) (take place text) ≡ Some state
+  pub stops : Stops state (drop place text)
+  pub line_is : line ≡ line_after (take place text)
+
+-- a text isn't restored: it stands for no bytes from a line on, or memory was refused
+pub record IsNoDump (text : List ℕ) (line : ℕ) : Type 0 where
+  pub none : restored text ≡ None
+  pub place : IsWrongIn text line
+
 abbrev pub IsRestoreFault : List ℕ → RestoreFault → Type 0
-IsRestoreFault text (NoDump line) = restored text ≡ None
+IsRestoreFault text (NoDump line) = IsNoDump text line
 IsRestoreFault text NoMemory = ⊤

@@ -73,10 +73,22 @@ same_posted OfNothing other = false
 abbrev pub made : (pack : List ℕ) → Line → Bool
 made pack line = not line.restores && same line.after pack
 
--- the lines of the commands that made a pack: the last one that left it, and those that made the pack on which that one began
+-- the pack was there before or after the command of a line
+abbrev pub has_pack : (pack : List ℕ) → Line → Bool
+has_pack pack line = same line.after pack || same line.before pack
+
+-- the pack itself if a line has it; else the one that the last line left, which something else changed into this pack
+abbrev pub known_as : (pack : List ℕ) → List Line → List ℕ
+known_as pack [] = pack
+known_as pack (last ∷ older) = if list_any (has_pack pack) (last ∷ older) then pack else last.after
+
+-- the lines of the commands that made a pack: the last one that left it, and those that made the pack on which that one began. A pack
+-- that no line has continues what the last line left
 abbrev pub history : (pack : List ℕ) → List Line → List Line
 history pack [] = []
-history pack (line ∷ older) = if made pack line then line ∷ history line.before older else history pack older
+history pack (line ∷ older) =
+    if made (known_as pack (line ∷ older)) line then line ∷ history line.before older
+    else history (known_as pack (line ∷ older)) older
 
 -- the last line that posted the same, among those of the commands that made the pack
 abbrev pub posted_in : Posted → (pack : List ℕ) → List Line → Option Line
@@ -84,10 +96,6 @@ posted_in posted pack lines = find (λ line. same_posted line.posted posted) (hi
 
 abbrev pub is_posted : Posted → (pack : List ℕ) → List Line → Bool
 is_posted posted pack lines = is_some (posted_in posted pack lines)
-
--- the pack was there before or after the command of a line
-abbrev pub has_pack : (pack : List ℕ) → Line → Bool
-has_pack pack line = same line.after pack || same line.before pack
 
 -- which line a pack is of: the last command left it; the last command began on it, so that its pack was never saved; an earlier command
 -- left it or began on it; or no line has it

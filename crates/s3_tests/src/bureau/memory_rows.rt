@@ -1,5 +1,5 @@
-//! The three sessions of the fuse rows, where memory may be refused: `tools/refuse-memory` refuses each request of these tests in
-//! turn. That all of them end whole with ample memory is seen in the fuse rows.
+//! The three sessions of the fuse rows, where memory may be refused: `tools/search/refuse-memory` refuses each request of these tests in
+//! turn. The fuse rows show that all of them end whole with ample memory.
 
 use crate::bureau::packs::marked_pack;
 use crate::bureau::plays::{CARD_LISTER, DATA_IN_BOTH_LEVELS, KEYS_ADDED_AND_CHANGED};

@@ -1,5 +1,5 @@
 //! Whole sessions of a bureau over a store that fails at each of its calls in turn, and where memory may be refused:
-//! `tools/refuse-memory` makes each request of these tests fail in turn.
+//! `tools/search/refuse-memory` makes each request of these tests fail in turn.
 
 mod calls;
 pub mod decks;

@@ -17,7 +17,7 @@ pub fn marked_pack(alloc: Global) -> Result<Vec<u8>, ImageFault> {
     Ok(bytes)
 }
 
-/// Whether a sector has to stay: the header's, those of the masters, and those of level 2 where no entry is its own.
+/// Whether a sector must stay: the header's, those of the masters, and those of level 2 if it has no entry.
 fn stays(sector: usize, is_alone: bool) -> bool {
     match sector {
         0..=8 | 168..=191 => true,

@@ -49,8 +49,8 @@ pub const CARD_LISTER: Session = Session {
 /// What the store has to be given of `DATA`: the records' sectors, a label sector for each level and three spool blocks.
 const WRITTEN_OF_DATA: u64 = 5 * 4 + 3 * 4 + 2 + 3;
 
-/// Each level makes its own DATA and lists it. Of what is written the pool holds at most its buffers when the script ends; and of
-/// level 1's twenty sectors it can't hold all when they are read again. The last line printed is left to the finish.
+/// Each level makes its own DATA and lists it. When the script ends, the pool holds at most its buffers of what is written. It
+/// can't hold all of level 1's twenty sectors when they are read again. The last printed line is left to the finish.
 pub const DATA_IN_BOTH_LEVELS: Session = Session {
     one: Part {
         deck: FIVE_RECORDS,

@@ -59,7 +59,7 @@ struct Run {
     end: End,
     /// Whether each call after the end answered that the bureau is stopped.
     stays_stopped: bool,
-    /// Whether the lines of each level are the first ones wanted; all of them, without a halt, where the end is whole.
+    /// Whether the lines of each level are the first expected ones, and all of them, without a halt, if the end is whole.
     has_lines: bool,
     /// The bytes that the store has at its end.
     bytes: Vec<u8>,
@@ -113,7 +113,7 @@ fn are_first(lines: &[PrintLine], wanted: &[&[u8]]) -> bool {
         })
 }
 
-/// Whether a level's lines are the first ones wanted; all of them, without a halt, where the run's end is whole.
+/// Whether a level's lines are the first expected ones, and all of them, without a halt, if the run's end is whole.
 fn has_lines(bureau: &Bureau<Store>, level: LevelId, wanted: &[&[u8]], is_whole: bool) -> bool {
     let lines = bureau.lines(level);
     let is_done = (lines.len() == wanted.len()) & bureau.halts(level).is_empty();

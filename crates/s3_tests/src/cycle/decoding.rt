@@ -25,7 +25,7 @@ enum Listing {
     Inputs,
     /// How many groups each output line has for its own time, after the first one.
     Guards,
-    /// What each field of an output line puts out.
+    /// What each field of an output line writes.
     Fields,
 }
 

@@ -180,8 +180,8 @@ enum Side {
 }
 
 impl Exchange {
-    /// Whether a session with a fuse on a side ended as it must: with all of its text; or with the answer that a file failed, and
-    /// nothing written where that was a read, or else the beginning of the text.
+    /// Whether a session with a fuse on a side ended as it must: with all of its text, or with the answer that a file failed.
+    /// Then nothing is written if a read failed, and the beginning of the text if a write did.
     fn is_right(&self, side: Side) -> bool {
         let written = self.written.as_slice();
         match self.answer {

@@ -67,7 +67,7 @@ fn turns_act(rt: HostRuntime) -> Result<(), Fail> {
     Ok(())
 }
 
-/// A turn is idle if a halt waits, as that of a job that isn't one.
+/// A turn is idle if a halt waits, such as the halt of a faulty job.
 #[test]
 fn turns_are_idle(rt: HostRuntime) -> Result<(), Fail> {
     let turns = turns_of(rt.alloc(), b"// RUN\n")?;

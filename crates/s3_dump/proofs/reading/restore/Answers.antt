@@ -10,5 +10,5 @@ none_of (Some mode) P h p = absurd cc
 
 pub returns-in-None-clause-refused : goal.returns-in-None-clause-refused
 returns-in-None-clause-refused c =
-    refused_here c.args.text.now c.loop-character.character-index _ c.loop-character.mode c.loop-character.bytes.items c.loop-character-test.true (search rules) c.loop-character.invariant
-    (none_of c.in_ok-next.field-0 _ c.in-None.is c.in_ok-next.ensures.none)
+    refused_here c.args.text.now c.loop-place.place _ _ c.loop-place.mode c.loop-place.bytes.items c.loop-place-test.true (search rules) c.loop-place.invariant
+    (none_of c.in_ok-next.field-0 _ c.in-None.is c.in_ok-next.ensures.none) (search rules)

@@ -13,8 +13,8 @@ returns-in-Ok c =
     (λ found is. is ∙ sym (ap (λ json. option_and_then said_in (option_and_then as_object json)) c.in-Ok.ensures.ok))
     c.said_of_value.ensures
 
-pub returns : goal.returns
-returns c =
+pub returns-in-Err : goal.returns-in-Err
+returns-in-Err c =
     IfOk-weaker c.nothing_said.result _ _
     (λ found is. ap (option_map said_of) is.0 ∙ sym (said_of_document c.args.line.now c.parse.result c.in-Err.fault c.in-Err.is c.parse.ensures.invalid c.parse.ensures.never_too_long c.parse.ensures.never_duplicate is.1))
     c.nothing_said.ensures
