@@ -29,7 +29,7 @@ use s3_pack_commands::dump::{dump_pack, restore_pack};
 use s3_paper_commands::status::{DONE, FILE_FAILED, REFUSED, WRONG_WORDS};
 use s3_paper_commands::words::{CommandWords, value_of};
 use s3_paper_commands::{compile_files, list_entries, punch_files};
-use s3_refusals::{Refused, Shown};
+use s3_refusals::{Reason, Refused, Shown};
 use std::io::{IsTerminal, Write};
 use std::{env, fs, io};
 
@@ -93,8 +93,23 @@ fn print_asked(rt: &HostRuntime, matches: &ArgMatches<'_>) -> u8
     };
     match StandardOutput::new(rt).write_all(text.as_str().as_bytes()) {
         Ok(()) => DONE,
-        Err(error) => refuse(rt, &fault_of(&error)),
+        Err(error) => refuse_output(rt, &error),
     }
+}
+
+/// Reports that standard output can't be written, and why.
+fn refuse_output(rt: &HostRuntime, error: &io::Error) -> u8
+    ensures { result ≤ 5 }
+{
+    if error.kind() == io::ErrorKind::OutOfMemory {
+        return refuse(rt, &OUT_OF_MEMORY);
+    }
+    let reason = Reason(*error);
+    let _ = writeln!(
+        rt.stderr(),
+        "bureau: standard output can't be written: {reason}"
+    );
+    FILE_FAILED
 }
 
 /// Reports that the manual has no page of a name.

@@ -1,13 +1,13 @@
 //! `bureau run` with a journal: the decks of standard input are posted once.
 ghost use Rattle.std.specs.Prelude.{◌≤◌};
 
-use crate::command::{limit_of, misuse, pack_to_run, report_typed, save_to, tell_refused};
-use crate::refusal::session_refused;
+use crate::command::{limit_of, misuse, pack_to_run, report_typed, tell_refused};
+use crate::refusal::{saving, session_refused};
 use clap::ArgMatches;
 use s3_cli::{
     INPUT_LIMIT, ReadFault, RunFault, SessionFault, Watched, read_within, session_on, split_parts,
 };
-use s3_host_files::StandardOutput;
+use s3_host_files::{StandardOutput, save_pack};
 use s3_journal::{Posting, Ran, Work, checksum_of};
 use s3_journal_files::{GivenPack, JournalFile, JournalRefusal, NewLine, keep_journal_apart};
 use s3_paper_commands::status::DONE;
@@ -83,7 +83,14 @@ fn run_once<'a>(
     keep_journal_apart(rt, journal, &[path, Some(save)])?;
     let mut journal = JournalFile::open(rt, journal, limit)?;
     match run_noted(rt, matches, path, pack, &mut journal) {
-        Ok(saved) => Ok(save_to(rt, save, locked, limit, path, &saved)?),
+        Ok(saved) => {
+            let done = save_pack(rt, save, locked, limit, &[path], &saved);
+            journal.end_save(rt, &done);
+            match done {
+                Ok(()) => Ok(()),
+                Err(fault) => Err(RunRefusal::Run(saving(rt, save, &fault))),
+            }
+        }
         Err(refusal) => {
             journal.remove_if_unused(rt);
             Err(refusal)

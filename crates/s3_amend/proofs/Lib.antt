@@ -1,3 +1,4 @@
 pub mod SettingLemmas
+pub mod KeyLemmas
 pub mod FileLemmas
 pub mod PackLemmas

@@ -12,6 +12,7 @@ ghost use Rattle.s3_unload.specs.Inner.Ordered.{in_order};
 ghost use Rattle.s3_load.specs.Inner.Columns.{LieApart};
 ghost use Rattle.s3_load.specs.Inner.Records.{HasTaken};
 ghost use Rattle.s3_amend.specs.Inner.Settings.{AreNamed, values_of};
+ghost use Rattle.s3_amend.specs.Inner.Meant.{IsMeant};
 ghost use Rattle.s3_amend.specs.Inner.Amended.{AmendsFile, AmendsRecord, IsAmended};
 
 use crate::amendment::Amendment;
@@ -126,6 +127,7 @@ fn amended_record(
 ) -> Result<AmendedRecord, AmendFault>
     requires on_pack { IsOfPack (length store.old) label.now }
     requires long { label.now.record_length ≡ amendment.now.layout.now.record_length }
+    ensures is_meant { IfOk result (λ amended. IsMeant amendment.now.which amendment.now.layout.now.fields.items label.now (in_order label.now store.old) amended.place) }
     ensures there { IfOk result (λ amended. slice_get (in_order label.now store.old) amended.place ≡ Some amended.before.items) }
     ensures amends { IfOk result (λ amended. AmendsRecord amendment.now label.now amended.before.items amended.after.items) }
     ensures long { IfOk result (λ amended. length amended.after.items ≡ label.now.record_length) }
@@ -152,6 +154,7 @@ fn planned(
 ) -> Result<Plan, AmendFault>
     requires on_pack { IsOfPack (length store.old) label.now }
     requires long { label.now.record_length ≡ amendment.now.layout.now.record_length }
+    ensures place { IfOk result (λ plan. IsMeant amendment.now.which amendment.now.layout.now.fields.items label.now (in_order label.now store.old) plan.place) }
     ensures named { IfOk result (λ plan. AreNamed amendment.now.layout.now.fields.items label.now amendment.now.settings.now (length amendment.now.settings.now) plan.named.items) }
     ensures apart { IfOk result (λ plan. LieApart plan.named.items) }
     ensures keeps { store.new ≡ store.old }
@@ -208,7 +211,8 @@ fn change(
     requires apart { LieApart named.now }
     requires counted { length named.now ≡ length amendment.now.settings.now }
     ensures taken { OnOk result (HasTaken named.now (values_of amendment.now.settings.now) after.old (length named.now) after.new) }
-    ensures is_meant { OnOk result (is_chosen amendment.now.chosen.now after.new ≡ true) }
+    ensures was_chosen { OnOk result (is_chosen amendment.now.chosen.now before.now ≡ true) }
+    ensures chosen { OnOk result (is_chosen amendment.now.chosen.now after.new ≡ true) }
 {
     let mut mistakes = Vec::new(alloc);
     take_values(alloc, named, amendment.settings, after, &mut mistakes)?;
@@ -228,7 +232,8 @@ fn note_types(
     after: &[u8],
     mistakes: &mut Vec<Mistake>,
 ) -> Result<(), AllocError>
-    ensures is_meant { OnOk result (mistakes.new.items ≡ [] → is_chosen chosen.now after.now ≡ true) }
+    ensures was_chosen { OnOk result (mistakes.new.items ≡ [] → is_chosen chosen.now before.now ≡ true) }
+    ensures chosen { OnOk result (mistakes.new.items ≡ [] → is_chosen chosen.now after.now ≡ true) }
     ensures before { OnOk result (mistakes.new.items ≡ [] → mistakes.old.items ≡ []) }
 {
     if let Some(fault) = chosen.fault_in(before) {

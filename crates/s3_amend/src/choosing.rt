@@ -1,18 +1,18 @@
 //! The record that is meant, and the records of a file as they are read and written.
-ghost use Rattle.std.specs.Prelude.{◌≡◌, ◌<◌, ◌*◌, [], length, slice_get, slice_set, Some, IfOk, IfSome, OnOk};
+ghost use Rattle.std.specs.Prelude.{◌≡◌, ◌≤◌, ◌+◌, ◌-◌, ◌*◌, ◌↔◌, [], length, find, slice_get, slice_set, Some, IfOk, IfSome, IsTrue, OnOk};
 ghost use Rattle.s3_store.specs.Inner.Bytes.{SameOutside};
 ghost use Rattle.s3_slots.specs.Inner.Kept.{IsOfPack};
 ghost use Rattle.s3_slots.specs.Labels.{file_bytes, sectors_of};
 ghost use Rattle.s3_pack_care.specs.Inner.Rows.{ChangesSectors};
-ghost use Rattle.s3_cells.specs.Inner.Fields.{LiesIn};
+ghost use Rattle.s3_cells.specs.Inner.Values.{GetsValue};
 ghost use Rattle.s3_unload.specs.Inner.Ordered.{in_order};
+ghost use Rattle.s3_amend.specs.Inner.Meant.{IsFirstOf, IsFirstWith, IsKeyBy, IsMeant, characters, is_key, key_of};
 
 use crate::amendment::Which;
 use crate::fault::{AmendFault, Mistake};
 use crate::fields::note;
-use s3_cards::code_of_byte;
 use s3_cards::ebcdic::BLANK;
-use s3_cells::{CellFault, Field, Layout};
+use s3_cells::{CellFault, Field, FieldKind, Layout, TextCells};
 use s3_files::{RecordFile, Sequential};
 use s3_labels::FileLabel;
 use s3_store::MemoryStore;
@@ -29,7 +29,7 @@ pub fn place_of(
     mistakes: &mut Vec<Mistake>,
 ) -> Result<Option<u32>, AmendFault>
     requires { IsOfPack (length store.old) label.now }
-    ensures place { IfOk result (λ place. IfSome place (λ place. place < label.now.count)) }
+    ensures place { IfOk result (λ place. IfSome place (IsMeant which.entry layout.now.fields.items label.now (in_order label.now store.old))) }
     ensures before { OnOk result (mistakes.new.items ≡ [] → mistakes.old.items ≡ []) }
     ensures keeps { store.new ≡ store.old }
 {
@@ -43,8 +43,8 @@ pub fn place_of(
     }
 }
 
-/// The place, from 0, of the first record with a key.
-#[tactic(auto, using(s3_load::proofs::ColumnLemmas::none_told))]
+/// The place, from 0, of the first record with the key that a text means.
+#[tactic(auto, using(s3_load::proofs::ColumnLemmas::none_told, crate::proofs::KeyLemmas::first_with))]
 fn place_by_key(
     alloc: Global,
     store: &mut MemoryStore,
@@ -54,11 +54,11 @@ fn place_by_key(
     mistakes: &mut Vec<Mistake>,
 ) -> Result<Option<u32>, AmendFault>
     requires { IsOfPack (length store.old) label.now }
-    ensures place { IfOk result (λ place. IfSome place (λ place. place < label.now.count)) }
+    ensures place { IfOk result (λ place. IfSome place (IsFirstWith layout.now.fields.items label.now text.now (in_order label.now store.old))) }
     ensures before { OnOk result (mistakes.new.items ≡ [] → mistakes.old.items ≡ []) }
     ensures keeps { store.new ≡ store.old }
 {
-    let Some(key) = key_codes(alloc, label, layout, text, mistakes)? else {
+    let Some(key) = key_said(alloc, label, layout, text, mistakes)? else {
         return Ok(None);
     };
     let place = place_with(alloc, store, label, &key)?;
@@ -68,7 +68,8 @@ fn place_by_key(
     Ok(place)
 }
 
-/// The place, from 0, of the first record whose key has these codes.
+/// The place, from 0, of the first record that has this key.
+#[tactic(auto, using(crate::proofs::KeyLemmas::none_before, crate::proofs::KeyLemmas::one_more_before, crate::proofs::KeyLemmas::first_here))]
 fn place_with(
     alloc: Global,
     store: &mut MemoryStore,
@@ -76,80 +77,87 @@ fn place_with(
     key: &[u8],
 ) -> Result<Option<u32>, AmendFault>
     requires { IsOfPack (length store.old) label.now }
-    ensures place { IfOk result (λ place. IfSome place (λ place. place < label.now.count)) }
+    ensures place { IfOk result (λ place. IfSome place (IsFirstOf label.now key.now (in_order label.now store.old))) }
     ensures keeps { store.new ≡ store.old }
 {
     let mut bytes = vec![in alloc; BLANK; usize::from(label.record_length)]?;
     for place in 0..label.count {
         read_record(store, label, place, &mut bytes)?;
-        if key_in(label, &bytes) == key {
+        if has_key(label, &bytes, key) {
             return Ok(Some(place));
         }
     }
     Ok(None)
 }
 
-/// The key of a record of a file; nothing of a record that is too short.
-fn key_in<'a>(label: &FileLabel, bytes: &'a [u8]) -> &'a [u8] {
+/// Whether a record has a key.
+fn has_key(label: &FileLabel, bytes: &[u8], key: &[u8]) -> bool
+    requires { label.now.key_start - 1 + label.now.key_length ≤ length bytes.now }
+    ensures { IsTrue result ↔ (key_of label.now bytes.now ≡ key.now) }
+{
     let from = usize::from(label.key_start.saturating_sub(1));
-    match bytes.get(from..from + usize::from(label.key_length)) {
-        Some(key) => key,
-        None => &[],
-    }
+    &bytes[from..from + usize::from(label.key_length)] == key
 }
 
-/// The codes of a key: those that the field has that is the key, for this value, or the characters. Why there are none is added to the
-/// mistakes.
+/// The key that a text means. Why there is none is added to the mistakes.
 #[tactic(auto, using(s3_load::proofs::ColumnLemmas::none_told))]
-fn key_codes(
+fn key_said(
     alloc: Global,
     label: &FileLabel,
     layout: &Layout,
     text: &[u8],
     mistakes: &mut Vec<Mistake>,
 ) -> Result<Option<Vec<u8>>, AllocError>
+    ensures key { IfOk result (λ key. IfSome key (λ key. IsKeyBy (find (is_key label.now) layout.now.fields.items) label.now text.now key.items)) }
     ensures before { OnOk result (mistakes.new.items ≡ [] → mistakes.old.items ≡ []) }
 {
     if label.key_length == 0 {
         note(mistakes, Mistake::Keyless)?;
         return Ok(None);
     }
-    match key_field(label, layout) {
-        Some(field) => field_codes(alloc, label, &field, layout.record_length, text, mistakes),
-        None => character_codes(alloc, label, text, mistakes),
+    match key_field(label, &layout.fields) {
+        Some(field) => key_of_field(alloc, &field, text, mistakes),
+        None => key_of_characters(alloc, label, text, mistakes),
     }
 }
 
-/// The field of a layout that has just the bytes of the key.
-fn key_field(label: &FileLabel, layout: &Layout) -> Option<Field>
-    ensures { IfSome result (LiesIn layout.now.record_length) }
+/// The field that has the bytes of the key, and no others.
+fn key_field(label: &FileLabel, fields: &[Field]) -> Option<Field>
+    ensures { result ≡ find (is_key label.now) fields.now }
 {
-    for field in &layout.fields {
-        if field.start == label.key_start.saturating_sub(1)
-            && field.width == u16::from(label.key_length)
-        {
-            return Some(*field);
-        }
-    }
-    None
+    fields
+        .iter()
+        .copied()
+        .find(|field| is_key_field(label, field))
 }
 
-/// The bytes that the key has if its field has a value, in records of so many bytes.
-#[tactic(auto, using(s3_load::proofs::ColumnLemmas::none_told))]
-fn field_codes(
+/// Whether a field has the bytes of the key, and no others.
+fn is_key_field(label: &FileLabel, field: &Field) -> bool
+    ensures { result ≡ is_key label.now field.now }
+{
+    field.start == label.key_start.saturating_sub(1) && field.width == u16::from(label.key_length)
+}
+
+/// The bytes of a field that has the value of a text.
+#[tactic(auto, using(s3_load::proofs::ColumnLemmas::none_told, crate::proofs::KeyLemmas::value_got))]
+fn key_of_field(
     alloc: Global,
-    label: &FileLabel,
     field: &Field,
-    record_length: u16,
     text: &[u8],
     mistakes: &mut Vec<Mistake>,
 ) -> Result<Option<Vec<u8>>, AllocError>
-    requires { LiesIn record_length field.now }
+    ensures key { IfOk result (λ key. IfSome key (λ key. GetsValue field.now.kind text.now field.now.width key.items)) }
     ensures before { OnOk result (mistakes.new.items ≡ [] → mistakes.old.items ≡ []) }
 {
-    let mut bytes = vec![in alloc; BLANK; usize::from(record_length)]?;
-    match field.take(alloc, text, &mut bytes) {
-        Ok(()) => Ok(Some(Vec::from_slice(alloc, key_in(label, &bytes))?)),
+    let alone = Field {
+        name: field.name,
+        start: 0,
+        width: field.width,
+        kind: field.kind,
+    };
+    let mut bytes = vec![in alloc; BLANK; usize::from(field.width)]?;
+    match alone.take(alloc, text, &mut bytes) {
+        Ok(()) => Ok(Some(bytes)),
         Err(CellFault::NoMemory) => Err(AllocError),
         Err(fault) => {
             note(mistakes, Mistake::KeyValue(field.name, fault))?;
@@ -158,38 +166,41 @@ fn field_codes(
     }
 }
 
-/// The codes of the characters of a key, with blanks up to its length.
-#[tactic(auto, using(s3_load::proofs::ColumnLemmas::none_told))]
-fn character_codes(
+/// The codes of a key's characters, with blanks up to its length.
+#[tactic(auto, using(s3_load::proofs::ColumnLemmas::none_told, crate::proofs::KeyLemmas::value_got))]
+fn key_of_characters(
     alloc: Global,
     label: &FileLabel,
     text: &[u8],
     mistakes: &mut Vec<Mistake>,
 ) -> Result<Option<Vec<u8>>, AllocError>
+    requires { 1 ≤ label.now.key_length }
+    ensures key { IfOk result (λ key. IfSome key (λ key. GetsValue characters text.now label.now.key_length key.items)) }
     ensures before { OnOk result (mistakes.new.items ≡ [] → mistakes.old.items ≡ []) }
 {
-    let mut codes = vec![in alloc; BLANK; usize::from(label.key_length)]?;
-    if text.len() > codes.len() {
-        note(mistakes, Mistake::LongKey(label.key_length))?;
-        return Ok(None);
-    }
-    if put_codes(text, &mut codes) {
-        Ok(Some(codes))
-    } else {
-        note(mistakes, Mistake::KeyCharacter)?;
-        Ok(None)
+    let characters = Field {
+        name: label.name,
+        start: 0,
+        width: u16::from(label.key_length),
+        kind: FieldKind::Text(TextCells::PLAIN),
+    };
+    let mut bytes = vec![in alloc; BLANK; usize::from(label.key_length)]?;
+    match characters.take(alloc, text, &mut bytes) {
+        Ok(()) => Ok(Some(bytes)),
+        Err(CellFault::NoMemory) => Err(AllocError),
+        Err(fault) => {
+            note(mistakes, key_mistake(label, fault))?;
+            Ok(None)
+        }
     }
 }
 
-/// Puts the codes of characters in place of the first of these. Returns whether each of the characters has a code.
-fn put_codes(text: &[u8], codes: &mut [u8]) -> bool {
-    for (place, character) in text.iter().enumerate() {
-        match code_of_byte(*character) {
-            Some(code) if place < codes.len() => codes[place] = code,
-            _ => return false,
-        }
+/// The mistake of a key whose characters aren't taken.
+fn key_mistake(label: &FileLabel, fault: CellFault) -> Mistake {
+    match fault {
+        CellFault::TooLong => Mistake::LongKey(label.key_length),
+        _ => Mistake::KeyCharacter,
     }
-    true
 }
 
 /// Reads the record at a place, from 0.

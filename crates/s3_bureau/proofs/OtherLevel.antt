@@ -158,6 +158,7 @@ ready_stays level his old new id pack spares ready = record {
   files = ready_over his.id (open_files his.job) (seen old.areas old.state.contents) (seen new.areas new.state.contents) ready.files
       (subst (λ (l : LevelId). SeesSame l (seen old.areas old.state.contents) (seen new.areas new.state.contents)) (sym id) (other_sees level old new pack spares)) spares.pack;
   job = ready.job;
+  of_library = ready.of_library;
 }
 
 pub worlds_stay : (level : LevelId) (his : Level) (old new : Around) (w : World) → his.id ≡ other level → IsReady his (seen old.areas old.state.contents) → Spares level old new

@@ -322,6 +322,11 @@ const OPERATE: CommandWords = CommandWords {
             help: "Lists the jobs of the decks, and runs none; needs --deck1, --deck2 or both",
         },
         Word {
+            name: "json",
+            takes: Takes::Nothing,
+            help: "With --jobs, prints a JSON object for each job, a line each",
+        },
+        Word {
             name: "save-unfinished",
             takes: Takes::Nothing,
             help: "Saves the pack even if a level isn't done; needs --save",

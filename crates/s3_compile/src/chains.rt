@@ -1,4 +1,4 @@
-//! Chains of calls, each in what the one before calls.
+//! Chains of calls: each call is in the subroutine that the call before calls.
 
 ghost use Rattle.std.specs.Prelude.{◌≡◌, ℕ, nat_eq, IfOk, filter};
 ghost use Rattle.indexmap.specs.IndexSet.{contains};
@@ -47,7 +47,7 @@ fn calls_within(
     Ok(within)
 }
 
-/// Of these calls those in what they call.
+/// The calls in the subroutines that these calls call.
 fn later_calls(alloc: Global, calls: &[Call]) -> Result<Vec<Call>, AllocError>
     ensures { IfOk result (λ later. later.items ≡ filter (λ call. is_among (is_called calls.now) call.caller) calls.now) }
 {

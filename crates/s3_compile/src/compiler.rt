@@ -70,9 +70,9 @@ fn compile_with(
     compile_known(alloc, known, lines, run_card)
 }
 
-/// The program that stands for the source of these lines, under the name of its H card or RPGOBJ; or its diagnostics 5 to
-/// 12 (docs/LANGUAGE.md, "Diagnostics"), by card and then number, where one on the whole program bears the number of the RUN card.
-/// The lines are those of cards without a fault of their own, as `read_sheets` gives them. It says so where memory runs out.
+/// The program that represents the source of these lines, under the name of its H card or RPGOBJ; or its diagnostics 5 to 12
+/// (docs/LANGUAGE.md, "Diagnostics"), by card and then number. A diagnostic on the whole program has the number of the RUN card.
+/// The lines must be those of cards without an error of their own, as `read_sheets` gives them. Also refused if memory runs out.
 pub fn compile(alloc: Global, lines: &[Line], run_card: u16) -> Result<Program, CompileFault>
     requires read { IsTrue (are_read lines.now) }
     ensures { Compiles lines.now run_card result }

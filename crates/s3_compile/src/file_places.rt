@@ -26,7 +26,7 @@ fn note_place(
     Ok(())
 }
 
-/// The place of the F line behind a line.
+/// The place of the F line after a line.
 fn place_behind_line(place: usize, line: &Line) -> usize
     requires { place + 1 < 2 ^ 64 }
     ensures { result ≡ place_behind place line.now }
@@ -37,7 +37,7 @@ fn place_behind_line(place: usize, line: &Line) -> usize
     }
 }
 
-/// For each file's name, the place of the first F line with it, from 0 among the F lines; refused only where memory runs out.
+/// For each file's name, the place of the first F line with it, from 0 among the F lines; refused only if memory runs out.
 pub fn file_places(alloc: Global, lines: &[Line]) -> Result<IndexMap<Name, usize>, AllocError>
     ensures { IfOk result (λ table. Finds same_name table (file_places_spec 0 (filter_map file_line lines.now))) }
 {

@@ -22,7 +22,7 @@ fn distinct(alloc: Global, calls: &[Call]) -> Result<IndexSet<Call>, AllocError>
     Ok(distinct)
 }
 
-/// The calls that lie in a circle, or, where none does, those that are the ninth of a chain.
+/// The calls that lie in a circle, or, if none does, those that are the ninth of a chain.
 pub fn forbidden_calls(alloc: Global, calls: &[Call]) -> Result<IndexSet<Call>, AllocError>
     ensures { IfOk result (λ set. (call : Call) → contains same_call set call ≡ is_forbidden calls.now call) }
 {

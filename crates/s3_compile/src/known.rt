@@ -201,7 +201,7 @@ pub fn empty_tables(alloc: Global) -> KnownTables
     }
 }
 
-/// Fills empty tables with what lines define, and with what their diagnostics ask of it; refused only where memory runs out. The
+/// Fills empty tables with what lines define, and with what their diagnostics ask of it; refused only if memory runs out. The
 /// caller owns the tables, so that no early return here drops them.
 pub fn fill_tables(alloc: Global, known: &mut KnownTables, lines: &[Line]) -> Result<(), AllocError>
     requires { IsTrue (are_ranged lines.now) }

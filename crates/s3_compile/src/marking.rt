@@ -330,7 +330,7 @@ fn first_matched(tables: &MarkTables, lines: &[InputLine<Meaning>]) -> [bool; 9]
     [false; 9]
 }
 
-/// Fills empty tables with what I lines say of record types and of match and control fields; refused only where memory runs out.
+/// Fills empty tables with what I lines say of record types and of match and control fields; refused only if memory runs out.
 pub fn fill_marks(
     alloc: Global,
     tables: &mut MarkTables,

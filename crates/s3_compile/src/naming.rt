@@ -100,7 +100,7 @@ fn note_subroutine_on(
     Ok(())
 }
 
-/// Where the C line behind a line stands.
+/// The context of the C line after a line.
 fn behind_line(at: &CalculationStanding, line: &Line) -> CalculationStanding
     requires { IsEarly at.now }
     ensures { result ≡ calculation_behind at.now line.now }
@@ -111,7 +111,7 @@ fn behind_line(at: &CalculationStanding, line: &Line) -> CalculationStanding
     }
 }
 
-/// The tags that lines define, each by its first TAG line; refused only where memory runs out.
+/// The tags that lines define, each by its first TAG line; refused only if memory runs out.
 #[tactic(auto, unfolding(s3_program::specs::Inner::Given::all_noted))]
 pub fn tags_defined(alloc: Global, lines: &[Line]) -> Result<IndexMap<Name, TagPlace>, AllocError>
     ensures { IfOk result (λ table. table.entries ≡ firsts (spec.tags_from first_calculation_spec (filter_map calculation_line lines.now))) }
@@ -125,7 +125,7 @@ pub fn tags_defined(alloc: Global, lines: &[Line]) -> Result<IndexMap<Name, TagP
     Ok(table)
 }
 
-/// The subroutines that lines define, each by its first BEGSR line; refused only where memory runs out.
+/// The subroutines that lines define, each by its first BEGSR line; refused only if memory runs out.
 #[tactic(auto, unfolding(s3_program::specs::Inner::Given::all_noted))]
 pub fn subroutines_defined(
     alloc: Global,
@@ -176,7 +176,7 @@ fn note_field_on(table: &mut IndexMap<Name, Shape>, line: &Line) -> Result<(), A
     Ok(())
 }
 
-/// Adds the results that C lines define, each by its first line and unless the table has the name; refused only where memory runs
+/// Adds the results that C lines define, each by its first line and unless the table has the name; refused only if memory runs
 /// out.
 #[tactic(auto, unfolding(s3_program::specs::Inner::Given::all_noted))]
 pub fn note_results(table: &mut IndexMap<Name, Shape>, lines: &[Line]) -> Result<(), AllocError>
@@ -188,7 +188,7 @@ pub fn note_results(table: &mut IndexMap<Name, Shape>, lines: &[Line]) -> Result
     Ok(())
 }
 
-/// Adds the fields of I lines, each by its first line and unless the table has the name; refused only where memory runs out.
+/// Adds the fields of I lines, each by its first line and unless the table has the name; refused only if memory runs out.
 #[tactic(auto, unfolding(s3_program::specs::Inner::Given::all_noted))]
 pub fn note_fields(table: &mut IndexMap<Name, Shape>, lines: &[Line]) -> Result<(), AllocError>
     requires { IsTrue (are_ranged lines.now) }

@@ -7,7 +7,7 @@ use indexmap::IndexMap;
 use std::alloc::AllocError;
 use std::hash::Hash;
 
-/// Puts an entry for a key behind the others of a table, unless the key is there already. It is refused only where memory runs out.
+/// Puts an entry for a key after the others of a table, unless the key is there already. It is refused only if memory runs out.
 pub fn note<K: Copy + Eq + Hash, T: Copy>(
     table: &mut IndexMap<K, T>,
     key: K,

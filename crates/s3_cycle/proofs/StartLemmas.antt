@@ -61,3 +61,17 @@ starts_begun program switches date beginning old new begun begins goes =
 
     progress : BeginsProgress old.program switches old.progress
     progress = rw (begun.program, begun.progress) begins.progress
+
+-- a run of the same program that begins again
+pub restarts_running : (old : Stepper) (state : State) (progress : Progress) (switches : ℕ) (date : List ℕ) → IsRunning old → BeginsState old.program switches date state → BeginsProgress old.program switches progress
+    → IsRunning (record old { state = state; progress = progress })
+restarts_running old state progress switches date running begins begins' = record {
+  overflow = running.overflow;
+  state = begins.sound;
+  reading = begins'.reading;
+  heads = begins'.heads;
+  calculations = running.calculations;
+  totals_guard = running.totals_guard;
+  inputs = running.inputs;
+  outputs = running.outputs;
+}

@@ -63,6 +63,28 @@ impl Cycle {
         })
     }
 
+    /// The next job of the same program at its first request, with its switches and its date. What the program was decoded into
+    /// is kept.
+    pub fn restart(
+        mut self,
+        alloc: Global,
+        switches: u8,
+        date: [u8; 6],
+    ) -> Result<Cycle, AllocError>
+        requires { IsDate date }
+        ensures { IfOk result (λ c. (source : Source) → StandsFor self source → StandsFor c source × ((answers : List MeantAnswer) → rest source c answers ≡ Req source switches date answers)) }
+    {
+        self.stepper.restart(alloc, switches, date)?;
+        Ok(self)
+    }
+
+    /// The F lines of the program, by slot.
+    pub fn file_lines(&self) -> &[FileLine]
+        ensures { result.now ≡ files self.now }
+    {
+        &self.stepper.program.files
+    }
+
     /// The F line at a slot, if there is one. By its name the requests to its file are meant.
     pub fn file_line(&self, file: usize) -> Option<&FileLine>
         ensures line { option_copied result ≡ slice_get (files self.now) file }

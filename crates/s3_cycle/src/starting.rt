@@ -1,7 +1,8 @@
 //! The beginning of a run.
-ghost use Rattle.std.specs.Prelude.{◌≡◌, ◌+◌, ◌*◌, ◌^◌, ◌<◌, None, length, replicate, IfOk};
+ghost use Rattle.std.specs.Prelude.{◌≡◌, ◌+◌, ◌*◌, ◌^◌, ◌<◌, None, length, replicate, IfOk, OnOk};
 ghost use Rattle.s3_operations.specs.Inner.Beginning.{IsDate};
 ghost use Rattle.s3_operations.specs.Inner.Held.{HasTexts};
+ghost use Rattle.s3_cycle.specs.Inner.Going.{IsRunning};
 ghost use Rattle.s3_cycle.specs.Inner.Starting.{AreInstructions, BeginsProgress, BeginsRun, BeginsState, IsBegun, Starts};
 
 use crate::found::FoundRecord;
@@ -184,5 +185,19 @@ impl Stepper {
             }
             Err(fault) => Err(fault),
         }
+    }
+
+    /// The next job of the same program at its first request. The program and its instructions stay.
+    pub fn restart(&mut self, alloc: Global, switches: u8, date: [u8; 6]) -> Result<(), AllocError>
+        requires running { IsRunning self.old }
+        requires date { IsDate date }
+        ensures { OnOk result (Starts self.old.program switches date self.new) }
+    {
+        let state = State::first(alloc, &self.program, switches, date)?;
+        let progress = Progress::first(alloc, &self.program, switches)?;
+        self.state = state;
+        self.progress = progress;
+        self.put_headings(0);
+        Ok(())
     }
 }

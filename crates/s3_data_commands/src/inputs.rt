@@ -207,7 +207,7 @@ fn words_of(fault: CardFault) -> &'static str {
     match fault {
         CardFault::TooWide => "is over 96 columns; shorten its line",
         CardFault::BadCharacter =>
-            "has a character that no card can have; write one that cards have, or give the text a name that ends in .rpg, so that it is punched",
+            "has a character that no card can have; write one that cards have; small letters become capitals in a text whose name ends in .rpg",
         CardFault::TooMany => "is the last that a deck can have; cut the source out of the deck",
     }
 }

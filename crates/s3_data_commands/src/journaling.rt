@@ -3,6 +3,7 @@
 use crate::fault::{Fault, of_journal};
 use crate::pack_words::{limit_of, wrong_words};
 use clap::ArgMatches;
+use s3_host_files::FileFault;
 use s3_journal::{Posting, Work, checksum_of};
 use s3_journal_files::{GivenPack, JournalFile, NewLine, keep_journal_apart};
 
@@ -97,6 +98,11 @@ impl<'a> OpenJournal<'a> {
             Ok(()) => Ok(()),
             Err(refusal) => Err(of_journal(rt, &refusal)),
         }
+    }
+
+    /// Ends the save of the pack: its line is removed again if the pack wasn't saved.
+    pub fn end_save(&self, rt: &HostRuntime, done: &Result<(), FileFault>) {
+        self.file.end_save(rt, done);
     }
 
     /// Appends the line of what the command did, given the pack that it leaves, and brings the line to the disk. A journal that got no

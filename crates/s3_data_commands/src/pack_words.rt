@@ -7,8 +7,8 @@ use crate::journaling::OpenJournal;
 use clap::ArgMatches;
 use s3_cards::{LevelId, Name, is_name, to_ebcdic};
 use s3_host_files::{
-    Limit, LockedPack, Target, is_empty_at, is_pack_at, keep_save_apart, read_pack, read_to_save,
-    save_new_pack, save_pack,
+    FileFault, Limit, LockedPack, Target, is_empty_at, is_pack_at, keep_save_apart, read_pack,
+    read_to_save, save_new_pack, save_pack,
 };
 use s3_journal::Work;
 use s3_labels::{LabelFault, MountFault};
@@ -298,7 +298,7 @@ pub struct Save<'j> {
     pub work: Work,
 }
 
-/// Saves a pack, whole or not at all, once its journal has the line of the command. Without `--overwrite` a file that has
+/// Saves a pack, whole or not at all, once its journal has the line of the command; the line is removed again if the save fails. Without `--overwrite` a file that has
 /// appeared by now isn't overwritten. A new file has no more permissions than the pack that was read. The packs that were read
 /// aren't taken for leftovers of a save.
 pub fn saved<'a>(
@@ -313,34 +313,38 @@ pub fn saved<'a>(
         mut journal,
         work,
     } = save;
+    let limit = limit_of(rt, matches)?;
     if let Some(journal) = &mut journal {
         journal.append(rt, pack, work)?;
     }
-    save_at(rt, matches, path, locked, pack)
-}
-
-/// Saves a pack, as `saved` does.
-fn save_at<'a>(
-    rt: &HostRuntime,
-    matches: &ArgMatches<'_>,
-    save: &'a str,
-    locked: Option<LockedPack>,
-    pack: &[u8],
-) -> Result<SavedPack<'a>, Fault> {
-    let limit = limit_of(rt, matches)?;
     let saved = SavedPack {
-        path: save,
-        is_other_replaced: locked.is_none() && is_pack_at(rt, Path::new(save)),
+        path,
+        is_other_replaced: locked.is_none() && is_pack_at(rt, Path::new(path)),
     };
-    let read = [matches.get_str("pack"), matches.get_str("into")];
-    let done = if locked.is_none() && !matches.get_flag("overwrite") {
-        save_new_pack(rt, save, limit, &read, pack)
-    } else {
-        save_pack(rt, save, locked, limit, &read, pack)
-    };
+    let done = save_at(rt, matches, path, limit, locked, pack);
+    if let Some(journal) = &journal {
+        journal.end_save(rt, &done);
+    }
     match done {
         Ok(()) => Ok(saved),
-        Err(fault) => Err(of_pack(rt, Use::Saves, &fault, save)),
+        Err(fault) => Err(of_pack(rt, Use::Saves, &fault, path)),
+    }
+}
+
+/// Saves a pack within a limit, as `saved` does.
+fn save_at(
+    rt: &HostRuntime,
+    matches: &ArgMatches<'_>,
+    path: &str,
+    limit: Option<Limit>,
+    locked: Option<LockedPack>,
+    pack: &[u8],
+) -> Result<(), FileFault> {
+    let read = [matches.get_str("pack"), matches.get_str("into")];
+    if locked.is_none() && !matches.get_flag("overwrite") {
+        save_new_pack(rt, path, limit, &read, pack)
+    } else {
+        save_pack(rt, path, locked, limit, &read, pack)
     }
 }
 

@@ -5,6 +5,7 @@ use crate::inputs::Decks;
 use crate::order::Order;
 use crate::outputs::limit_of;
 use s3_day_log::checksum;
+use s3_host_files::FileFault;
 use s3_journal::{LevelCount, Operated, Posting, Work};
 use s3_journal_files::{GivenPack, JournalFile, JournalRefusal, MadeJournal, NewLine};
 use s3_operating::Questioned;
@@ -113,6 +114,11 @@ impl<'a> DayJournal<'a> {
     /// A second handle of the journal, if this day made it.
     pub fn made(&self) -> Option<MadeJournal<'a>> {
         self.file.made()
+    }
+
+    /// Ends the save of the day's pack: its line is removed again if the pack wasn't saved.
+    pub fn end_save(&self, rt: &HostRuntime, done: &Result<(), FileFault>) {
+        self.file.end_save(rt, done);
     }
 
     /// Appends the line of the day, and brings it to the disk.

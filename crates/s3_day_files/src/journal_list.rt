@@ -9,7 +9,7 @@ use crate::restoring::{Restoring, restore};
 use clap::ArgMatches;
 use s3_cards::LevelId;
 use s3_command_line::FILE;
-use s3_host_files::StandardOutput;
+use s3_host_files::{StandardOutput, WRITTEN, stream_at};
 use s3_journal::{LevelCount, PostedDay, Saved, Work, saved_of};
 use s3_journal_files::read_journal;
 use s3_paper_commands::status::DONE;
@@ -100,11 +100,23 @@ fn list_journal<'a>(
     form: Form,
     kept: &[KeptPack],
 ) -> Result<(), DayFault<'a>> {
+    if let Some(stream) = stream_at(rt, name, &WRITTEN) {
+        return Err(DayFault::Stream(name, stream));
+    }
     let text = journal_text(rt, name, form, kept)?;
     if StandardOutput::new(rt).write_all(text.as_bytes()).is_err() {
         return Err(DayFault::Cli(FILE));
     }
     Ok(())
+}
+
+/// Reports that the last line of a journal isn't complete.
+fn report_cut(rt: &HostRuntime, name: &str) {
+    let name = Shown(name);
+    let _ = writeln!(
+        rt.stderr(),
+        "{name}: its last line isn't complete, because its command was killed before its pack was saved; the next command with this journal removes it"
+    );
 }
 
 /// The days of a journal, the first one first, or how many lines it has.
@@ -115,6 +127,9 @@ fn journal_text<'a>(
     kept: &[KeptPack],
 ) -> Result<String, DayFault<'a>> {
     let journal = read_journal(rt, name)?;
+    if journal.is_cut {
+        report_cut(rt, name);
+    }
     let mut text = String::new(rt.alloc());
     match form {
         Form::Count => push_count(&mut text, name, journal.days.len())?,

@@ -168,9 +168,10 @@ impl SetAside {
             return Ok(None);
         };
         match free_number(rt, locked.place(), MOST_KEPT) {
-            Ok(count) => {
-                test_names(rt, name, locked.place(), count)?;
-                SetAside::of_pack(rt, name, locked, count)
+            Ok(free) => {
+                // a killed save may have left a pack that takes the free number
+                test_names(rt, name, locked.place(), free.saturating_add(1))?;
+                SetAside::of_pack(rt, name, locked, MOST_KEPT)
             }
             Err(error) => Err(not_kept(rt, name, &error)),
         }
@@ -225,11 +226,13 @@ impl SetAside {
         }
     }
 
-    /// Moves each pack before the first free number to the next number, the highest one first.
+    /// Moves each pack before the first free number to the next number, the highest one first. If as many are kept as are wanted, or
+    /// more, the oldest one is replaced.
     fn move_up(&self, rt: &HostRuntime) -> io::Result<()> {
         let free = free_number(rt, self.place.as_path(), self.count)?;
-        for step in 0..free {
-            self.move_one(rt, free - 1 - step)?;
+        let last = oldest_number(rt, self.place.as_path(), free)?;
+        for step in 0..last {
+            self.move_one(rt, last - 1 - step)?;
         }
         Ok(())
     }
@@ -265,6 +268,20 @@ fn free_number(rt: &HostRuntime, place: Path<'_>, last: u16) -> io::Result<u16> 
         }
     }
     Ok(last)
+}
+
+/// The number of the oldest of the packs that are kept from a number on, without a gap; that number if none is.
+fn oldest_number(rt: &HostRuntime, place: Path<'_>, first: u16) -> io::Result<u16> {
+    for number in first..MOST_KEPT {
+        let next = kept_name(rt.alloc(), place, number.saturating_add(1))?;
+        let kept = kept_name(rt.alloc(), place, number)?;
+        if at_name(rt, kept.as_str())? != AtName::Pack
+            || at_name(rt, next.as_str())? != AtName::Pack
+        {
+            return Ok(number);
+        }
+    }
+    Ok(MOST_KEPT)
 }
 
 /// Renumbers the packs that are kept, if the new pack has its name; else the pack that was set aside loses its second name.

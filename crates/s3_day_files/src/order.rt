@@ -70,6 +70,8 @@ pub struct Order<'a> {
     pub overwrites: bool,
     /// Whether progress and the answers of rules aren't reported.
     pub is_quiet: bool,
+    /// Whether jobs are listed in JSON.
+    pub is_json: bool,
     /// In place of which exit statuses the command ends with 0.
     pub exit_zero: ExitZero,
 }
@@ -114,6 +116,7 @@ impl<'a> Order<'a> {
             is_once: words.get_flag("once"),
             overwrites: words.get_flag("overwrite"),
             is_quiet: words.get_flag("quiet"),
+            is_json: words.get_flag("json"),
             exit_zero,
         })
     }

@@ -182,6 +182,7 @@ fn put_back<'a>(
     }
     let done = save_pack(rt, asked.save, locked, None, &[], bytes);
     end_aside(rt, &aside, &done);
+    journal.end_save(rt, &done);
     match done {
         Ok(()) => {
             report_restored(rt, asked);

@@ -5,11 +5,13 @@ use crate::order::Order;
 use crate::strays::report_strays;
 use s3_cards::{CardFault, Deck, DeckFault, LevelId};
 use s3_command_line::FILE;
+use s3_deck_json::push_jobs_of_deck;
 use s3_decks::{
     DeckText, JobEntry, Position, job_cut_at, jobs_of, left_out_from, lost_settings, push_cut,
     push_inherited, push_jobs,
 };
 use s3_host_files::StandardOutput;
+use s3_json_lines::{Value, lines_of};
 use s3_operating::{DayDeck, push_unread};
 use std::alloc::AllocError;
 use std::io::Write;
@@ -109,22 +111,53 @@ fn taken_up_at<'a>(
     Ok(DayDeck::TakenUp(text.without(alloc, &left_out)?))
 }
 
-/// Lists the jobs of both decks on standard output, and reports those that continue over statements of later jobs.
+/// Lists the jobs of both decks on standard output, in words or in JSON, and reports those that continue over statements of later jobs.
 pub fn list_jobs<'a>(
     rt: &HostRuntime,
+    is_json: bool,
     one: &DayDeck<'a>,
     two: &DayDeck<'a>,
 ) -> Result<(), DayFault<'a>> {
+    let text = if is_json {
+        jobs_in_json(rt, one, two)?
+    } else {
+        jobs_in_words(rt, one, two)?.into_bytes()
+    };
+    if StandardOutput::new(rt).write_all(text.as_slice()).is_err() {
+        return Err(DayFault::Cli(FILE));
+    }
+    report_strays(rt, one, two)?;
+    Ok(())
+}
+
+/// The jobs of both decks in words.
+fn jobs_in_words<'a>(
+    rt: &HostRuntime,
+    one: &DayDeck<'a>,
+    two: &DayDeck<'a>,
+) -> Result<String, DayFault<'a>> {
     let mut told = String::new(rt.alloc());
     push_level(rt, &mut told, LevelId::One, one)?;
     one.push_blank_ends(&mut told)?;
     push_level(rt, &mut told, LevelId::Two, two)?;
     two.push_blank_ends(&mut told)?;
-    if StandardOutput::new(rt).write_all(told.as_bytes()).is_err() {
-        return Err(DayFault::Cli(FILE));
-    }
-    report_strays(rt, one, two)?;
-    Ok(())
+    Ok(told)
+}
+
+/// The jobs of both decks as lines of JSON. Blank lines at the ends of files are reported.
+fn jobs_in_json<'a>(
+    rt: &HostRuntime,
+    one: &DayDeck<'a>,
+    two: &DayDeck<'a>,
+) -> Result<Vec<u8>, DayFault<'a>> {
+    let mut values = Vec::new(rt.alloc());
+    push_level_values(rt, &mut values, LevelId::One, one)?;
+    push_level_values(rt, &mut values, LevelId::Two, two)?;
+    let mut told = String::new(rt.alloc());
+    one.push_blank_ends(&mut told)?;
+    two.push_blank_ends(&mut told)?;
+    let _ = rt.stderr().write_all(told.as_bytes());
+    Ok(lines_of(rt.alloc(), &values)?)
 }
 
 /// Appends the jobs of the deck of a level.
@@ -139,25 +172,39 @@ fn push_level<'a>(
         LevelId::Two => "level 2\n",
     })?;
     let text = deck.with_places(rt.alloc())?;
+    let deck = cards_to_list(rt, level, &text)?;
+    let jobs = jobs_of(rt.alloc(), &deck)?;
+    push_jobs(told, &text, &jobs)?;
+    Ok(())
+}
+
+/// Appends an object for each job of the deck of a level.
+fn push_level_values<'a>(
+    rt: &HostRuntime,
+    values: &mut Vec<Value>,
+    level: LevelId,
+    deck: &DayDeck<'a>,
+) -> Result<(), DayFault<'a>> {
+    let text = deck.with_places(rt.alloc())?;
+    let deck = cards_to_list(rt, level, &text)?;
+    push_jobs_of_deck(rt.alloc(), values, level, &text, &deck)?;
+    Ok(())
+}
+
+/// The cards of the deck of a level; refused if they can't be read, which is reported.
+fn cards_to_list<'a>(
+    rt: &HostRuntime,
+    level: LevelId,
+    text: &DeckText<'_>,
+) -> Result<Deck, DayFault<'a>> {
     match Deck::read(rt.alloc(), text.text()) {
-        Ok(deck) => Ok(push_jobs_of(rt, told, &text, &deck)?),
+        Ok(deck) => Ok(deck),
         Err(DeckFault::At(card, fault)) => {
-            tell_unread(rt, level, &text, (card, fault))?;
+            tell_unread(rt, level, text, (card, fault))?;
             Err(DayFault::Deck(level))
         }
         Err(DeckFault::NoMemory) => Err(DayFault::from(AllocError)),
     }
-}
-
-/// Appends the jobs of a deck that can be read.
-fn push_jobs_of(
-    rt: &HostRuntime,
-    told: &mut String,
-    text: &DeckText<'_>,
-    deck: &Deck,
-) -> Result<(), AllocError> {
-    let jobs = jobs_of(rt.alloc(), deck)?;
-    push_jobs(told, text, &jobs)
 }
 
 /// Reports why a deck can't be read.

@@ -104,7 +104,7 @@ impl<'a> DeckText<'a> {
         self.places.get(card.checked_sub(1)?).copied()
     }
 
-    /// The number of the card, from 1, that is at a position; of a file that was given twice, the first time. `None` where
+    /// The number of the card, from 1, that is at a position; of a file that was given twice, the first time. `None` if
     /// the deck has no such file, or the file no such line.
     #[tactic(auto, using(crate::proofs::Keeping::seen_place))]
     pub fn card_at(&self, position: &Position<'_>) -> Option<usize>

@@ -5,7 +5,7 @@ ghost use Rattle.s3_decks.specs.Inner.Gaps.{AreAhead, begin_in_order as begin_in
 
 use crate::deck_text::CardRange;
 
-/// The ranges of cards that are left out, as far as they are still ahead. Where they begin in ascending order, each card looks at one of
+/// The ranges of cards that are left out, as far as they are still ahead. If they begin in ascending order, each card looks at one of
 /// them.
 #[derive(Clone, Copy)]
 pub(crate) struct Gaps<'a> {
@@ -72,7 +72,7 @@ fn not_ended(ranges: &[CardRange], place: usize) -> &[CardRange]
     rest
 }
 
-/// Whether a place is in one of these ranges. Where they begin in ascending order, a place before the first one is in none.
+/// Whether a place is in one of these ranges. If they begin in ascending order, a place before the first one is in none.
 #[tactic(auto, using(crate::proofs::Ahead::none_yet))]
 fn is_left_out(ranges: &[CardRange], is_ordered: bool, place: usize) -> bool
     ensures { (is_ordered ≡ true → begin_in_order_spec 0 ranges.now ≡ true) → result ≡ is_left_out_spec ranges.now place }

@@ -26,14 +26,14 @@ pub struct InheritedSwitches {
     pub setter: usize,
 }
 
-/// What a kept job would inherit from jobs that are left out. In the deck of the day it has to be said by cards of its own.
+/// What a kept job would inherit from jobs that are left out. In the deck of the day it must have cards of its own for it.
 #[derive(Clone, Copy)]
 pub struct Inherited {
     /// The place of the kept job among all jobs of the deck, from 0.
     pub job: usize,
-    /// The date, where it would be another one without the jobs that are left out.
+    /// The date, if it would be another one without the jobs that are left out.
     pub date: Option<InheritedDate>,
-    /// The switches, where one would stand otherwise.
+    /// The switches, if one of them would be different.
     pub switches: Option<InheritedSwitches>,
 }
 
@@ -71,7 +71,7 @@ impl Settings {
 }
 
 /// What the first kept job of a day that is taken up at a card, by its number from 1, would inherit from those that are left
-/// out; `None` where that is nothing. It hands on what its cards then say, so no later job loses anything. Jobs that compile
+/// out; `None` if that is nothing. It hands on what its cards then say, so no later job loses anything. Jobs that compile
 /// need neither date nor switches, and a job whose statements are faulty sets and uses none.
 pub fn lost_settings(jobs: &[JobEntry], card: usize) -> Option<Inherited> {
     let mut whole = Settings::at_first();
@@ -97,7 +97,7 @@ pub fn lost_settings(jobs: &[JobEntry], card: usize) -> Option<Inherited> {
     None
 }
 
-/// The date, where it is another one without the jobs that are left out.
+/// The date, if it is another one without the jobs that are left out.
 fn lost_date(
     jobs: &[JobEntry],
     card: usize,
@@ -124,7 +124,7 @@ fn sets_date(entry: &JobEntry) -> bool {
     }
 }
 
-/// What a job's SWITCH has to say beside its own entries, where a switch stands otherwise without the jobs that are left out.
+/// What a job's SWITCH must say in addition to its own entries, if a switch is different without the jobs that are left out.
 fn lost_switches(
     jobs: &[JobEntry],
     card: usize,

@@ -50,7 +50,7 @@ impl JobEntry {
         Ok(entry)
     }
 
-    /// The number of its first card, from 1: where the day is taken up again to begin with this job.
+    /// The number of its first card, from 1: the card at which the day is taken up again to begin with this job.
     pub fn first_card(&self) -> usize {
         self.cards.from.saturating_add(1)
     }

@@ -1,4 +1,4 @@
-//! Where a statement has its keyword.
+//! The place of a statement's keyword.
 
 use crate::Columns;
 use s3_cards::Card;

@@ -36,7 +36,7 @@ pub fn push_jobs(
     Ok(())
 }
 
-/// Appends `day1.job, lines 1 to 12`, or both ends where a job goes on in another file.
+/// Appends `day1.job, lines 1 to 12`, or both ends if a job continues in another file.
 pub(crate) fn push_lines(
     text: &mut String,
     first: CardPlace<'_>,

@@ -8,7 +8,7 @@ const DIGITS: usize = 7;
 /// A line that is named in the command.
 #[derive(Clone, Copy)]
 pub struct Position<'a> {
-    /// The file; `None` where the line is one of the whole deck.
+    /// The file; `None` if the line is one of the whole deck.
     pub file: Option<&'a str>,
     /// The number of the line, from 1.
     pub line: usize,
@@ -16,7 +16,7 @@ pub struct Position<'a> {
 
 impl<'a> Position<'a> {
     /// The position that a word says: digits, or a file's name, a colon and digits. A name may have colons itself, since the
-    /// last one counts. `None` where the number is missing, is 0, or has over 7 digits.
+    /// last one counts. `None` if the number is missing, is 0, or has over 7 digits.
     pub fn read(word: &'a str) -> Option<Position<'a>> {
         let (file, digits) = match word.rsplit_once(':') {
             Some((file, digits)) => (Some(file), digits),

@@ -4,7 +4,7 @@ use s3_cards::ebcdic::{ASTERISK, LETTER_H};
 use s3_cards::{Card, Name, are_blank};
 use s3_lines::reserved::RPGOBJ;
 
-/// The name of the program that a source makes: that of the first H card that has one, else RPGOBJ.
+/// The name of the program of a source: the name on the first H card that has one, else RPGOBJ.
 pub fn program_of(cards: &[Card]) -> Name {
     cards.iter().find_map(header_name).unwrap_or(RPGOBJ)
 }

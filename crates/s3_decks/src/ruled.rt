@@ -25,7 +25,7 @@ pub fn push_under_ruler(text: &mut String, codes: &[u8], columns: usize) -> Resu
     text.push('\n')
 }
 
-/// Appends EBCDIC codes under a ruler of columns, without the blanks at their end, and a line that marks some columns, where
+/// Appends EBCDIC codes under a ruler of columns, without the blanks at their end, and a line that marks some columns, if
 /// any are to be marked.
 pub fn push_ruled(text: &mut String, codes: &[u8], marked: &[Columns]) -> Result<(), AllocError> {
     let last = last_marked(marked);
@@ -38,7 +38,7 @@ pub fn push_ruled(text: &mut String, codes: &[u8], marked: &[Columns]) -> Result
     text.push('\n')
 }
 
-/// The last column that is marked; 0 where none is.
+/// The last column that is marked; 0 if none is.
 fn last_marked(marked: &[Columns]) -> usize {
     let mut last = 0;
     for columns in marked {
@@ -63,7 +63,7 @@ pub fn push_ruler(text: &mut String, columns: usize) -> Result<(), AllocError> {
     text.push('\n')
 }
 
-/// Appends `^` under each column that is marked, and blanks under those between them. Nothing is appended where none is marked.
+/// Appends `^` under each column that is marked, and blanks under those between them. Nothing is appended if none is marked.
 pub fn push_marks(text: &mut String, marked: &[Columns]) -> Result<(), AllocError> {
     for place in 0..last_marked(marked) {
         text.push(if is_marked(marked, place) { '^' } else { ' ' })?;

@@ -1,4 +1,4 @@
-//! Jobs that go on over statements of the next ones, in words.
+//! The texts about jobs that continue over statements of later jobs.
 
 use crate::characters::push_characters;
 use crate::job_list::{JobEntry, Statements};
@@ -50,7 +50,7 @@ fn push_job(
     text.push_str(after)
 }
 
-/// Appends how a job goes on over the statements at these places, from 0: `has // LOAD among its data at card 28 (day1.job, line 28), and
+/// Appends how a job continues over the statements at these places, from 0: `has // LOAD among its data at card 28 (day1.job, line 28), and
 /// 4 more statements: /* and /& are missing before it`.
 pub fn push_stray(
     text: &mut String,

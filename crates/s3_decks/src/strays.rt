@@ -27,7 +27,7 @@ const DATE: [u8; 4] = punched!(4, b"DATE");
 const SWITCH: [u8; 6] = punched!(6, b"SWITCH");
 
 /// The statements among the data of a job, which the deck has, by their places from 0; of a faulty job the LOAD statements after its
-/// first LOAD or RUN. They are the next jobs' if `/*` and `/&` are missing, since a job's data and a faulty job go on up to these
+/// first LOAD or RUN. They are the next jobs' if `/*` and `/&` are missing, since a job's data and a faulty job continue up to these
 /// (docs/OCL.md, "A job" and "Faulty jobs"). It is refused only if memory runs out.
 pub fn strays_of(alloc: Global, deck: &Deck, job: &JobEntry) -> Result<Vec<usize>, AllocError>
     ensures { IfOk result (λ places. places.items ≡ strays deck.now job.now.cards.from (said job.now.statements)) }

@@ -16,7 +16,8 @@ use Rattle.s3_bureau.specs.declared.entry.Entry.{Entry}
 use Rattle.s3_bureau.specs.declared.stop.Stop.{Stop}
 use Rattle.s3_desk.specs.declared.desk.Went.{Went}
 use Rattle.s3_desk.specs.declared.desk.Went.TheVariants.{Rests}
-use Rattle.s3_desk.specs.Inner.Desk.{Counts, GivesReply}
+use Rattle.s3_bureau.specs.Entries.{own}
+use Rattle.s3_desk.specs.Inner.Desk.{Counts, GivesReply, with_reply}
 use Rattle.s3_desk.specs.Inner.Events.{Asked, Event}
 use Rattle.s3_desk.specs.Inner.Moments.{Waits, reply_to}
 use Rattle.s3_desk.specs.Inner.Rounds.{Asks}
@@ -100,16 +101,16 @@ module _ {M : Type 0} (holds : M → LevelId → World → Type 0) {O : Type 0} 
       subst (λ (x : Went). Asks holds meets level x answers was is old from to other) (sym rests) (subst (λ (b : Bool). Asks holds meets level Rests answers was is old from to b) same (asks answers))
 
   pub counts_given : (level : LevelId) (digit : ℕ) (was is : List Entry) (old new : M) (result : Result Bool Stop) → GivesReply holds level digit was is old new result
-      → IfOk result (λ is_taken. Counts level was is 0 (if is_taken then 1 else 0))
-  counts_given level digit was is old new (Ok true) gives = counts_reply level digit was is gives.whole
-  counts_given level digit was is old new (Ok false) gives = subst (λ (es : List Entry). Counts level was es 0 0) (sym gives.same) (counts_same level was was 0 refl)
+      → IfOk result (λ is_taken. (answers : ℕ) → Counts level was is answers (with_reply is_taken answers))
+  counts_given level digit was is old new (Ok true) gives = λ answers. counts_reply level digit answers was is gives.whole
+  counts_given level digit was is old new (Ok false) gives = λ answers. counts_same level was is answers (ap (own level) gives.same)
   counts_given level digit was is old new (Err stop) gives = tt
 
 -- a reply that is taken counts
-pub counted_yes : (level : LevelId) (was is : List Entry) (old new : ℕ) (is_taken : Bool) → Counts level was is 0 (if is_taken then 1 else 0) → is_taken ≡ true → new ≡ old + 1 → Counts level was is old new
-counted_yes level was is old new true counts taken more = omega (arith, counts, more)
+pub counted_yes : (level : LevelId) (was is : List Entry) (old new : ℕ) (is_taken : Bool) → ((answers : ℕ) → Counts level was is answers (with_reply is_taken answers)) → is_taken ≡ true → new ≡ old + 1 → Counts level was is old new
+counted_yes level was is old new true counts taken more = subst (λ (n : ℕ). Counts level was is old n) (sym more) (counts old)
 counted_yes level was is old new false counts taken more = absurd (true≢false (sym taken))
 
-pub counted_no : (level : LevelId) (was is : List Entry) (answers : ℕ) (is_taken : Bool) → Counts level was is 0 (if is_taken then 1 else 0) → is_taken ≡ false → Counts level was is answers answers
+pub counted_no : (level : LevelId) (was is : List Entry) (answers : ℕ) (is_taken : Bool) → ((answers : ℕ) → Counts level was is answers (with_reply is_taken answers)) → is_taken ≡ false → Counts level was is answers answers
 counted_no level was is answers true counts not = absurd (true≢false not)
-counted_no level was is answers false counts not = omega (arith, counts)
+counted_no level was is answers false counts not = counts answers

@@ -1,8 +1,9 @@
 -- Entries that are noted at a desk, and those that aren't since they did nothing.
-use Rattle.std.proofs.Common.{◌≡◌, ◌≢◌, ◌⊎◌, inl, inr, ◌<◌, ◌≤◌, ◌+◌, ◌*◌, ℕ, zero, suc, Bool, true, false, List, [], ◌∷◌, ◌++◌, replicate, append_assoc, if◌then◌else◌, Result, Ok, Err, refl, sym, ap, ap₂, subst, ◌∙◌, arith}
+use Rattle.std.proofs.Common.{◌≡◌, ◌≢◌, ◌⊎◌, inl, inr, ◌<◌, ◌≤◌, ◌+◌, ◌*◌, ℕ, zero, suc, Bool, true, false, List, [], ◌∷◌, ◌++◌, replicate, append_assoc, if◌then◌else◌, Result, Ok, Err, IfOk, refl, sym, ap, ap₂, subst, ◌∙◌, arith}
 use Rattle.std.specs.Prelude.{cond, filter, length}
 use Rattle.std.proofs.lemmas.List.{append-nil, length-append}
 use Rattle.std.proofs.lemmas.List.Elements.{filter-append}
+use Rattle.std.proofs.lemmas.List.Folds.{list_all-append}
 use Rattle.s3_cards.specs.Inner.Levels.{other}
 use Rattle.s3_cards.specs.declared.levels.LevelId.{LevelId}
 use Rattle.s3_cards.specs.declared.levels.LevelId.TheVariants.{One, Two}
@@ -27,7 +28,7 @@ use Rattle.s3_desk.specs.declared.desk.Went.{Went}
 use Rattle.s3_desk.specs.declared.desk.Went.TheVariants.{On, Rests, Cut}
 use Rattle.s3_bureau.specs.Entries.{own, with_action}
 use Rattle.s3_bureau.specs.Inner.Underway.{Performs}
-use Rattle.s3_desk.specs.Inner.Desk.{AreMet, AsksLevel, BothEnd, Counts, DidNothing, DrainsQueue, DrainsSoFar, EndsAs, GivesReply, GoesOn, HasReached, HasReplied, IsLeft, IsLeftAt, IsQuiet, IsSpent, Keeps, LevelGoes, LevelGoesOn, RestsAt, Spends, Uses, is_drain, is_reply, is_turn, lines_in, replies_in, replies_left, replies_taken, room, turns_in}
+use Rattle.s3_desk.specs.Inner.Desk.{AreMet, AsksLevel, BothEnd, Counts, DidNothing, DrainsQueue, DrainsSoFar, EndsAs, GivesReply, GoesOn, HasReached, HasReplied, IsLeft, IsLeftAt, IsQuiet, IsSpent, Keeps, LevelGoes, LevelGoesOn, RepliesLast, RestsAt, Spends, Uses, is_drain, is_reply, is_turn, lines_in, replies_in, replies_left, room, turns_in}
 use Rattle.s3_desk.specs.Inner.Calls.{GoesAfter}
 use Rattle.s3_desk.specs.Inner.Events.{Event}
 use Rattle.s3_bureau.proofs.Performing.{performs_then, times_more}
@@ -250,39 +251,87 @@ uses_no_more level was is old new went uses none = record { spends = uses.spends
     not : Cut ≢ On
     not is = cc
 
+-- no line is left: the level has gone on if it printed some until then
+pub uses_ends : (level : LevelId) (was is : List Entry) (old new : Bounds) (went ended : Went) → Uses level was is old new went → new.lines ≡ 0 → (went ≡ On → ended ≡ On) → (went ≢ On → ended ≡ Cut) → Uses level was is old new ended
+uses_ends level was is old new On ended uses none on cut = subst (λ (x : Went). Uses level was is old new x) (sym (on refl)) uses
+uses_ends level was is old new Rests ended uses none on cut = subst (λ (x : Went). Uses level was is old new x) (sym (cut (λ e. cc))) (uses_no_more level was is old new Rests uses none)
+uses_ends level was is old new Cut ended uses none on cut = subst (λ (x : Went). Uses level was is old new x) (sym (cut (λ e. cc))) (uses_no_more level was is old new Cut uses none)
+
 -- a level that is cut has nothing left
 pub spent_cut : (level : LevelId) (was is : List Entry) (old new : Bounds) (went : Went) → Uses level was is old new went → went ≢ On → went ≢ Rests → IsSpent new
 spent_cut level was is old new On uses not_on not_rests = absurd (not_on refl)
 spent_cut level was is old new Rests uses not_on not_rests = absurd (not_rests refl)
 spent_cut level was is old new Cut uses not_on not_rests = uses.all refl
 
+-- ---- nothing is performed, where a level hasn't gone on
+pub cut_idle : (was is : List Entry) (went : Went) → went ≡ Cut → (went ≢ On → is ≡ was) → is ≡ was
+cut_idle was is went cut idle = idle (λ on. cc)
+
+pub idle_then : (was between is : List Entry) (first : Went) (result : Result Went Stop) → first ≡ Rests → (first ≢ On → between ≡ was) → IfOk result (λ went. went ≢ On → is ≡ between) → IfOk result (λ went. went ≢ On → is ≡ was)
+idle_then was between is first (Ok went) rests before idle = λ not_on. idle not_on ∙ before (λ on. cc)
+idle_then was between is first (Err stop) rests before idle = tt
+
 -- ---- how many replies are counted
 pub counts_then : (level : LevelId) (was between is : List Entry) (old middle new : ℕ) → Counts level was between old middle → Counts level between is middle new → Counts level was is old new
-counts_then level was between is old middle new ahead next = omega (arith, ahead, next)
+counts_then level was between is old middle new ahead next = λ first last. next first (ahead first last)
 
 pub counts_same : (level : LevelId) (was is : List Entry) (answers : ℕ) → own level is ≡ own level was → Counts level was is answers answers
-counts_same level was is answers same = let count : replies_taken level is ≡ replies_taken level was = ap (λ (actions : List Action). length (filter is_reply actions)) same in omega (arith, count)
+counts_same level was is answers same = λ first last. record { before = last.before; replies = last.replies; whole = same ∙ last.whole; are_replies = last.are_replies; many = last.many }
 
-more_replies : (level : LevelId) (was is more : List Entry) → is ≡ was ++ more → replies_taken level was ≤ replies_taken level is
-more_replies level was is more whole =
-    let count : replies_taken level is ≡ replies_taken level was + length (filter is_reply (own level more)) =
-    ap (λ es. length (filter is_reply (own level es))) whole
-    ∙ (ap (λ (actions : List Action). length (filter is_reply actions)) (own-append level was more)
-    ∙ (ap length (filter-append is_reply (own level was) (own level more)) ∙ length-append (filter is_reply (own level was)) (filter is_reply (own level more)))) in
-    omega (arith, count)
+pub counts_none : (level : LevelId) (was : List Entry) (new : ℕ) → new ≡ 0 → Counts level was was 0 new
+counts_none level was new none = subst (λ (n : ℕ). Counts level was was 0 n) (sym none) (counts_same level was was 0 refl)
+
+-- before a level has gone on no reply is counted
+none_last : (level : LevelId) (first : List Entry) → RepliesLast level first first 0
+none_last level first = record { before = []; replies = []; whole = sym (append-nil (own level first)); are_replies = refl; many = omega arith }
 
 pub has_replied : (level : LevelId) (was between is : List Entry) (old new : ℕ) → Counts level was between 0 old → Counts level between is old new → new ≡ 65535 → HasReplied level was is
-has_replied level was between is old new ahead next most = omega (arith, ahead, next, most)
+has_replied level was between is old new ahead next most = subst (λ (count : ℕ). RepliesLast level was is count) most (next was (ahead was (none_last level was)))
 
--- a level goes on, and no more replies are counted than before
-pub counts_fewer : (level : LevelId) (was is more : List Entry) (old new : ℕ) → is ≡ was ++ more → new ≤ old → Counts level was is old new
-counts_fewer level was is more old new whole fewer = omega (arith, more_replies level was is more whole, fewer)
+-- entries more, and no reply is counted
+counts_on : (level : LevelId) (was is more : List Entry) (old new : ℕ) → is ≡ was ++ more → new ≡ 0 → Counts level was is old new
+counts_on level was is more old new whole none = λ first last. record {
+  before = (last.before ++ last.replies) ++ own level more;
+  replies = [];
+  whole =
+      ap (own level) whole
+      ∙ (own-append level was more
+      ∙ (ap (λ (actions : List Action). actions ++ own level more) last.whole
+      ∙ (append_assoc (own level first) (last.before ++ last.replies) (own level more)
+      ∙ ap (λ (actions : List Action). own level first ++ actions) (sym (append-nil ((last.before ++ last.replies) ++ own level more))))));
+  are_replies = refl;
+  many = omega (arith, none);
+}
+
+counts_less : (level : LevelId) (was is : List Entry) (old new : ℕ) → is ≡ was → new ≤ old → Counts level was is old new
+counts_less level was is old new same fewer = λ first last. record {
+  before = last.before;
+  replies = last.replies;
+  whole = ap (own level) same ∙ last.whole;
+  are_replies = last.are_replies;
+  many = omega (arith, last.many, fewer);
+}
+
+-- a level has gone on, or it hasn't
+pub counts_went : (level : LevelId) (was is more : List Entry) (old new : ℕ) (went : Went) → is ≡ was ++ more → (went ≡ On → new ≡ 0) → (went ≢ On → is ≡ was) → new ≤ old → Counts level was is old new
+counts_went level was is more old new On whole none same fewer = counts_on level was is more old new whole (none refl)
+counts_went level was is more old new Rests whole none same fewer = counts_less level was is old new (same (λ e. cc)) fewer
+counts_went level was is more old new Cut whole none same fewer = counts_less level was is old new (same (λ e. cc)) fewer
 
 -- a reply is taken
-pub counts_reply : (level : LevelId) (digit : ℕ) (was is : List Entry) → is ≡ was ++ record { level = level; action = Reply digit } ∷ [] → Counts level was is 0 1
-counts_reply level digit was is whole =
-    let count : replies_taken level is ≡ replies_taken level was + 1 = fit_more is_reply was is 1 1 (record { level = level; action = Reply digit }) whole refl in
-    omega (arith, count)
+pub counts_reply : (level : LevelId) (digit answers : ℕ) (was is : List Entry) → is ≡ was ++ record { level = level; action = Reply digit } ∷ [] → Counts level was is answers (answers + 1)
+counts_reply level digit answers was is whole = λ first last. record {
+  before = last.before;
+  replies = last.replies ++ Reply digit ∷ [];
+  whole =
+      ap (own level) whole
+      ∙ (own-append level was (record { level = level; action = Reply digit } ∷ [])
+      ∙ (ap₂ (λ (one : List Action) (other : List Action). one ++ other) last.whole (own-replicate 1 (record { level = level; action = Reply digit }))
+      ∙ (append_assoc (own level first) (last.before ++ last.replies) (Reply digit ∷ [])
+      ∙ ap (λ (actions : List Action). own level first ++ actions) (append_assoc last.before last.replies (Reply digit ∷ [])))));
+  are_replies = list_all-append is_reply last.replies (Reply digit ∷ []) ∙ rw last.are_replies refl;
+  many = omega (arith, last.many, length-append last.replies (Reply digit ∷ []));
+}
 
 -- ---- what is left to do
 pub few_replies : (seat : Seat) → replies_left seat ≤ 65535
@@ -376,6 +425,18 @@ module _ {M : Type 0} (holds : M → LevelId → World → Type 0) where
   so_far_goes level was is old new On so_far = so_far
   so_far_goes level was is old new Rests so_far = quiet_goes level was is old new so_far
   so_far_goes level was is old new Cut so_far = so_far
+
+  -- no more lines may be drained
+  pub lines_end : (level : LevelId) (was is : List Entry) (old new : M) (went ended : Went) → DrainsSoFar holds level was is old new went → (went ≡ On → ended ≡ On) → (went ≢ On → ended ≡ Cut) → DrainsQueue holds level was is old new (Ok ended)
+  lines_end level was is old new On ended so_far on cut = subst (λ (x : Went). DrainsQueue holds level was is old new (Ok x)) (sym (on refl)) so_far
+  lines_end level was is old new Rests ended so_far on cut = subst (λ (x : Went). DrainsQueue holds level was is old new (Ok x)) (sym (cut (λ e. cc))) (so_far_goes level was is old new Rests so_far)
+  lines_end level was is old new Cut ended so_far on cut = subst (λ (x : Went). DrainsQueue holds level was is old new (Ok x)) (sym (cut (λ e. cc))) so_far
+
+  -- nothing was drained, where the level hasn't gone on
+  pub none_drained : (level : LevelId) (was is : List Entry) (old new : M) (went : Went) → DrainsSoFar holds level was is old new went → went ≢ Cut → went ≢ On → is ≡ was
+  none_drained level was is old new On so_far not_cut not_on = absurd (not_on refl)
+  none_drained level was is old new Rests so_far not_cut not_on = so_far.same
+  none_drained level was is old new Cut so_far not_cut not_on = absurd (not_cut refl)
 
   pub one_more : (level : LevelId) (was between is : List Entry) (old middle new : M) (went : Went) → DrainsSoFar holds level was between old middle went → LevelGoes holds level [] between is middle new → LevelGoes holds level [] was is old new
   one_more level was between is old middle new went so_far more = goes_then level was between is old middle new (so_far_goes level was between old middle went so_far) more

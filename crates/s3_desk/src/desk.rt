@@ -1,5 +1,5 @@
 //! A day at the desk, over two levels that take turns.
-ghost use Rattle.std.specs.Prelude.{◌≡◌, ◌≢◌, ◌⊎◌, ◌+◌, ◌<◌, ◌≤◌, ℕ, List, None, Some, Err, true, false, is_some, if◌then◌else◌, IfOk, IfSome, OnOk};
+ghost use Rattle.std.specs.Prelude.{◌≡◌, ◌≢◌, ◌⊎◌, ◌+◌, ◌<◌, ◌≤◌, ℕ, List, None, Some, Err, true, false, is_some, IfOk, IfSome, OnOk};
 ghost use Rattle.s3_operator.specs.Inner.Halts.{halt_of};
 ghost use Rattle.s3_operator.specs.Halts.{is_waiting, last_halt, waiting as waiting_spec};
 ghost use Rattle.s3_operator.specs.Replies.{is_allowed};
@@ -9,11 +9,11 @@ ghost use Rattle.s3_bureau.specs.declared.entry.Entry.{Entry};
 ghost use Rattle.s3_bureau.specs.declared.stop.Stop.TheVariants.{Stopped};
 ghost use Rattle.s3_bureau.specs.Inner.Stops.{failed_stop};
 ghost use Rattle.s3_cards.specs.declared.levels.LevelId.{LevelId};
-ghost use Rattle.s3_desk.specs.declared.desk.Went.TheVariants.{On, Rests};
+ghost use Rattle.s3_desk.specs.declared.desk.Went.TheVariants.{Cut, On, Rests};
 ghost use Rattle.s3_desk.specs.declared.ends.Bounds.{Bounds};
 ghost use Rattle.s3_desk.specs.declared.ends.End.TheVariants.{Cut as CutOff, Halted, OutOfReplies};
 ghost use Rattle.s3_desk.specs.Inner.Calls.{GoesAfter, KeepsFrom, NeverStopped};
-ghost use Rattle.s3_desk.specs.Inner.Desk.{AsksLevel, Counts, DayEnds, DrainsQueue, EndsAs, Follows, GivesReply, HasReached, HasReplied, IsLeft, IsSpent, Keeps, LevelGoesOn, MayFollow, RoundEnds, Spends, TakesTurns, Uses, replies_left, work_left};
+ghost use Rattle.s3_desk.specs.Inner.Desk.{AsksLevel, Counts, DayEnds, DrainsQueue, EndsAs, Follows, GivesReply, HasReached, HasReplied, IsLeft, IsSpent, Keeps, LevelGoesOn, MayFollow, RoundEnds, Spends, TakesTurns, Uses, replies_left, with_reply, work_left};
 ghost use Rattle.s3_desk.specs.Inner.Rounds.{Asks, Serves, ShowsHalt, SitsFrom, at_level};
 
 use crate::ends::{Bounds, End, Ends};
@@ -90,6 +90,7 @@ fn take_turns<M: Machine>(
     performed: &mut Performed,
 ) -> Result<Went, Stop>
     ensures goes { TakesTurns M.holds level performed.old performed.new bureau.old bureau.new result }
+    ensures idle { IfOk result (λ went. went ≢ On → performed.new ≡ performed.old) }
     ensures uses { IfOk result (λ went. Uses level performed.old performed.new left.old left.new went) }
     ensures after { OnOk result (GoesAfter M.after performed.old performed.new bureau.old bureau.new) }
     ensures kept { KeepsFrom M.keeps bureau.old bureau.new }
@@ -124,6 +125,7 @@ fn drain_queue<M: Machine>(
     performed: &mut Performed,
 ) -> Result<Went, Stop>
     ensures goes { DrainsQueue M.holds level performed.old performed.new bureau.old bureau.new result }
+    ensures idle { IfOk result (λ went. went ≢ On → performed.new ≡ performed.old) }
     ensures uses { IfOk result (λ went. Uses level performed.old performed.new left.old left.new went) }
     ensures after { OnOk result (GoesAfter M.after performed.old performed.new bureau.old bureau.new) }
     ensures kept { KeepsFrom M.keeps bureau.old bureau.new }
@@ -146,10 +148,23 @@ fn drain_queue<M: Machine>(
             Did::Refused(_number) => return Ok(went),
         }
     }
-    Ok(Went::Cut)
+    Ok(cut_unless_on(went))
 }
 
-/// A level continues by turns; if none acts, its queue is drained.
+/// Where a level was left that may print no more lines: it has gone on if it printed some until then.
+fn cut_unless_on(went: Went) -> Went
+    ensures on { went ≡ On → result ≡ On }
+    ensures cut { went ≢ On → result ≡ Cut }
+{
+    match went {
+        Went::On => Went::On,
+        Went::Rests => Went::Cut,
+        Went::Cut => Went::Cut,
+    }
+}
+
+/// A level goes on by turns; where none acts, its queue is drained.
+#[tactic(auto, using(crate::proofs::Sittings::cut_idle, crate::proofs::Sittings::idle_then))]
 fn go_on<M: Machine>(
     bureau: &mut M,
     level: LevelId,
@@ -158,6 +173,7 @@ fn go_on<M: Machine>(
     performed: &mut Performed,
 ) -> Result<Went, Stop>
     ensures goes { LevelGoesOn M.holds level performed.old performed.new bureau.old bureau.new result }
+    ensures idle { IfOk result (λ went. went ≢ On → performed.new ≡ performed.old) }
     ensures uses { IfOk result (λ went. Uses level performed.old performed.new left.old left.new went) }
     ensures after { OnOk result (GoesAfter M.after performed.old performed.new bureau.old bureau.new) }
     ensures kept { KeepsFrom M.keeps bureau.old bureau.new }
@@ -257,6 +273,7 @@ fn follow<M: Machine, O: Operator<M>>(
     ensures same_left { seat.new.left ≡ seat.old.left }
     ensures same_shown { seat.new.is_shown ≡ seat.old.is_shown }
     ensures fewer { seat.new.answers ≤ seat.old.answers }
+    ensures none { went ≡ On → seat.new.answers ≡ 0 }
     ensures answers { went ≢ On → replies_left seat.new ≡ replies_left seat.old }
     ensures no_device { failed_stop result ≡ 0 }
     ensures not_stopped { result ≢ Err Stopped }
@@ -342,7 +359,7 @@ fn ask<M: Machine, O: Operator<M>>(
     ensures goes { AsksLevel M.holds level performed.old performed.new bureau.old bureau.new result }
     ensures asks { IfOk result (λ is_taken. (answers : ℕ) → Asks M.holds O.meets level Rests answers performed.old performed.new bureau.old operator.old operator.new is_taken) }
     ensures spends { OnOk result ((left : Bounds) → Spends level performed.old performed.new left left) }
-    ensures counts { IfOk result (λ is_taken. Counts level performed.old performed.new 0 (if is_taken then 1 else 0)) }
+    ensures counts { IfOk result (λ is_taken. (answers : ℕ) → Counts level performed.old performed.new answers (with_reply is_taken answers)) }
     ensures after { OnOk result (GoesAfter M.after performed.old performed.new bureau.old bureau.new) }
     ensures kept { KeepsFrom M.keeps bureau.old bureau.new }
     ensures failed { M.failures bureau.new ≡ M.failures bureau.old + failed_stop result }
@@ -505,7 +522,7 @@ pub fn operate<M: Machine, O: Operator<M>>(
     // One that was cut has taken as many turns as it may, or as many lines were drained.
     ensures one_cut { IfOk result (λ ends. ends.one ≡ CutOff → HasReached LevelId.One performed.old performed.new bounds) }
     ensures two_cut { IfOk result (λ ends. ends.two ≡ CutOff → HasReached LevelId.Two performed.old performed.new bounds) }
-    // One that is out of replies has taken 65,535 of them at least.
+    // One that is out of replies has taken 65,535 of them at least, with no turn and no line between them.
     ensures one_out { IfOk result (λ ends. ends.one ≡ OutOfReplies → HasReplied LevelId.One performed.old performed.new) }
     ensures two_out { IfOk result (λ ends. ends.two ≡ OutOfReplies → HasReplied LevelId.Two performed.old performed.new) }
     // What the machine's own relations say.

@@ -1,14 +1,12 @@
 -- Dumps that are read character by character.
-use Rattle.std.proofs.Common.{◌≡◌, ℕ, zero, suc, ◌+◌, ◌<◌, ◌≤◌, refl, sym, ◌∙◌, ap, subst, arith, true, false, cond, ◌==◌, if◌then◌else◌, List, [], ◌∷◌, ◌++◌, length, take, drop, get_or}
+use Rattle.std.proofs.Common.{◌≡◌, ℕ, ◌+◌, ◌<◌, ◌≤◌, refl, sym, ◌∙◌, ap, subst, arith, true, false, cond, ◌==◌, if◌then◌else◌, List, [], ◌∷◌, length, take, drop, get_or}
 use Rattle.std.specs.Prelude.{Some, None}
 use Rattle.std.specs.List.{fold}
 use Rattle.std.proofs.lemmas.List.{drop_all, drop_more, take-append-drop, take_all}
 use Rattle.std.proofs.lemmas.List.Sums.{fold-append, fold_more}
 use Rattle.s3_dump.specs.Inner.Dumps.{IsNoDump, Stops, begun, is_start, line_after, line_end, next_line, restored, step, step_by, whole}
+use Rattle.s3_dump.specs.Inner.Writing.{reads}
 use Rattle.s3_dump.specs.declared.reading.Mode.{Mode}
-
-abbrev pub reads : List ℕ → Mode → List ℕ → Type 0
-reads text mode bytes = fold step (Some begun) text ≡ Some (record { mode = mode; bytes = bytes })
 
 pub one_more_read : (text : List ℕ) (i c : ℕ) (mode next : Mode) (old new : List ℕ) → i < length text → c ≡ get_or text i c → reads (take i text) mode old → step_by mode c old ≡ Some (record { mode = next; bytes = new }) → reads (take (i + 1) text) next new
 one_more_read text i c mode next old new h is before one =

@@ -1,15 +1,6 @@
-//! Why a pack isn't dumped or restored.
+//! Why a text isn't restored.
 
 use std::alloc::{AllocError, AllocFailed};
-
-/// Why a pack isn't dumped.
-#[derive(Clone, Copy)]
-pub enum DumpFault {
-    /// Memory was refused.
-    NoMemory,
-    /// The text would represent other bytes than the bytes of the pack.
-    OtherBytes,
-}
 
 /// Why a text isn't restored.
 #[derive(Clone, Copy)]
@@ -18,18 +9,6 @@ pub enum RestoreFault {
     NoMemory,
     /// The text is no dump; the first line that is wrong, from 1.
     NoDump(u64),
-}
-
-impl From<AllocError> for DumpFault {
-    fn from(_: AllocError) -> Self {
-        DumpFault::NoMemory
-    }
-}
-
-impl<T: Drop> From<AllocFailed<T>> for DumpFault {
-    fn from(_: AllocFailed<T>) -> Self {
-        DumpFault::NoMemory
-    }
 }
 
 impl From<AllocError> for RestoreFault {

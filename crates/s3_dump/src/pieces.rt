@@ -1,10 +1,9 @@
 //! A pack in pieces, each of which gets its line: the header, slots, spool blocks, records, and sectors.
-ghost use Rattle.std.specs.Prelude.{◌≡◌, ◌<◌, Some, IfOk};
+ghost use Rattle.std.specs.Prelude.{◌≡◌, ◌<◌, Some, IfOk, OnOk};
 ghost use Rattle.s3_dump.specs.Inner.Dumps.{restored};
+ghost use Rattle.s3_dump.specs.Inner.Writing.{Keeps};
 
-use crate::fault::{DumpFault, RestoreFault};
 use crate::notes::{after_note, header_note, records_note, sector_note, slot_note, spool_note};
-use crate::reading::restore;
 use crate::writing::Writer;
 use s3_cards::{LevelId, Name};
 use s3_labels::{AreaSlots, FileLabel, Pack, Refused, Slot};
@@ -42,49 +41,40 @@ struct Run {
     records: usize,
 }
 
-/// A pack as a text that represents its bytes. Refused with `OtherBytes` if the text would not, and with `NoMemory`.
-pub fn dump(alloc: Global, pack: &[u8]) -> Result<Vec<u8>, DumpFault>
+/// A pack as a text that represents its bytes. Refused only if memory is.
+#[tactic(auto, using(crate::proofs::WriterLemmas::keeps_on))]
+pub fn dump(alloc: Global, pack: &[u8]) -> Result<Vec<u8>, AllocError>
     ensures { IfOk result (λ text. restored text.items ≡ Some pack.now) }
 {
-    let text = written(alloc, pack)?;
-    match restore(alloc, &text) {
-        Ok(bytes) => {
-            if bytes.as_slice() == pack {
-                Ok(text)
-            } else {
-                Err(DumpFault::OtherBytes)
-            }
-        }
-        Err(RestoreFault::NoDump(_)) => Err(DumpFault::OtherBytes),
-        Err(RestoreFault::NoMemory) => Err(DumpFault::NoMemory),
-    }
-}
-
-/// The lines of a pack.
-fn written(alloc: Global, pack: &[u8]) -> Result<Vec<u8>, DumpFault> {
     let mut writer = Writer::new(alloc, pack);
     writer.note("a dump of `bureau`: [codes], *zeros, # notes")?;
+    write_pieces(alloc, pack, &mut writer)?;
+    write_sectors(alloc, &mut writer, pack.len())?;
+    writer.ended()
+}
+
+/// Writes what a pack has in its areas; nothing if it can't be mounted.
+#[tactic(auto, using(crate::proofs::WriterLemmas::keeps_all, crate::proofs::WriterLemmas::keeps_then))]
+fn write_pieces(alloc: Global, pack: &[u8], writer: &mut Writer<'_>) -> Result<(), AllocError>
+    ensures { OnOk result (Keeps writer.old writer.new) }
+{
     let store = MemoryStore::from_bytes(Vec::from_slice(alloc, pack)?);
     match Pack::over(alloc, store) {
-        Ok(Pack { pool: _pool, areas }) => write_areas(alloc, &areas, &mut writer)?,
+        Ok(Pack { pool: _pool, areas }) => write_areas(alloc, &areas, writer),
         Err(
             Refused {
                 pool: _pool,
                 fault: _fault,
             },
-        ) => {}
+        ) => Ok(()),
     }
-    write_sectors(alloc, &mut writer, pack.len())?;
-    writer.end_zeros()?;
-    Ok(writer.ended())
 }
 
 /// Writes the header, the slots, the spool blocks and the files.
-fn write_areas(
-    alloc: Global,
-    areas: &AreaSlots,
-    writer: &mut Writer<'_>,
-) -> Result<(), AllocError> {
+#[tactic(auto, using(crate::proofs::WriterLemmas::keeps_all, crate::proofs::WriterLemmas::keeps_then))]
+fn write_areas(alloc: Global, areas: &AreaSlots, writer: &mut Writer<'_>) -> Result<(), AllocError>
+    ensures { OnOk result (Keeps writer.old writer.new) }
+{
     let note = header_note(alloc, &areas.header())?;
     writer.write_part(SLOTS * SECTOR, note.as_str())?;
     let mut runs = Vec::new(alloc);
@@ -93,7 +83,7 @@ fn write_areas(
     write_slots(alloc, 2, areas.slots(LevelId::Two), writer, &mut runs)?;
     write_spool(alloc, writer)?;
     write_sectors(alloc, writer, REGIONS * SECTOR)?;
-    runs.sort_by_key(|run: &Run| run.from)?;
+    sort_runs(&mut runs)?;
     for run in &runs {
         write_sectors(alloc, writer, run.from)?;
         write_run(alloc, writer, run)?;
@@ -101,14 +91,22 @@ fn write_areas(
     Ok(())
 }
 
+/// Sorts runs by their places in the pack.
+fn sort_runs(runs: &mut Vec<Run>) -> Result<(), AllocError> {
+    runs.sort_by_key(|run: &Run| run.from)
+}
+
 /// Writes the slots of an area, and adds the runs of its files.
+#[tactic(auto, using(crate::proofs::WriterLemmas::keeps_all, crate::proofs::WriterLemmas::keeps_then))]
 fn write_slots(
     alloc: Global,
     area: u16,
     slots: &[Slot],
     writer: &mut Writer<'_>,
     runs: &mut Vec<Run>,
-) -> Result<(), AllocError> {
+) -> Result<(), AllocError>
+    ensures { OnOk result (Keeps writer.old writer.new) }
+{
     let first = SLOTS * SECTOR + usize::from(area) * 8 * SECTOR;
     for (place, slot) in slots.iter().enumerate() {
         let note = slot_note(alloc, area, place, slot)?;
@@ -142,7 +140,10 @@ fn add_runs(area: u16, label: &FileLabel, runs: &mut Vec<Run>) -> Result<(), All
 }
 
 /// Writes the spool blocks.
-fn write_spool(alloc: Global, writer: &mut Writer<'_>) -> Result<(), AllocError> {
+#[tactic(auto, using(crate::proofs::WriterLemmas::keeps_all, crate::proofs::WriterLemmas::keeps_then))]
+fn write_spool(alloc: Global, writer: &mut Writer<'_>) -> Result<(), AllocError>
+    ensures { OnOk result (Keeps writer.old writer.new) }
+{
     for block in 0..SPARE - SPOOL {
         let note = spool_note(alloc, block, writer.next(4))?;
         writer.write_part((SPOOL + block + 1) * SECTOR, note.as_str())?;
@@ -151,13 +152,13 @@ fn write_spool(alloc: Global, writer: &mut Writer<'_>) -> Result<(), AllocError>
 }
 
 /// Writes sectors that no file has, up to a place.
-fn write_sectors(alloc: Global, writer: &mut Writer<'_>, to: usize) -> Result<(), AllocError> {
+#[tactic(auto, using(crate::proofs::WriterLemmas::keeps_all, crate::proofs::WriterLemmas::keeps_then))]
+fn write_sectors(alloc: Global, writer: &mut Writer<'_>, to: usize) -> Result<(), AllocError>
+    ensures { OnOk result (Keeps writer.old writer.new) }
+{
     let mut place = writer.place();
     while place < to {
-        let next = (place / SECTOR + 1)
-            .saturating_mul(SECTOR)
-            .min(to)
-            .max(place.saturating_add(1));
+        let next = sector_end(place, to);
         let note = sector_note(alloc, place / SECTOR)?;
         writer.write_part(next, note.as_str())?;
         place = next;
@@ -165,8 +166,19 @@ fn write_sectors(alloc: Global, writer: &mut Writer<'_>, to: usize) -> Result<()
     Ok(())
 }
 
+/// The end of the sector of a place, or the end of the sectors that are written if it comes first.
+fn sector_end(place: usize, to: usize) -> usize
+    requires { place < to }
+    ensures { place < result }
+{
+    (place / SECTOR + 1).saturating_mul(SECTOR).min(to)
+}
+
 /// Writes a run of a file: its records, a line each, and the sectors after them.
-fn write_run(alloc: Global, writer: &mut Writer<'_>, run: &Run) -> Result<(), AllocError> {
+#[tactic(auto, using(crate::proofs::WriterLemmas::keeps_all, crate::proofs::WriterLemmas::keeps_then))]
+fn write_run(alloc: Global, writer: &mut Writer<'_>, run: &Run) -> Result<(), AllocError>
+    ensures { OnOk result (Keeps writer.old writer.new) }
+{
     let after = run.records.saturating_sub(run.before);
     let records_end = run.from.saturating_add(after).min(run.to);
     if run.from < records_end {
@@ -176,16 +188,18 @@ fn write_run(alloc: Global, writer: &mut Writer<'_>, run: &Run) -> Result<(), Al
 }
 
 /// Writes the records of a run, up to the end of those that the label counts, or of the run.
+#[tactic(auto, using(crate::proofs::WriterLemmas::keeps_all, crate::proofs::WriterLemmas::keeps_then))]
 fn write_records(
     alloc: Global,
     writer: &mut Writer<'_>,
     run: &Run,
     end: usize,
-) -> Result<(), AllocError> {
+) -> Result<(), AllocError>
+    ensures { OnOk result (Keeps writer.old writer.new) }
+{
     let long = run.record_length.max(1);
     let number = run.before / long;
     let note = records_note(alloc, run.area, run.name, number.saturating_add(1))?;
-    writer.end_zeros()?;
     writer.note(note.as_str())?;
     // the end in the run of the record with which it begins
     let mut next = run.from.saturating_add(long - run.before % long);
@@ -197,15 +211,15 @@ fn write_records(
 }
 
 /// Writes what a run has after its records.
-fn write_rest(alloc: Global, writer: &mut Writer<'_>, run: &Run) -> Result<(), AllocError> {
+#[tactic(auto, using(crate::proofs::WriterLemmas::keeps_all, crate::proofs::WriterLemmas::keeps_then))]
+fn write_rest(alloc: Global, writer: &mut Writer<'_>, run: &Run) -> Result<(), AllocError>
+    ensures { OnOk result (Keeps writer.old writer.new) }
+{
     let note = after_note(alloc, run.area, run.name)?;
     let mut place = writer.place();
     let mut is_noted = false;
     while place < run.to {
-        let next = (place / SECTOR + 1)
-            .saturating_mul(SECTOR)
-            .min(run.to)
-            .max(place.saturating_add(1));
+        let next = sector_end(place, run.to);
         let length = writer.text.len();
         writer.write_part(next, if is_noted { "" } else { note.as_str() })?;
         is_noted = is_noted || writer.text.len() > length;

@@ -1,6 +1,9 @@
 //! The lines of a dump as they are written: codes, runs of zeros, and notes before them.
+ghost use Rattle.std.specs.Prelude.{◌≡◌, ◌≤◌, ◌<◌, ◌+◌, ◌-◌, ◌^◌, ◌++◌, ◌∷◌, ℕ, List, [], decimal, drop, length, replicate, take, Some, IfOk, OnOk};
+ghost use Rattle.s3_dump.specs.Inner.Dumps.{hex_value, most_zeros, restored};
+ghost use Rattle.s3_dump.specs.Inner.Writing.{AddsBytes, AddsLines, IsUpTo, Keeps, reads};
 
-use crate::reading::MOST_ZEROS;
+use crate::reading::{MOST_ZEROS, Mode};
 use s3_cards::{code_of_byte, host_byte};
 use std::alloc::{AllocError, Global};
 
@@ -17,38 +20,16 @@ pub struct Writer<'a> {
 
 impl<'a> Writer<'a> {
     /// At the beginning of a pack.
-    pub fn new(alloc: Global, pack: &'a [u8]) -> Writer<'a> {
+    #[tactic(auto, using(crate::proofs::WriterLemmas::nothing_yet))]
+    pub fn new(alloc: Global, pack: &'a [u8]) -> Writer<'a>
+        ensures { IsUpTo pack.now result }
+    {
         Writer {
             pack,
             place: 0,
             zeros: 0,
             text: Vec::new(alloc),
         }
-    }
-
-    /// Moves the writer to a place, or to the end of the pack if that comes first, and answers the bytes up to there. No bytes if
-    /// the writer is past it.
-    fn take(&mut self, to: usize) -> &'a [u8] {
-        let pack = self.pack;
-        let to = to.min(pack.len());
-        match pack.get(self.place..to) {
-            Some(bytes) => {
-                self.place = to;
-                bytes
-            }
-            None => &[],
-        }
-    }
-
-    /// The lines.
-    pub fn ended(self) -> Vec<u8> {
-        let Writer {
-            pack: _pack,
-            place: _place,
-            zeros: _zeros,
-            text,
-        } = self;
-        text
     }
 
     /// The place of the next byte.
@@ -58,114 +39,232 @@ impl<'a> Writer<'a> {
 
     /// The bytes of the pack from the place on, at most so many.
     pub fn next(&self, count: usize) -> &'a [u8] {
-        let pack = self.pack;
-        let Some(rest) = pack.get(self.place..) else {
-            return &[];
-        };
-        match rest.get(..count) {
-            Some(bytes) => bytes,
-            None => rest,
-        }
+        taken(self.pack, self.place, self.place.saturating_add(count))
     }
 
-    /// Writes the bytes up to a place: a note, if there is one, and a line of codes, unless all of them are zeros. Zeros at their end
-    /// are joined with those that follow.
-    pub fn write_part(&mut self, to: usize, note: &str) -> Result<(), AllocError> {
-        let bytes = self.take(to);
+    /// Writes the bytes up to a place: a note, if there is one, and a line of codes, unless all of them are zeros.
+    /// Zeros at their end are joined with those that follow.
+    pub fn write_part(&mut self, to: usize, note: &str) -> Result<(), AllocError>
+        ensures { OnOk result (Keeps self.old self.new) }
+    {
+        let bytes = taken(self.pack, self.place, to);
         let used = used_in(bytes);
-        if used > 0 {
-            self.end_zeros()?;
-            self.note(note)?;
-            self.push_codes(bytes.get(..used).unwrap_or(&[]))?;
-        }
-        self.zeros = self
-            .zeros
-            .saturating_add((bytes.len() - used.min(bytes.len())) as u64);
+        self.put_codes(note, &bytes[..used])?;
+        self.add_zeros(bytes.len() - used);
+        self.place = self.place.saturating_add(bytes.len());
         Ok(())
     }
 
     /// Writes the bytes up to a place as a line of codes.
-    pub fn write_record(&mut self, to: usize) -> Result<(), AllocError> {
-        let bytes = self.take(to);
-        if bytes.is_empty() {
+    pub fn write_record(&mut self, to: usize) -> Result<(), AllocError>
+        ensures { OnOk result (Keeps self.old self.new) }
+    {
+        let bytes = taken(self.pack, self.place, to);
+        self.put_codes("", bytes)?;
+        self.place = self.place.saturating_add(bytes.len());
+        Ok(())
+    }
+
+    /// Writes a note, after the zeros that have no line yet.
+    #[tactic(auto, using(crate::proofs::WriterLemmas::note_kept))]
+    pub fn note(&mut self, note: &str) -> Result<(), AllocError>
+        ensures { OnOk result (Keeps self.old self.new) }
+    {
+        push_zeros(&mut self.text, self.zeros)?;
+        push_note(&mut self.text, note)?;
+        self.zeros = 0;
+        Ok(())
+    }
+
+    /// The lines, with one more for the bytes that have none yet.
+    #[tactic(auto, using(crate::proofs::WriterLemmas::all_written))]
+    pub fn ended(self) -> Result<Vec<u8>, AllocError>
+        ensures { IfOk result (λ text. (pack : List ℕ) → IsUpTo pack self.entry → restored text.items ≡ Some pack) }
+    {
+        let Writer {
+            pack,
+            place,
+            zeros,
+            mut text,
+        } = self;
+        push_zeros(&mut text, zeros)?;
+        push_codes(&mut text, taken(pack, place, pack.len()))?;
+        Ok(text)
+    }
+
+    /// Writes codes: the zeros that have no line yet, a note, and the codes. Nothing if there are no codes.
+    #[tactic(auto, using(crate::proofs::WriterLemmas::no_codes_added, crate::proofs::WriterLemmas::codes_added))]
+    fn put_codes(&mut self, note: &str, codes: &[u8]) -> Result<(), AllocError>
+        ensures { OnOk result (AddsBytes self.old self.new codes.now) }
+    {
+        if codes.is_empty() {
             return Ok(());
         }
-        self.end_zeros()?;
-        self.push_codes(bytes)
-    }
-
-    /// Writes a note; none for an empty text.
-    pub fn note(&mut self, note: &str) -> Result<(), AllocError> {
-        if note.is_empty() {
-            return Ok(());
-        }
-        self.text.extend_from_slice(b"# ")?;
-        self.text.extend_from_slice(note.as_bytes())?;
-        self.text.push(b'\n')?;
+        push_zeros(&mut self.text, self.zeros)?;
+        push_note(&mut self.text, note)?;
+        push_codes(&mut self.text, codes)?;
+        self.zeros = 0;
         Ok(())
     }
 
-    /// Writes the line of the zeros that have none yet.
-    pub fn end_zeros(&mut self) -> Result<(), AllocError> {
-        while self.zeros > 0 {
-            let count = self.zeros.min(MOST_ZEROS);
-            self.text.push(b'*')?;
-            push_number(&mut self.text, count)?;
-            self.text.push(b'\n')?;
-            self.zeros = self.zeros.saturating_sub(count);
-        }
-        Ok(())
-    }
-
-    /// Appends a line of codes.
-    fn push_codes(&mut self, bytes: &[u8]) -> Result<(), AllocError> {
-        self.text.push(b'[')?;
-        for code in bytes {
-            push_code(&mut self.text, *code)?;
-        }
-        self.text.extend_from_slice(b"]\n")?;
-        Ok(())
+    /// Adds zeros to those that have no line yet.
+    #[tactic(auto, using(crate::proofs::WriterLemmas::zeros_added))]
+    fn add_zeros(&mut self, count: usize)
+        ensures { AddsBytes self.old self.new (replicate count 0) }
+    {
+        self.zeros = self.zeros.saturating_add(count as u64);
     }
 }
 
+/// The bytes of a pack from a place up to another one; none if the other one isn't after it. The pack may end before.
+#[tactic(auto, using(crate::proofs::WriterLemmas::none_taken, crate::proofs::WriterLemmas::part_taken))]
+fn taken<'a>(pack: &'a [u8], place: usize, to: usize) -> &'a [u8]
+    ensures bytes { take (place + length result.now) pack.now ≡ take place pack.now ++ result.now }
+    ensures within { place ≤ length pack.now → place + length result.now ≤ length pack.now }
+    ensures whole { place ≤ length pack.now → length pack.now ≤ to → place + length result.now ≡ length pack.now }
+    ensures short { length pack.now < 2 ^ 64 }
+{
+    let end = to.min(pack.len());
+    if end <= place {
+        return &[];
+    }
+    &pack[place..end]
+}
+
 /// How many bytes there are up to the last that isn't zero.
-fn used_in(bytes: &[u8]) -> usize {
-    let mut used = 0usize;
-    for (place, byte) in bytes.iter().enumerate() {
-        if *byte != 0 {
-            used = place.saturating_add(1);
-        }
+#[tactic(auto, using(crate::proofs::WriterLemmas::no_zeros, crate::proofs::WriterLemmas::one_more_zero))]
+fn used_in(bytes: &[u8]) -> usize
+    ensures within { result ≤ length bytes.now }
+    ensures zeros { drop result bytes.now ≡ replicate (length bytes.now - result) 0 }
+{
+    let mut used = bytes.len();
+    while used > 0 && bytes[used - 1] == 0 {
+        used -= 1;
     }
     used
 }
 
-/// Appends the character of a code, or its hexadecimal digits after a backslash.
-fn push_code(text: &mut Vec<u8>, code: u8) -> Result<(), AllocError> {
-    let shown = host_byte(code);
-    if code_of_byte(shown) == Some(code) {
-        return push(text, shown);
+/// Appends a line for a note; none for an empty text.
+#[tactic(auto, using(crate::proofs::WriterLemmas::adds_nothing, crate::proofs::WriterLemmas::note_read, crate::proofs::WriterLemmas::note_begun))]
+fn push_note(text: &mut Vec<u8>, note: &str) -> Result<(), AllocError>
+    ensures { OnOk result (AddsLines text.old.items text.new.items []) }
+{
+    if note.is_empty() {
+        return Ok(());
     }
-    push(text, b'\\')?;
-    push(text, digit(code / 16))?;
-    push(text, digit(code % 16))
+    push(text, b'#')?;
+    push(text, b' ')?;
+    for byte in note.as_bytes() {
+        push_noted(text, *byte)?;
+    }
+    push(text, b'\n')?;
+    Ok(())
 }
 
-fn push(text: &mut Vec<u8>, byte: u8) -> Result<(), AllocError> {
+/// Appends a byte of a note; not the end of a line, after which the note would end.
+#[tactic(auto, using(crate::proofs::WriterLemmas::one_more_noted))]
+fn push_noted(text: &mut Vec<u8>, byte: u8) -> Result<(), AllocError>
+    ensures { OnOk result ((before : List ℕ) → reads text.old.items Mode.Note before → reads text.new.items Mode.Note before) }
+{
+    if byte == b'\n' {
+        return Ok(());
+    }
+    push(text, byte)?;
+    Ok(())
+}
+
+/// Appends lines for so many zeros.
+#[tactic(auto, using(crate::proofs::WriterLemmas::no_run, crate::proofs::WriterLemmas::one_more_run, crate::proofs::WriterLemmas::all_runs))]
+fn push_zeros(text: &mut Vec<u8>, zeros: u64) -> Result<(), AllocError>
+    ensures { OnOk result (AddsLines text.old.items text.new.items (replicate zeros 0)) }
+{
+    let mut left = zeros;
+    while left > 0 {
+        let count = left.min(MOST_ZEROS);
+        push_run(text, count)?;
+        left -= count;
+    }
+    Ok(())
+}
+
+/// Appends the line of so many zeros.
+#[tactic(auto, using(crate::proofs::WriterLemmas::run_read))]
+fn push_run(text: &mut Vec<u8>, count: u64) -> Result<(), AllocError>
+    requires { count ≤ most_zeros }
+    ensures { OnOk result (AddsLines text.old.items text.new.items (replicate count 0)) }
+{
+    push(text, b'*')?;
+    push_number(text, count)?;
+    push(text, b'\n')?;
+    Ok(())
+}
+
+/// Appends the decimal digits of a number.
+fn push_number(text: &mut Vec<u8>, number: u64) -> Result<(), AllocError>
+    ensures { OnOk result (text.new.items ≡ text.old.items ++ decimal number) }
+{
+    let mut digits = itoa::Buffer::new();
+    text.extend_from_slice(digits.format(number).as_bytes())
+}
+
+/// Appends a line of codes; none for no bytes.
+#[tactic(auto, using(crate::proofs::WriterLemmas::adds_nothing, crate::proofs::WriterLemmas::codes_begun, crate::proofs::WriterLemmas::one_more_code, crate::proofs::WriterLemmas::codes_ended))]
+fn push_codes(text: &mut Vec<u8>, bytes: &[u8]) -> Result<(), AllocError>
+    ensures { OnOk result (AddsLines text.old.items text.new.items bytes.now) }
+{
+    if bytes.is_empty() {
+        return Ok(());
+    }
+    push(text, b'[')?;
+    for code in bytes {
+        push_code(text, *code)?;
+    }
+    push(text, b']')?;
+    push(text, b'\n')?;
+    Ok(())
+}
+
+/// Appends the character of a code, or its hexadecimal digits after a backslash.
+#[tactic(auto, using(crate::proofs::WriterLemmas::character_read, crate::proofs::WriterLemmas::digits_read))]
+fn push_code(text: &mut Vec<u8>, code: u8) -> Result<(), AllocError>
+    ensures { OnOk result ((before : List ℕ) → reads text.old.items Mode.Codes before → reads text.new.items Mode.Codes (before ++ code ∷ [])) }
+{
+    let shown = host_byte(code);
+    match code_of_byte(shown) {
+        Some(same) if same == code => {
+            push(text, shown)?;
+            Ok(())
+        }
+        _ => push_digits(text, code),
+    }
+}
+
+/// Appends the hexadecimal digits of a byte after a backslash.
+#[tactic(auto, using(crate::proofs::WriterLemmas::digits_read))]
+fn push_digits(text: &mut Vec<u8>, byte: u8) -> Result<(), AllocError>
+    ensures { OnOk result ((before : List ℕ) → reads text.old.items Mode.Codes before → reads text.new.items Mode.Codes (before ++ byte ∷ [])) }
+{
+    push(text, b'\\')?;
+    push(text, digit(byte / 16))?;
+    push(text, digit(byte % 16))
+}
+
+fn push(text: &mut Vec<u8>, byte: u8) -> Result<(), AllocError>
+    ensures { OnOk result (text.new.items ≡ text.old.items ++ byte ∷ []) }
+{
     text.push(byte)?;
     Ok(())
 }
 
 /// The hexadecimal digit of a number below 16.
-fn digit(number: u8) -> u8 {
-    match number {
-        0..=9 => b'0' + number,
-        10..=15 => b'A' + (number - 10),
-        _ => b'?',
+#[tactic(auto, using(crate::proofs::WriterLemmas::low_digit, crate::proofs::WriterLemmas::high_digit))]
+fn digit(number: u8) -> u8
+    requires { number < 16 }
+    ensures { hex_value result ≡ Some number }
+{
+    if number < 10 {
+        b'0' + number
+    } else {
+        b'A' + (number - 10)
     }
-}
-
-/// Appends the decimal digits of a number.
-fn push_number(text: &mut Vec<u8>, number: u64) -> Result<(), AllocError> {
-    let mut digits = itoa::Buffer::new();
-    text.extend_from_slice(digits.format(number).as_bytes())
 }

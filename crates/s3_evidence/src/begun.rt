@@ -13,6 +13,9 @@ use std::alloc::{AllocError, Global};
 /// The reply that ends a job after the totals of its last record.
 const TO_TOTALS: u8 = 2;
 
+/// The reply that passes over a record of no type, or out of sequence.
+const SKIPS: u8 = 0;
+
 /// The jobs of a level's deck, and how many of them were begun. It follows its level from halt to halt: the deck is read once, and each
 /// job that begins is looked at once.
 #[derive(Drop)]
@@ -31,6 +34,8 @@ pub struct Begun {
     answered: usize,
     /// Whether a reply has sent the job of the last of these to its totals.
     is_ending: bool,
+    /// Whether a reply has passed over a record of that job.
+    has_skipped: bool,
 }
 
 /// A source that was compiled.
@@ -53,6 +58,7 @@ impl Begun {
             seen: 0,
             answered: 0,
             is_ending: false,
+            has_skipped: false,
         }
     }
 
@@ -83,9 +89,11 @@ impl Begun {
             let job = job_of(halts, place);
             if job != job_of(halts, place.saturating_sub(1)) {
                 self.is_ending = false;
+                self.has_skipped = false;
             }
             if let Some(halt) = halts.get(place) {
                 self.is_ending = self.is_ending || halt.reply == Some(TO_TOTALS);
+                self.has_skipped = self.has_skipped || skips_record(halt);
                 if halt.reply.is_some() {
                     self.answered = place.saturating_add(1);
                 }
@@ -96,6 +104,11 @@ impl Begun {
     /// Whether a reply has sent the last job to its totals.
     pub fn is_ending(&self) -> bool {
         self.is_ending
+    }
+
+    /// Whether a reply to a halt has passed over a record of the last job.
+    pub fn has_skipped(&self) -> bool {
+        self.has_skipped
     }
 
     /// Takes the next job, if the level has begun it. Whether it has.
@@ -161,6 +174,14 @@ impl Begun {
         }
         Ok(names)
     }
+}
+
+/// Whether a halt was answered so that its record isn't processed.
+fn skips_record(halt: &Halt) -> bool {
+    matches!(
+        halt.code,
+        HaltCode::UnidentifiedRecord | HaltCode::OutOfSequence
+    ) && halt.reply == Some(SKIPS)
 }
 
 /// The job of the halt at a place.

@@ -4,9 +4,7 @@ ghost use Rattle.s3_evidence.specs.Inner.Totals.{is_last_record as is_last_recor
 
 use crate::begun::Source;
 use s3_lines::indicator::Indicator;
-use s3_lines::sheet::{
-    CalculationTime, FileLine, InputLine, Line, OutputKind, OutputLine, SheetLine,
-};
+use s3_lines::sheet::{CalculationTime, InputLine, Line, OutputKind, OutputLine, SheetLine};
 
 impl Source {
     /// Whether the calculation at a place of the C sheet is carried out with totals, and not with those of the last record alone. One
@@ -32,22 +30,6 @@ impl Source {
             Some(line) => is_total_line(line),
             None => false,
         }
-    }
-
-    /// The only file that the cycle reads, if it reads one file alone.
-    pub fn only_file_read(&self) -> Option<&FileLine> {
-        let mut only = None;
-        for line in &self.lines {
-            if let SheetLine::File(file) = &line.sheet
-                && (file.is_primary() || file.is_secondary())
-            {
-                if only.is_some() {
-                    return None;
-                }
-                only = Some(file);
-            }
-        }
-        only
     }
 
     /// Whether a line turns LR on, so that totals may be those of the last record before the end of the data.

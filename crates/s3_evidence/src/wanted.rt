@@ -42,6 +42,19 @@ pub(crate) enum Wanted {
         /// The one before it.
         before: Option<RecordPlace>,
     },
+    /// Records of a file that the cycle reads.
+    Totals {
+        /// The name by which the program knows it.
+        file: Name,
+        /// How many records of it were read.
+        number: u32,
+        /// Its label.
+        label: FileLabel,
+        /// The record that was read last.
+        last: Option<RecordPlace>,
+        /// The one before it.
+        before: Option<RecordPlace>,
+    },
     /// Slots that block labels.
     Slots(Vec<SlotPlace>),
     /// The indexes of these files, each under its label.
@@ -77,11 +90,56 @@ pub(crate) fn find_wanted<S: PackStore>(
         HaltCode::DamagedLabel | HaltCode::BadIndex => {
             wanted_at_start(alloc, bureau, held, level, code)
         }
-        _ => Ok(Wanted::Nothing),
+        _ => Ok(wanted_of_cycle(held).unwrap_or(Wanted::Nothing)),
     }
 }
 
 // ---- a program at work
+
+/// The records that are to be read if a program at work halts in a calculation or an output line, which may be one of totals: of the disk
+/// files that the cycle reads those of the one that it has come to, if it reads them one after the other.
+fn wanted_of_cycle(held: &Level) -> Option<Wanted> {
+    let cycle = held.cycle()?;
+    if !matches!(
+        cycle.stand(),
+        Stand::Calculation { .. } | Stand::Output { .. }
+    ) {
+        return None;
+    }
+    let file = held.files().get(place_in_turn(held, cycle)?)?;
+    Some(Wanted::Totals {
+        file: file.name,
+        number: file.read,
+        label: file.label.copied(),
+        last: nth_read(file, file.read),
+        before: nth_read(file, file.read.saturating_sub(1)),
+    })
+}
+
+/// The place among a job's files of the last one that the cycle reads and has read more than one record of; else of the first one of which
+/// it has read one.
+fn place_in_turn(held: &Level, cycle: &Cycle) -> Option<usize> {
+    let mut found = None;
+    for (place, file) in held.files().iter().enumerate() {
+        let is_later = file.read > 1 || (file.read == 1 && found.is_none());
+        if is_later && is_read_by_cycle(cycle, file.name) {
+            found = Some(place);
+        }
+    }
+    found
+}
+
+/// Whether a file is primary or secondary.
+fn is_read_by_cycle(cycle: &Cycle, name: Name) -> bool {
+    for slot in 0..MOST_FILES {
+        match cycle.file_line(slot) {
+            Some(line) if line.name == name => return line.is_primary() || line.is_secondary(),
+            Some(_line) => {}
+            None => break,
+        }
+    }
+    false
+}
 
 /// The records that are to be read if a program at work halts. Its source isn't needed for that.
 fn wanted_at_work(held: &Level, code: HaltCode) -> Option<Wanted> {

@@ -4,7 +4,7 @@ use crate::cards::DeckCards;
 use crate::files::push_file;
 use crate::stand::{Shown, push_stand};
 use s3_cycle::Cycle;
-use s3_evidence::{Begun, Evidence, Source};
+use s3_evidence::{Begun, Evidence, Selected, Source};
 use s3_level::Level;
 use s3_lines::sheet::{Device, FileLine};
 use s3_operator::HaltCode;
@@ -53,13 +53,9 @@ impl<'a> AtWork<'a> {
         (before > job.data_from()).then_some(before)
     }
 
-    /// The only file that the cycle reads, if that is on cards and the totals, if the program is at them, are surely those before the
-    /// last card that was read: cards are left, and nothing has turned LR on.
-    pub(crate) fn file_behind_totals(&self) -> Option<&'a FileLine> {
-        let file = self.source.only_file_read()?;
-        let unread = self.held.unread()?;
-        let is_last = self.begun.is_ending() || self.source.turns_last_record_on();
-        (is_on_cards(file) && unread.next < unread.end && !is_last).then_some(file)
+    /// The record that is selected, and processed after the totals, if the program is at totals; none if it isn't certain which one that is.
+    pub(crate) fn record_behind_totals(&self) -> Option<Selected> {
+        self.source.record_behind_totals(self.held, self.begun)
     }
 
     /// Whether the last data card that was read begins with these bytes.

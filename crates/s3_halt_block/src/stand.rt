@@ -7,7 +7,7 @@ use crate::match_fields::{Sort, level_fields};
 use s3_cards::Name;
 use s3_cycle::{Sought, Stand};
 use s3_decks::{Columns, push_characters, push_name, push_ruled};
-use s3_evidence::Evidence;
+use s3_evidence::{Evidence, Selected};
 use s3_lines::sheet::{FieldLine, FileLine, InputLine, Line, SheetLine};
 use s3_operator::HaltCode;
 use std::alloc::{AllocError, Global};
@@ -35,22 +35,74 @@ impl Shown {
             is_unsure: false,
         }
     }
+}
 
-    /// What is shown at totals: the cards on both sides of them, with their control fields, if it is sure which these are.
-    fn with_totals(alloc: Global, at: AtWork<'_>, is_total: bool) -> Result<Shown, AllocError> {
-        match at.file_behind_totals() {
-            Some(file) if is_total => Ok(Shown {
-                marked: level_fields(alloc, &at.source.lines, file.name, Sort::Control)?,
-                is_before_shown: true,
-                is_after_totals: true,
-                is_unsure: false,
-            }),
-            _ => {
-                let mut shown = Shown::nothing(alloc);
-                shown.is_unsure = is_total && !at.begun.is_ending();
-                Ok(shown)
-            }
+/// Appends the records on both sides of totals, with their control fields marked, if they are on the pack and it is sure which they are.
+/// If they are cards, they are handed on.
+fn push_totals(
+    text: &mut String,
+    alloc: Global,
+    at: AtWork<'_>,
+    is_total: bool,
+) -> Result<Shown, AllocError> {
+    let mut shown = Shown::nothing(alloc);
+    if !is_total {
+        return Ok(shown);
+    }
+    let Some(selected) = at.record_behind_totals() else {
+        shown.is_unsure = !at.begun.is_ending();
+        return Ok(shown);
+    };
+    let marked = level_fields(alloc, &at.source.lines, selected.line.name, Sort::Control)?;
+    if is_on_cards(&selected.line) {
+        shown.marked = marked;
+        shown.is_before_shown = !at.begun.has_skipped();
+        shown.is_after_totals = true;
+    } else {
+        push_selected(text, at, &selected, &marked)?;
+    }
+    Ok(shown)
+}
+
+/// Appends the record of a file on the pack that waits for totals, and the one before it, as far as they were read.
+fn push_selected(
+    text: &mut String,
+    at: AtWork<'_>,
+    selected: &Selected,
+    marked: &[Columns],
+) -> Result<(), AllocError> {
+    text.push_str("  the totals are those before ")?;
+    push_record_number(text, Some(&selected.line), selected.number)?;
+    text.push_str(", which isn't processed yet\n")?;
+    match at.evidence {
+        Evidence::Totals {
+            file,
+            number,
+            last,
+            before,
+        } if *file == selected.line.name && *number == selected.number => {
+            push_both(text, at, last, before, marked)
         }
+        _ => Ok(()),
+    }
+}
+
+/// Appends a record, and the one before it unless a record was passed over.
+fn push_both(
+    text: &mut String,
+    at: AtWork<'_>,
+    last: &Option<Vec<u8>>,
+    before: &Option<Vec<u8>>,
+    marked: &[Columns],
+) -> Result<(), AllocError> {
+    if let Some(record) = last {
+        push_ruled(text, record, marked)?;
+    }
+    match before {
+        Some(record) if !at.begun.has_skipped() => {
+            push_named_record(text, "the record before it:", record, marked)
+        }
+        _ => Ok(()),
     }
 }
 
@@ -91,12 +143,12 @@ pub(crate) fn push_stand(
             push_source_card(text, at, at.source.calculation_at(place))?;
             push_sought(text, at)?;
             push_found(text, at)?;
-            Shown::with_totals(alloc, at, at.source.is_total_calculation(place))
+            push_totals(text, alloc, at, at.source.is_total_calculation(place))
         }
         Stand::Output { file, place } => {
             push_source_card(text, at, at.source.output_at(place))?;
             push_put(text, at, at.file(file), place)?;
-            Shown::with_totals(alloc, at, at.source.is_total_output(place))
+            push_totals(text, alloc, at, at.source.is_total_output(place))
         }
     }
 }

@@ -93,8 +93,8 @@ pub fn get<P: Sectors>(
     }
 }
 
-/// The place of the record that is number `n` by key, both from 0, among those that stood when the file was opened; none past the
-/// last.
+/// The place of the record that is number `n` in key order, both from 0, among the records that the file had when it was opened.
+/// None past the last.
 pub fn nth<P: Sectors>(file: &Keyed, pool: &mut P, n: u32) -> Result<Option<u32>, SectorFault>
     requires stored { AreStored (shown file.now).sectors (P.state pool.old).contents }
     requires ordered { HasKeyOrder (shown file.now) (P.state pool.old).contents }
@@ -110,7 +110,7 @@ pub fn nth<P: Sectors>(file: &Keyed, pool: &mut P, n: u32) -> Result<Option<u32>
     }
 }
 
-/// The place of the record with the key in these bytes, from 0; none where no record has it.
+/// The place of the record with the key in these bytes, from 0; none if no record has it.
 pub fn find<P: Sectors>(file: &Keyed, pool: &mut P, key: &[u8]) -> Result<Option<u32>, SectorFault>
     requires stored { AreStored (shown file.now).sectors (P.state pool.old).contents }
     requires ordered { HasKeyOrder (shown file.now) (P.state pool.old).contents }
@@ -127,7 +127,7 @@ pub fn find<P: Sectors>(file: &Keyed, pool: &mut P, key: &[u8]) -> Result<Option
     }
 }
 
-/// Puts a record behind the last one; it is refused where its key isn't above all others, else where the file is full.
+/// Puts a record after the last one; it is refused if its key isn't above all others, else if the file is full.
 #[tactic(auto, using(crate::proofs::Keys::order_left))]
 pub fn load<P: Sectors>(file: &mut Keyed, pool: &mut P, bytes: &[u8]) -> Result<Put, SectorFault>
     requires stored { AreStored (shown file.old).sectors (P.state pool.old).contents }
@@ -147,7 +147,7 @@ pub fn load<P: Sectors>(file: &mut Keyed, pool: &mut P, bytes: &[u8]) -> Result<
     }
 }
 
-/// Puts a record behind the last one; it is refused where another has its key, else where the file is full.
+/// Puts a record after the last one; it is refused if another has its key, else if the file is full.
 #[tactic(auto, using(crate::proofs::Keys::order_left))]
 pub fn add<P: Sectors>(file: &mut Keyed, pool: &mut P, bytes: &[u8]) -> Result<Put, SectorFault>
     requires stored { AreStored (shown file.old).sectors (P.state pool.old).contents }
@@ -167,7 +167,7 @@ pub fn add<P: Sectors>(file: &mut Keyed, pool: &mut P, bytes: &[u8]) -> Result<P
     }
 }
 
-/// Writes a record over the one at a place, from 0, whose bytes are `old`; it is refused where its key is another one.
+/// Writes a record over the one at a place, from 0, whose bytes are `old`; it is refused if its key is another one.
 pub fn replace<P: Sectors>(
     file: &Keyed,
     pool: &mut P,

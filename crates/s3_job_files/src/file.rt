@@ -46,7 +46,7 @@ pub struct OpenFile {
     pub read: u32,
     /// How many times the job has changed a record in place; at most `u32::MAX`.
     pub updates: u32,
-    /// The place of the record that was chained last, from 0; none where none was, or where the last CHAIN found nothing.
+    /// The place of the record that was chained last, from 0. None if no record was chained, or if the last CHAIN found nothing.
     pub chained: Option<u32>,
 }
 
@@ -58,7 +58,7 @@ impl OpenFile {
     ghost use Rattle.s3_job_files.specs.Inner.Calls.{found_record, found_answer, Puts};
     ghost use Rattle.s3_store.specs.Inner.Calls.{Changes};
 
-    /// Opens the file of a label that the pack has, known to the program by a name; none where it is indexed and its index isn't
+    /// Opens the file of a label that the pack has, known to the program by a name; none if it is indexed and its index isn't
     /// good.
     pub fn open<P: Sectors>(
         alloc: Global,
@@ -105,7 +105,7 @@ impl OpenFile {
         }
     }
 
-    /// The place of the n-th of the records that stood at the start of the job, both from 0.
+    /// The place of record `n` in reading order among the records at the start of the job, both from 0.
     #[tactic(auto, using(crate::proofs::OneFile::read_by_key))]
     fn place_read<P: Sectors>(&self, pool: &mut P, n: u32) -> Result<Option<u32>, SectorFault>
         requires usable { IsUsable (P.state pool.old).contents self.now.label self.now.records }
@@ -122,7 +122,7 @@ impl OpenFile {
         }
     }
 
-    /// Reads the next of the records that stood at the start of the job, and answers whether there is one.
+    /// Reads the next of the records at the start of the job, and answers whether there is one.
     pub fn read_next<P: Sectors>(
         &mut self,
         pool: &mut P,
@@ -143,7 +143,7 @@ impl OpenFile {
         Ok(found)
     }
 
-    /// Reads the record at a place, if there is one, which is the one chained last from then on.
+    /// Reads the record at a place, if there is one, and notes it as chained last.
     fn chain<P: Sectors>(
         &mut self,
         pool: &mut P,
@@ -179,8 +179,8 @@ impl OpenFile {
         }
     }
 
-    /// Reads the record with the key in these bytes where a table in memory names it, without a search of the index, and answers
-    /// its place, from 0. It may answer none although there is such a record.
+    /// Reads the record with the key in these bytes, if a table in memory has its place, and answers the place, from 0. It
+    /// doesn't search the index, so it may answer none although there is such a record.
     fn get_noted<P: Sectors>(
         &self,
         pool: &mut P,
@@ -201,8 +201,8 @@ impl OpenFile {
         }
     }
 
-    /// Reads the record with the key in these bytes by way of the index, and answers whether there is one. It is the one chained
-    /// last from then on.
+    /// Reads the record with the key in these bytes by way of the index, and answers whether there is one. The record is then the
+    /// one chained last.
     #[inline(never)]
     fn chain_sought<P: Sectors>(
         &mut self,
@@ -223,7 +223,7 @@ impl OpenFile {
         self.chain(pool, place, bytes)
     }
 
-    /// Reads the record with the key in these bytes, and answers whether there is one. It is the one chained last from then on.
+    /// Reads the record with the key in these bytes, and answers whether there is one. The record is then the one chained last.
     #[tactic(auto, using(crate::proofs::OneFile::answer_noted))]
     pub fn chain_key<P: Sectors>(
         &mut self,
@@ -260,7 +260,7 @@ impl OpenFile {
         }
     }
 
-    /// Reads the record of this number, from 1, and answers whether there is one. It is the one chained last from then on.
+    /// Reads the record of this number, from 1, and answers whether there is one. The record is then the one chained last.
     #[tactic(auto, using(crate::proofs::OneFile::count_records))]
     pub fn chain_number<P: Sectors>(
         &mut self,
@@ -279,8 +279,8 @@ impl OpenFile {
         self.chain(pool, place, bytes)
     }
 
-    /// Puts a record behind the last one. It is refused in an indexed file where its key isn't above all others, and in any file
-    /// that is full.
+    /// Puts a record after the last one. It is refused in an indexed file if its key isn't above all others, and in any file that
+    /// is full.
     pub fn append<P: Sectors>(&mut self, pool: &mut P, bytes: &[u8]) -> Result<Put, SectorFault>
         requires usable { IsUsable (P.state pool.old).contents self.old.label self.old.records }
         requires long { length bytes.now ≡ self.old.label.record_length }
@@ -295,8 +295,7 @@ impl OpenFile {
         }
     }
 
-    /// Puts a record behind the last one of an indexed file. It is refused where another record has its key, and where the file
-    /// is full.
+    /// Puts a record after the last one of an indexed file. It is refused if another record has its key, and if the file is full.
     pub fn add<P: Sectors>(&mut self, pool: &mut P, bytes: &[u8]) -> Result<Put, SectorFault>
         requires usable { IsUsable (P.state pool.old).contents self.old.label self.old.records }
         requires indexed { is_indexed_spec self.old.label.organization ≡ true }
@@ -334,7 +333,7 @@ impl OpenFile {
         }
     }
 
-    /// Changes the record at a place, from 0, where there is one, by way of two rooms of its length.
+    /// Changes the record at a place, from 0, if there is one, by way of two rooms of its length.
     fn update_in<P: Sectors>(
         &self,
         pool: &mut P,
@@ -359,7 +358,7 @@ impl OpenFile {
         self.put(pool, i, old, bytes)
     }
 
-    /// Changes the record at a place, from 0, where there is one.
+    /// Changes the record at a place, from 0, if there is one.
     fn update_at<P: Sectors>(
         &self,
         pool: &mut P,
@@ -513,14 +512,14 @@ fn records_of_label<P: Sectors>(
     }
 }
 
-/// The byte of a record where a code is put, or not.
+/// The byte of a record: the code if it is put, else the old byte.
 fn laid_byte(code: u8, is_put: bool, old: u8) -> u8
     ensures { result ≡ (if is_put then code else old) }
 {
     if is_put { code } else { old }
 }
 
-/// Lays codes over the bytes of a record, where they are put.
+/// Lays codes over the bytes of a record, if they are put.
 fn overlay(codes: &[u8], marks: &[bool], bytes: &mut [u8])
     ensures { bytes.new ≡ overlaid (changes_of codes.now marks.now) bytes.old }
 {

@@ -33,7 +33,7 @@ pub fn get<P: Sectors>(
     }
 }
 
-/// Puts a record behind the last one; it is refused where the file is full.
+/// Puts a record after the last one; it is refused if the file is full.
 #[tactic(auto, using(crate::proofs::Plain::last_taken, crate::proofs::Plain::last_refused))]
 pub fn append<P: Sectors>(
     file: &mut Sequential,
@@ -53,7 +53,7 @@ pub fn append<P: Sectors>(
     }
 }
 
-/// Writes a record over the one at a place, from 0, where there is one.
+/// Writes a record over the one at a place, from 0, if there is one.
 #[tactic(auto, using(crate::proofs::Plain::record_set, crate::proofs::Plain::record_not_set))]
 pub fn put<P: Sectors>(
     file: &Sequential,

@@ -65,7 +65,7 @@ impl JobFiles {
         &self.files[place]
     }
 
-    /// Puts one more open file behind the others; refused only where memory runs out.
+    /// Puts one more open file after the others; refused only if memory runs out.
     pub fn push(&mut self, file: OpenFile) -> Result<(), AllocError>
         ensures pushed { OnOk result (self.new.files.items ≡ self.old.files.items ++ file ∷ []) }
         ensures ready { OnOk result ((pack : Seen) → IsReady self.old.level self.old.files.items pack → Stands self.old.level pack file → list_any (λ one. same_name one.label.name file.label.name) self.old.files.items ≡ false → IsReady self.new.level self.new.files.items pack) }
@@ -76,7 +76,7 @@ impl JobFiles {
         Ok(())
     }
 
-    /// The place of the open file that the program knows by this name; none where no such file is open.
+    /// The place of the open file that the program knows by this name; none if no such file is open.
     pub fn place_of(&self, name: Name) -> Option<usize>
         ensures place { result ≡ place_named name (map job_file_of self.now.files.items) }
         ensures within { IfSome result (λ place. place < length self.now.files.items) }
@@ -151,7 +151,7 @@ impl JobFiles {
         self.files[place].chain_number(&mut pack.pool, number, bytes)
     }
 
-    /// Puts a record behind the last one of the level's own file at a place. It is refused in an indexed file where its key isn't
+    /// Puts a record after the last one of the level's own file at a place. It is refused in an indexed file if its key isn't
     /// above all others, and in any file that is full.
     ///
     /// After a fault of the sectors no request is to be made.
@@ -178,8 +178,8 @@ impl JobFiles {
         self.files[place].append(&mut pack.pool, bytes)
     }
 
-    /// Puts a record behind the last one of the level's own indexed file at a place. It is refused where another record has its
-    /// key, and where the file is full.
+    /// Puts a record after the last one of the level's own indexed file at a place. It is refused if another record has its key,
+    /// and if the file is full.
     ///
     /// After a fault of the sectors no request is to be made.
     pub fn add<P: Sectors>(
@@ -207,7 +207,7 @@ impl JobFiles {
     }
 
     /// Changes the current record of the level's own file at a place, as the file now holds it, at the positions that are put. It
-    /// is refused where no such record is there, and where the key of an indexed file would change.
+    /// is refused if no such record is there, and if the key of an indexed file would change.
     ///
     /// After a fault of the sectors no request is to be made.
     pub fn update<P: Sectors>(

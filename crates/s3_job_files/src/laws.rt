@@ -1,4 +1,4 @@
-//! What the definitions say of themselves: worked rows.
+//! What the definitions say of themselves: worked examples.
 
 ghost use Rattle.std.specs.Prelude.{◌≡◌, pos, negsuc, [], ◌∷◌, ◌++◌, Some, None, Ok, Err, replicate};
 ghost use Rattle.s3_operator.specs.declared.halt_code.HaltCode.TheVariants.{DuplicateKey, FileFull, KeyChanged, KeyNotAscending, NothingToUpdate};
@@ -9,8 +9,8 @@ ghost use Rattle.s3_meaning.specs.declared.current.Current.TheVariants.{NthRead,
 ghost use Rattle.s3_job_files.specs.Records.{place_read, place_sought, appended, added, updated, overlaid};
 ghost use Rattle.s3_job_files.specs.Inner.Samples.{two_keys, b_a_and_c, fifth_byte, other_key, answer_behind, count_at_end};
 
-/// An indexed file is read in key order, and a job reads those records alone that stood at its start; what it added is found by
-/// its key and by its number.
+/// An indexed file is read in key order. A job reads only the records that were there at its start. CHAIN finds the added records
+/// by key and by number.
 pub fn added_records_are_found_but_not_read()
     ensures first { place_read (two_keys 10) b_a_and_c 0 ≡ Some 1 }
     ensures second { place_read (two_keys 10) b_a_and_c 1 ≡ Some 0 }
@@ -25,13 +25,13 @@ pub fn added_records_are_found_but_not_read()
     ensures ended { answer_behind (Add (named 0xc9) (letter 0xc3) ∷ Read (named 0xc9) 10 ∷ Read (named 0xc9) 10 ∷ []) (Read (named 0xc9) 10) ≡ Some Nothing }
     ensures chained { answer_behind (Add (named 0xc9) (letter 0xc3) ∷ []) (Chain (named 0xc9) 10 (Key (0xc3 ∷ []))) ≡ Some (Found (letter 0xc3)) }
     ensures of_master { answer_behind [] (Read (named 0xd4) 10) ≡ Some (Found (letter 0xc1)) }
-    // nothing of a file that the job doesn't have, nor of a request that is for no file
+    // nothing is specified for a file that the job doesn't have, or for a request that is for no file
     ensures no_file { answer_behind [] (Read (named 0xc1) 10) ≡ None }
     ensures no_request { answer_behind [] Card ≡ None }
 {}
 
-/// A record that can't be put for two causes is refused for its key, where another record has it or a load's key isn't above all
-/// others, and not for a file that is full.
+/// If a record can't be added for two reasons, its key comes before a full file: another record has it, or a load's key isn't
+/// above all others.
 pub fn a_duplicate_is_told_before_a_full_file()
     ensures duplicate { added (two_keys 2) (letter 0xc1) b_and_a ≡ Err DuplicateKey }
     ensures full { added (two_keys 2) (letter 0xc3) b_and_a ≡ Err FileFull }
@@ -43,8 +43,8 @@ pub fn a_duplicate_is_told_before_a_full_file()
     ensures second { answer_behind (Append (named 0xe3) (letter 0xc1) ∷ []) (Append (named 0xe3) (letter 0xc1)) ≡ Some Done }
 {}
 
-/// An update changes what is put and nothing else, and refuses to change the key; where no current record is there, it is refused
-/// for that and not for its key.
+/// An update changes only the positions that are put. It is refused if it would change the key. If there is no current record,
+/// that is the reason of the refusal, whatever the key is.
 pub fn an_update_keeps_the_key()
     ensures changed { updated (two_keys 10) fifth_byte (Some 1) b_and_a ≡ Ok (letter 0xc2 ∷ (0xc1 ∷ replicate 3 0x40 ++ 1 ∷ replicate 5 0x40) ∷ []) }
     ensures key { updated (two_keys 10) other_key (Some 1) b_and_a ≡ Err KeyChanged }

@@ -1,21 +1,13 @@
 //! The files of a job at work: records are read, found, put and changed, and the files closed at the end of the job.
 //!
-//! Each call stands over any pack; what it must do is said over the lists of records that a level's files hold
-//! (specs/Requests.antt, docs/LANGUAGE.md, "Files on DISK").
-//!
-//! What is proved, whatever files are held:
-//! - `OpenFile::open` opens a file where its index is good, and refuses it where it isn't;
-//! - `JobFiles::read_next`, `chain_key`, `chain_number`, `append`, `add` and `update` answer what the definition answers, and
-//!   leave the files that it leaves; a refusal is one that the request allows;
-//! - `JobFiles::close` sets the count of each file and drops the scratch files that the job made;
-//! - reads change no sector, and all other calls none out of the level's reach, in the store itself too; and labels that said
-//!   the slots still say them.
-//!
-//! Worked rows are computed: `added_records_are_found_but_not_read`, `a_duplicate_is_told_before_a_full_file`,
-//! `an_update_keeps_the_key`, `the_end_of_a_job_sets_counts`.
-//!
-//! Only tested: that memory is said to run out only where a growth was refused, which no contract can say. What a pack has
-//! after its sectors have failed nobody says.
+//! The contracts hold over any pack, in terms of the lists of records of a level's files (specs/Requests.antt, docs/LANGUAGE.md,
+//! "Files on DISK"). `OpenFile::open` is proved to open a file exactly if its index is good. `JobFiles::read_next`, `chain_key`,
+//! `chain_number`, `append`, `add` and `update` are proved to answer as specified and to leave the specified files, and
+//! `JobFiles::close` to set the count of each file and to drop the scratch files of the job. Reads change no sector, and all
+//! other calls change no sector outside the level's reach. Worked examples are computed by the proofs
+//! (`added_records_are_found_but_not_read`, `a_duplicate_is_told_before_a_full_file`, `an_update_keeps_the_key`,
+//! `the_end_of_a_job_sets_counts`). Only tested: that memory is reported to run out only if an allocation was refused. What a
+//! pack has after its sectors have failed isn't specified.
 
 #![tactic(auto)]
 

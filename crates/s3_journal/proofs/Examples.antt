@@ -41,12 +41,20 @@ day_1_is_posted_twice_changed = refl
 day_2_begins_over_a_copy : start_of (decks 2) (sum 4) (line 0 4 (decks 1) ∷ line 1 2 (decks 2) ∷ line 0 1 (decks 1) ∷ []) ≡ Do
 day_2_begins_over_a_copy = refl
 
--- the pack of day 1 was put back, something else changed it, and a command with --again left pack 5: day 1 is posted, day 2 isn't
+-- the pack of day 1 was put back, something else changed it, and a command with --again left pack 5: each day counts as posted
 abbrev restored : List Line
 restored = line 4 5 OfNothing ∷ put_back 2 1 ∷ line 1 2 (decks 2) ∷ line 0 1 (decks 1) ∷ []
 
 day_1_is_posted_after_a_restore : start_of (decks 1) (sum 5) restored ≡ IsPosted
 day_1_is_posted_after_a_restore = refl
 
-day_2_begins_after_a_restore : start_of (decks 2) (sum 5) restored ≡ Do
+day_2_counts_after_a_restore : start_of (decks 2) (sum 5) restored ≡ IsPosted
+day_2_counts_after_a_restore = refl
+
+-- .. but without the change day 2 begins
+day_2_begins_after_a_restore : start_of (decks 2) (sum 1) (put_back 2 1 ∷ line 1 2 (decks 2) ∷ line 0 1 (decks 1) ∷ []) ≡ Do
 day_2_begins_after_a_restore = refl
+
+-- the restore was killed before pack 1 was put back, something else changed pack 2, and a command with --again left pack 5
+day_2_is_posted_after_a_killed_restore : start_of (decks 2) (sum 5) (line 4 5 OfNothing ∷ put_back 2 1 ∷ line 1 2 (decks 2) ∷ line 0 1 (decks 1) ∷ []) ≡ IsPosted
+day_2_is_posted_after_a_killed_restore = refl

@@ -1,5 +1,6 @@
 pub mod AnyLine
 pub mod Examples
+pub mod FromPack
 pub mod JournalLemmas
 pub mod MemberLemmas
 pub mod Once

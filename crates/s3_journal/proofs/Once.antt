@@ -4,12 +4,12 @@ use Rattle.std.specs.Prelude.{is_some, find, not}
 use Rattle.std.specs.Str.{bytes_eq as same}
 use Rattle.std.proofs.lemmas.Bool.{true≢false}
 use Rattle.std.proofs.lemmas.Slice.Eq.{bytes_eq-Decides}
-use Rattle.s3_journal.specs.Inner.Posted.{Posted, OfDecks, OfTable, OfNothing, Line, same_posted, history, made, is_posted, standing_of, start_at, start_of}
+use Rattle.s3_journal.specs.Inner.Posted.{Posted, OfDecks, OfTable, OfNothing, Line, same_posted, history, is_known, made, is_posted, standing_of, start_at, start_of}
 use Rattle.s3_journal.specs.declared.standing.Standing.{Standing}
 use Rattle.s3_journal.specs.declared.standing.Standing.TheVariants.{First, Current, NotPosted, OldCopy, Unknown}
 use Rattle.s3_journal.specs.declared.standing.Start.{Start}
 use Rattle.s3_journal.specs.declared.standing.Start.TheVariants.{Do, IsPosted, IsOld, IsUnknown}
-use Rattle.s3_journal.specs.Inner.Crashes.{Attempt, Entry, Event, Starts, Restores, Copies, Changes, Reached, NoLine, OnlyLine, Renamed, Shop, Had, Shows, IsMeant, AreMeant, PostsOnce, CrashesAreSeen, all_happen, attempt, counts, entries_after, entries_here, entries_of, entry_for, happens, has_line, has_posted, is_continued, is_known, is_once, left, line_back, line_for, put_back, started}
+use Rattle.s3_journal.specs.Inner.Crashes.{Attempt, Entry, Event, Starts, Restores, Copies, Changes, Reached, NoLine, OnlyLine, Renamed, Shop, Shows, IsMeant, AreMeant, PostsOnce, CrashesAreSeen, all_happen, counts, entries_after, entries_here, entries_of, happens, has_line, has_posted, is_once, left, line_back, line_for, put_back, started}
 
 -- ---- truth values
 isnt_true : {X : Type 0} → false ≡ true → X
@@ -74,27 +74,27 @@ fresh_of : (day : Attempt) (shop : Shop) → start_of day.posted shop.pack shop.
 fresh_of day shop e = not_posted (standing_of shop.pack shop.lines) _ e
 
 -- ---- the history of a pack after one more line
-as_known : (known : Bool) → known ≡ true → (pack : List ℕ) (line : Line) (older : List Line)
-    → cond (made (cond known pack line.after) line) (line ∷ history line.before older) (history (cond known pack line.after) older) ≡ cond (made pack line) (line ∷ history line.before older) (history pack older)
-as_known true e pack line older = refl
-as_known false e pack line older = isnt_true e
+as_known : (known : Bool) → known ≡ true → (all made_by : List Line) → cond (not known) all made_by ≡ made_by
+as_known true e all made_by = refl
+as_known false e all made_by = isnt_true e
 
-history_more : (pack : List ℕ) (line : Line) (older : List Line) → is_known pack (line ∷ older) ≡ true → history pack (line ∷ older) ≡ cond (made pack line) (line ∷ history line.before older) (history pack older)
-history_more pack line older known = as_known (is_known pack (line ∷ older)) known pack line older
+pub history_more : (pack : List ℕ) (line : Line) (older : List Line) → is_known pack (line ∷ older) ≡ true → history pack (line ∷ older) ≡ cond (made pack line) (line ∷ history line.before older) (history pack older)
+history_more pack line older known = as_known (is_known pack (line ∷ older)) known (line ∷ older) _
 
-as_changed : (known : Bool) → known ≡ false → (pack : List ℕ) (line : Line) (older : List Line)
-    → cond (made (cond known pack line.after) line) (line ∷ history line.before older) (history (cond known pack line.after) older) ≡ cond (made line.after line) (line ∷ history line.before older) (history line.after older)
-as_changed true e pack line older = absurd (true≢false e)
-as_changed false e pack line older = refl
+as_changed : (known : Bool) → known ≡ false → (all made_by : List Line) → cond (not known) all made_by ≡ all
+as_changed true e all made_by = absurd (true≢false e)
+as_changed false e all made_by = refl
+
+-- of a pack that no line has, each line counts
+pub history_changed : (pack : List ℕ) (lines : List Line) → is_known pack lines ≡ false → history pack lines ≡ lines
+history_changed pack [] unknown = refl
+history_changed pack (line ∷ older) unknown = as_changed (is_known pack (line ∷ older)) unknown (line ∷ older) _
 
 after_known : (line : Line) (older : List Line) → is_known line.after (line ∷ older) ≡ true
 after_known line older = or_left _ _ (or_left _ _ (same_text line.after))
 
 before_known : (line : Line) (older : List Line) → is_known line.before (line ∷ older) ≡ true
 before_known line older = or_left _ _ (or_right _ _ (same_text line.before))
-
-history_changed : (pack : List ℕ) (line : Line) (older : List Line) → is_known pack (line ∷ older) ≡ false → history pack (line ∷ older) ≡ history line.after (line ∷ older)
-history_changed pack line older unknown = as_changed (is_known pack (line ∷ older)) unknown pack line older ∙ sym (history_more line.after line older (after_known line older))
 
 -- one of these lines posted the same
 abbrev IsAmong : Posted → List Line → Type 0
@@ -111,10 +111,32 @@ among_chosen : (posted : Posted) (chosen : Bool) (lines others : List Line) → 
 among_chosen posted true lines others e is = is
 among_chosen posted false lines others e is = isnt_true e
 
--- ---- what the journal knows: of each pack that a line has, and of the one that is there
+among_either : (posted : Posted) (chosen : Bool) (lines others all : List Line) → (IsAmong posted lines → IsAmong posted all) → (IsAmong posted others → IsAmong posted all) → IsAmong posted (cond chosen lines others) → IsAmong posted all
+among_either posted true lines others all one other is = one is
+among_either posted false lines others all one other is = other is
+
+then_among : (posted : Posted) (line : Line) (lines all : List Line) → (IsAmong posted lines → IsAmong posted all) → IsAmong posted (line ∷ lines) → IsAmong posted (line ∷ all)
+then_among posted line lines all more is = by (same_posted line.posted posted) is
+  where
+    by : (fits : Bool) → is_some (cond fits (Some line) (find (λ l. same_posted l.posted posted) lines)) ≡ true → is_some (cond fits (Some line) (find (λ l. same_posted l.posted posted) all)) ≡ true
+    by true is = refl
+    by false is = more is
+
+-- the history of a pack has lines of the journal
+among_all : (posted : Posted) (pack : List ℕ) (lines : List Line) → is_posted posted pack lines ≡ true → IsAmong posted lines
+among_all posted pack [] is = is
+among_all posted pack (line ∷ older) is =
+    among_either posted (not (is_known pack (line ∷ older))) (line ∷ older) _ (line ∷ older) (λ it. it)
+    (among_either posted (made pack line) (line ∷ history line.before older) (history pack older) (line ∷ older)
+    (then_among posted line (history line.before older) older (among_all posted line.before older))
+    (λ it. among_more posted line older (among_all posted pack older it)))
+    is
+
+-- ---- what the journal knows: of each pack that a line has, and of the one that is there; and of any other one, among all lines
 record Kept (shop : Shop) : Type 0 where
   known : (pack : List ℕ) (posted : Posted) → is_known pack shop.lines ≡ true → has_posted posted (entries_of pack shop.past) ≡ true → is_posted posted pack shop.lines ≡ true
   here : (posted : Posted) → has_posted posted (entries_here shop) ≡ true → is_posted posted shop.pack shop.lines ≡ true
+  among : (pack : List ℕ) (posted : Posted) → has_posted posted (entries_of pack shop.past) ≡ true → IsAmong posted shop.lines
   once : (pack : List ℕ) → is_once (entries_of pack shop.past) ≡ true
 
 known_is : (shop : Shop) → Kept shop → (to pack : List ℕ) (posted : Posted) → is_known to shop.lines ≡ true → same to pack ≡ true → has_posted posted (entries_of pack shop.past) ≡ true → is_posted posted pack shop.lines ≡ true
@@ -161,16 +183,25 @@ once_entries false entries others one other = other
 shown : (day : Attempt) (shop : Shop) → Shows day.after (entries_after day shop) shop → (pack : List ℕ) (posted : Posted) → same day.after pack ≡ true → has_posted posted (entries_of pack shop.past) ≡ true → has_posted posted (entries_after day shop) ≡ true
 shown day shop shows pack posted e had = shows posted (subst (λ p. has_posted posted (entries_of p shop.past) ≡ true) (sym (same_is day.after pack e)) had)
 
+either_had : (posted : Posted) (chosen : Bool) (entries others : List Entry) (lines : List Line) → (has_posted posted entries ≡ true → IsAmong posted lines) → (has_posted posted others ≡ true → IsAmong posted lines)
+    → has_posted posted (cond chosen entries others) ≡ true → IsAmong posted lines
+either_had posted true entries others lines one other had = one had
+either_had posted false entries others lines one other had = other had
+
 kept_left : (reached : Reached) (day : Attempt) (shop : Shop) → Kept shop → Shows day.after (entries_after day shop) shop → is_once (entries_after day shop) ≡ true → Kept (left reached day shop)
 kept_left NoLine day shop kept shows once = kept
 kept_left OnlyLine day shop kept shows once = record {
   known = λ pack posted known had. line_known day shop kept pack posted (entries_of pack shop.past) known (shown day shop shows pack posted) (λ e. refl) had;
   here = λ posted had. line_known day shop kept shop.pack posted (entries_here shop) (before_known (line_for day shop) shop.lines) (shown day shop shows shop.pack posted) (λ e. refl) had;
+  among = λ pack posted had. among_more posted (line_for day shop) shop.lines (kept.among pack posted had);
   once = kept.once;
 }
 kept_left Renamed day shop kept shows once = record {
   known = λ pack posted known had. renamed pack posted known had;
   here = λ posted had. renamed day.after posted (after_known (line_for day shop) shop.lines) had;
+  among = λ pack posted had.
+      either_had posted (same day.after pack) (entries_after day shop) (entries_of pack shop.past) (line_for day shop ∷ shop.lines)
+      (then_some (same_posted day.posted posted) (line_for day shop) _ (has_posted posted (entries_here shop)) (kept.among shop.pack posted)) (λ it. among_more posted (line_for day shop) shop.lines (kept.among pack posted it)) had;
   once = λ pack. once_entries (same day.after pack) (entries_after day shop) (entries_of pack shop.past) once (kept.once pack);
 }
   where
@@ -214,43 +245,25 @@ kept_back NoLine to shop kept there = kept
 kept_back OnlyLine to shop kept there = record {
   known = back_known to shop kept there;
   here = λ posted had. back_known to shop kept there shop.pack posted (before_known (line_back to shop) shop.lines) had;
+  among = λ pack posted had. among_more posted (line_back to shop) shop.lines (kept.among pack posted had);
   once = kept.once;
 }
 kept_back Renamed to shop kept there = record {
   known = back_known to shop kept there;
   here = λ posted had. back_known to shop kept there to posted (after_known (line_back to shop) shop.lines) had;
+  among = λ pack posted had. among_more posted (line_back to shop) shop.lines (kept.among pack posted had);
   once = kept.once;
 }
 
 -- ---- a pack that something else changes
-from_before : (now : List ℕ) (last : Line) (older : List Line) (posted : Posted) → last.before ≡ now → (makes : Bool) → IsAmong posted (cond makes (last ∷ history last.before older) (history now older)) → IsAmong posted (last ∷ history last.before older)
-from_before now last older posted e true is = is
-from_before now last older posted e false is = among_more posted last (history last.before older) (subst (λ p. IsAmong posted (history p older)) (sym e) is)
+changed : (pack now : List ℕ) (lines : List Line) (posted : Posted) → is_known pack lines ≡ false → is_posted posted now lines ≡ true → is_posted posted pack lines ≡ true
+changed pack now lines posted unknown is = subst (IsAmong posted) (sym (history_changed pack lines unknown)) (among_all posted now lines is)
 
-began_on : (now : List ℕ) (last : Line) (older : List Line) (posted : Posted) → not last.restores ≡ true → last.before ≡ now → IsAmong posted (history now (last ∷ older)) → IsAmong posted (history last.after (last ∷ older))
-began_on now last older posted isnt e is =
-    subst (IsAmong posted) (sym (history_more last.after last older (after_known last older)))
-    (among_chosen posted (made last.after last) (last ∷ history last.before older) (history last.after older) (both_true (not last.restores) (same last.after last.after) isnt (same_text last.after))
-    (from_before now last older posted e (made now last) (subst (IsAmong posted) (history_more now last older (subst (λ p. is_known p (last ∷ older) ≡ true) e (before_known last older))) is)))
-
-to_last : (now : List ℕ) (last : Line) (older : List Line) (posted : Posted) → (same last.after now ≡ true) ⊎ ((not last.restores && same last.before now) || not (is_known now (last ∷ older)) ≡ true) → IsAmong posted (history now (last ∷ older))
-    → IsAmong posted (history last.after (last ∷ older))
-to_last now last older posted (inl e) is = subst (λ p. IsAmong posted (history p (last ∷ older))) (sym (same_is last.after now e)) is
-to_last now last older posted (inr e) is = by (one_of_two (not last.restores && same last.before now) (not (is_known now (last ∷ older))) e)
-  where
-    by : (not last.restores && same last.before now ≡ true) ⊎ (not (is_known now (last ∷ older)) ≡ true) → IsAmong posted (history last.after (last ∷ older))
-    by (inl both) = began_on now last older posted (left_true (not last.restores) (same last.before now) both) (same_is last.before now (right_true (not last.restores) (same last.before now) both)) is
-    by (inr isnt) = subst (IsAmong posted) (history_changed now last older (not_true (is_known now (last ∷ older)) isnt)) is
-
-changed : (pack now : List ℕ) (lines : List Line) (posted : Posted) → is_known pack lines ≡ false → is_continued now lines ≡ true → is_posted posted now lines ≡ true → is_posted posted pack lines ≡ true
-changed pack now [] posted unknown continued is = is
-changed pack now (last ∷ older) posted unknown continued is =
-    subst (IsAmong posted) (sym (history_changed pack last older unknown)) (to_last now last older posted (one_of_two (same last.after now) ((not last.restores && same last.before now) || not (is_known now (last ∷ older))) continued) is)
-
-kept_changed : (pack : List ℕ) (shop : Shop) → Kept shop → is_known pack shop.lines ≡ false → is_continued shop.pack shop.lines ≡ true → Kept (happens (Changes pack) shop)
-kept_changed pack shop kept unknown continued = record {
+kept_changed : (pack : List ℕ) (shop : Shop) → Kept shop → is_known pack shop.lines ≡ false → Kept (happens (Changes pack) shop)
+kept_changed pack shop kept unknown = record {
   known = λ other posted known had. by other posted known (same pack other) refl had;
-  here = λ posted had. changed pack shop.pack shop.lines posted unknown continued (kept.here posted (chosen_entries posted (same pack pack) (entries_here shop) (entries_of pack shop.past) (same_text pack) had));
+  here = λ posted had. changed pack shop.pack shop.lines posted unknown (kept.here posted (chosen_entries posted (same pack pack) (entries_here shop) (entries_of pack shop.past) (same_text pack) had));
+  among = λ other posted had. either_had posted (same pack other) (entries_here shop) (entries_of other shop.past) shop.lines (kept.among shop.pack posted) (kept.among other posted) had;
   once = λ other. once_entries (same pack other) (entries_here shop) (entries_of other shop.past) (kept.once shop.pack) (kept.once other);
 }
   where
@@ -258,16 +271,25 @@ kept_changed pack shop kept unknown continued = record {
     by other posted known true e had = absurd (true≢false (sym known ∙ subst (λ p. is_known p shop.lines ≡ false) (same_is pack other e) unknown))
     by other posted known false e had = kept.known other posted known had
 
+-- ---- a copy that is put in its place
+copied : (pack : List ℕ) (shop : Shop) → Kept shop → (posted : Posted) → has_posted posted (entries_of pack shop.past) ≡ true → is_posted posted pack shop.lines ≡ true
+copied pack shop kept posted had = by (is_known pack shop.lines) refl
+  where
+    by : (known : Bool) → is_known pack shop.lines ≡ known → is_posted posted pack shop.lines ≡ true
+    by true e = kept.known pack posted e had
+    by false e = subst (IsAmong posted) (sym (history_changed pack shop.lines e)) (kept.among pack posted had)
+
 -- ---- all events
 kept_event : (event : Event) (shop : Shop) → Kept shop → IsMeant event shop → Kept (happens event shop)
 kept_event (Starts day) shop kept meant = kept_attempt day.again day shop refl kept meant
 kept_event (Restores pack reached) shop kept meant = kept_back reached pack shop kept meant
 kept_event (Copies pack) shop kept meant = record {
   known = kept.known;
-  here = λ posted had. kept.known pack posted meant had;
+  here = λ posted had. copied pack shop kept posted had;
+  among = kept.among;
   once = kept.once;
 }
-kept_event (Changes pack) shop kept meant = kept_changed pack shop kept meant.0 meant.1
+kept_event (Changes pack) shop kept meant = kept_changed pack shop kept meant.0
 
 kept_all : (events : List Event) (shop : Shop) → Kept shop → AreMeant events shop → Kept (all_happen events shop)
 kept_all [] shop kept meant = kept
@@ -280,6 +302,7 @@ kept_first : (shop : Shop) → shop.past ≡ [] → Kept shop
 kept_first shop none = record {
   known = λ pack posted known had. isnt_true (nothing_had shop none pack posted had);
   here = λ posted had. isnt_true (nothing_had shop none shop.pack posted had);
+  among = λ pack posted had. isnt_true (nothing_had shop none pack posted had);
   once = λ pack. subst (λ past. is_once (entries_of pack past) ≡ true) (sym none) refl;
 }
 

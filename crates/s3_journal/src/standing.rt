@@ -4,7 +4,7 @@ ghost use Rattle.std.specs.List.{list_any};
 ghost use Rattle.std.specs.Option.{option_copied, option_map};
 ghost use Rattle.std.specs.Str.{bytes_eq};
 ghost use Rattle.std.specs.String.{string_bytes};
-ghost use Rattle.s3_journal.specs.Inner.Posted.{has_pack as has_pack_spec, known_as as known_as_spec, line_of, lines_of, made as made_spec, posted_by, posted_in, same_posted, standing_of as standing_spec, start_of as start_spec};
+ghost use Rattle.s3_journal.specs.Inner.Posted.{from_pack as from_pack_spec, has_pack as has_pack_spec, line_of, lines_of, made as made_spec, posted_by, posted_in, same_posted, standing_of as standing_spec, start_of as start_spec};
 
 use crate::day::{PostedDay, Posting};
 
@@ -113,21 +113,25 @@ fn any_has_pack(days: &[PostedDay], pack: &str) -> bool
     days.iter().any(|day| has_pack(day, pack))
 }
 
-/// A pack if a line has it; else the one that the last line left, which something else changed into this pack.
-#[tactic(auto, using(crate::proofs::AnyLine::any_line))]
-fn known_as<'p>(days: &'p [PostedDay], pack: &'p str) -> &'p str
-    ensures { result.now ≡ known_as_spec pack.now (lines_of days.now) }
+/// The days from the last one before or after which the pack was there; none if there is no such day.
+fn from_pack<'a>(days: &'a [PostedDay], pack: &str) -> &'a [PostedDay]
+    ensures { lines_of result.now ≡ from_pack_spec pack.now (lines_of days.now) }
 {
-    let Some((last, older)) = days.split_first() else {
-        return pack;
-    };
-    if has_pack(last, pack) {
-        pack
-    } else if any_has_pack(older, pack) {
-        pack
-    } else {
-        last.after.as_str()
+    let mut rest = days;
+    while let Some((day, older)) = rest.split_first() {
+        if has_pack(day, pack) {
+            return rest;
+        }
+        rest = older;
     }
+    rest
+}
+
+/// The last of these days that posted the same.
+fn last_posted<'a>(days: &'a [PostedDay], posting: Posting<'_>) -> Option<&'a PostedDay>
+    ensures { option_copied result ≡ find (λ day. same_posted (line_of day).posted (posted_by posting.entry)) days.now }
+{
+    days.iter().find(|day| has_posted(day, posting))
 }
 
 /// The last of these days before or after which the pack was there.
@@ -138,7 +142,7 @@ pub fn day_with<'a>(days: &'a [PostedDay], pack: &str) -> Option<&'a PostedDay>
 }
 
 /// The last day that posted the same among those that made a pack, given the days of its journal, the last one first, and the checksum
-/// of the pack.
+/// of the pack. For a pack that no line has, each day counts.
 pub fn posted_day<'a>(
     days: &'a [PostedDay],
     pack: &str,
@@ -148,8 +152,7 @@ pub fn posted_day<'a>(
 {
     let mut made = pack;
     let mut rest = days;
-    while let Some((day, older)) = rest.split_first() {
-        made = known_as(rest, made);
+    while let Some((day, older)) = from_pack(rest, made).split_first() {
         if has_made(day, made) {
             if has_posted(day, posting) {
                 return Some(day);
@@ -158,7 +161,7 @@ pub fn posted_day<'a>(
         }
         rest = older;
     }
-    None
+    last_posted(rest, posting)
 }
 
 /// What a command's start is to do, given the days of the journal, the last one first, the checksum of the pack and what is to be posted.

@@ -2,9 +2,9 @@
 
 use crate::reading::{Journal, read_journal};
 use crate::refusal::JournalRefusal;
-use crate::reports::{report_old, report_posted, report_unknown, report_unwritten};
+use crate::reports::{report_gone, report_old, report_posted, report_unknown, report_unwritten};
 use s3_day_log::utc_text;
-use s3_host_files::Limit;
+use s3_host_files::{FileFault, Limit};
 use s3_journal::{PostedDay, Posting, Start, Work, line_of, start_of};
 use std::alloc::AllocError;
 use std::fs::{File, OpenOptions, TryLockError};
@@ -145,7 +145,8 @@ impl<'a> JournalFile<'a> {
         }
     }
 
-    /// Appends a line of what a command did, and brings it to the disk. What a crash left of a line is removed first.
+    /// Appends a line of what a command did, and brings it to the disk. What a crash left of a line is removed first. It is refused if the
+    /// journal was removed or replaced since it was opened.
     pub fn append(
         &mut self,
         rt: &HostRuntime,
@@ -153,6 +154,10 @@ impl<'a> JournalFile<'a> {
         work: Work,
     ) -> Result<(), JournalRefusal<'a>> {
         let line = self.line_for(rt, new, work)?;
+        if !leads_to(rt, self.name, &self.file) {
+            report_gone(rt, self.name);
+            return Err(JournalRefusal::Unwritten(self.name));
+        }
         match self.append_line(line.as_str()) {
             Ok(()) => Ok(()),
             Err(error) if error.kind() == io::ErrorKind::OutOfMemory => {
@@ -163,6 +168,23 @@ impl<'a> JournalFile<'a> {
                 Err(JournalRefusal::Unwritten(self.name))
             }
         }
+    }
+
+    /// Ends the save of the pack whose line was appended last. If the pack wasn't saved, the line is removed again; if that fails, the
+    /// line stays, and the pack shows that it wasn't saved.
+    pub fn end_save(&self, rt: &HostRuntime, done: &Result<(), FileFault>) {
+        match done {
+            Ok(()) | Err(FileFault::Unsynced(_)) => {}
+            Err(_) => self.take_back(rt),
+        }
+    }
+
+    /// Removes the line that was appended last.
+    fn take_back(&self, rt: &HostRuntime) {
+        if self.file.set_len(self.read.bytes).is_ok() {
+            let _ = self.file.sync_all();
+        }
+        self.remove_if_unused(rt);
     }
 
     /// The next line.

@@ -18,6 +18,8 @@ pub struct Journal {
     pub(crate) last: String,
     /// How many bytes the lines have.
     pub(crate) bytes: u64,
+    /// Whether a further line was begun, by a command that was killed.
+    pub is_cut: bool,
 }
 
 /// The lines of a journal. What is wrong with them is reported.
@@ -39,6 +41,7 @@ pub fn read_journal<'a>(rt: &HostRuntime, name: &'a str) -> Result<Journal, Jour
             days: lines.days,
             last: String::from_str(rt.alloc(), lines.last)?,
             bytes: lines.bytes as u64,
+            is_cut: lines.bytes < bytes.len(),
         }),
         Err(JournalFault::NoMemory) => Err(JournalRefusal::NoMemory),
         Err(fault) => {

@@ -67,6 +67,15 @@ pub(crate) fn report_posted(
     };
 }
 
+/// Reports that a journal isn't there any more.
+pub(crate) fn report_gone(rt: &HostRuntime, journal: &str) {
+    let journal = Shown(journal);
+    let _ = writeln!(
+        rt.stderr(),
+        "{journal} was removed or replaced while this command worked, so it can't get its line; put it back, and repeat the command"
+    );
+}
+
 /// Reports why a journal didn't get its line.
 pub(crate) fn report_unwritten(rt: &HostRuntime, journal: &str, error: &io::Error) {
     let (journal, reason) = (Shown(journal), Reason(*error));

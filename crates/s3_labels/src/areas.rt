@@ -121,8 +121,8 @@ impl AreaSlots {
         }
     }
 
-    /// The place, 0 to 31, of the slot of the file that a level itself has under a label. Refused with `DamagedLabel` where
-    /// damage blocks the label, and with `NotFound`.
+    /// The place, 0 to 31, of the slot of the file that a level itself has under a label. Refused with `DamagedLabel` if damage
+    /// blocks the label, and with `NotFound`.
     pub fn place(&self, level: LevelId, name: Name) -> Result<usize, LabelFault>
         ensures ok { IfOk result (λ i. refusal (standing name (slots_at level self.now)) ≡ None) }
         ensures place { IfOk result (λ i. position_from (bears name) 0 (slots_at level self.now) ≡ Some i) }
@@ -154,8 +154,8 @@ impl AreaSlots {
         }
     }
 
-    /// Makes a file of a level: changes the level's slots, and says which. All slots stay where it is refused, as `make_in`
-    /// says.
+    /// Makes a file of a level: changes the level's slots, and says which. A refused call leaves all slots as they were, as
+    /// `make_in` says.
     pub fn make(&mut self, level: LevelId, new: &NewFile) -> Result<Made, LabelFault>
         requires fits { end_of (region_at level self.old) ≤ 65535 }
         requires key { new.now.key_length ≤ 29 }

@@ -1,4 +1,4 @@
-//! Laws and worked rows of new packs and migrated ones, and of what labels say.
+//! Laws and worked examples of new packs and migrated ones, and of what labels say.
 ghost use Rattle.std.specs.Prelude.{ℕ, List, ◌≡◌, ◌≤◌, ◌/◌, [], ◌∷◌, slice_get, Some, None, Ok, Err};
 ghost use Rattle.s3_cards.specs.declared.levels.LevelId.{LevelId};
 ghost use Rattle.std.specs.List.{flat_map};
@@ -33,7 +33,7 @@ pub fn new_packs_have_their_regions()
     ensures first { new_header 2000 500 224 0 64 ≡ Err BadQuota }
 {}
 
-/// Nothing behind the labels changes where a pack is migrated, and a slot with ff behind its fields is the same afterwards.
+/// Nothing after the labels changes when a pack is migrated. A slot with ff after its fields stays as it was.
 pub fn files_stay_where_a_pack_is_migrated()
     ensures behind { (at byte : ℕ) → 6400 ≤ at → migrated_byte at byte ≡ byte }
     ensures format { migrated_byte 7 0x31 ≡ 0x32 }
@@ -64,17 +64,17 @@ pub fn a_new_pack_has_an_old_ones_files()
     ensures files { (old new : List ℕ) (from : Header) (masters level_one level_two quota_one quota_two i : ℕ) (label : FileLabel) → mounted (contents_of old) ≡ Ok from → image_bytes (Some old) masters level_one level_two quota_one quota_two ≡ Ok new → slice_get (areas_on from (contents_of old)).level_one i ≡ Some (Sound label) → file_bytes (moved_label from.level_one label) (contents_of new) ≡ file_bytes label (contents_of old) }
 {}
 
-/// Where a mount judges no slot damaged for an overlap or a repeated label alone, each label by itself says its slot as it is
-/// judged; and where labels say slots whose files stay apart, a mount judges those slots. What labels say is in their own
-/// sectors.
+/// If a mount finds no slot damaged for an overlap or a repeated label alone, each label by itself gives its slot as the mount
+/// finds it. If the labels give slots whose files don't overlap, a mount finds those slots. What a label gives depends only on
+/// its own sector.
 pub fn labels_say_their_slots()
     ensures mounted { (level : LevelId) (header : Header) (contents : List (List ℕ)) → IsUntangled header.format (region_of level header) (area_of level) contents → SaysSlots level (areas_on header contents) contents }
     ensures judged { (level : LevelId) (areas : Areas) (contents : List (List ℕ)) → AreKept (region_at level areas) (slots_at level areas) → SaysSlots level areas contents → slots_of areas.header.format (region_at level areas) (area_of level) contents ≡ slots_at level areas }
     ensures kept { (level : LevelId) (areas : Areas) (old new : List (List ℕ)) → ((n : ℕ) → IsLabelSector (area_of level) n → slice_get new n ≡ slice_get old n) → KeepsSaid level areas old areas new }
 {}
 
-/// A label that is well formed says a sound slot, and one with more records than it has room for, or with a first byte that is
-/// neither 0 nor 1, a damaged one. A file that overlaps an earlier one is said, but not judged, sound.
+/// A well-formed label by itself gives a sound slot. A label with more records than it has space for, or with a first byte other
+/// than 0 and 1, gives a damaged slot. A file that overlaps an earlier one is sound by its label alone, but damaged in its area.
 pub fn each_label_says_its_own_slot()
     ensures sound { extents_under (standing (named 0xc2) (slots_alone Second ten.level_one 1 (two_files 24 24 10))) ≡ record { start = 432; sectors = 24 } ∷ [] }
     ensures too_many { standing (named 0xc2) (slots_alone Second ten.level_one 1 (two_files 24 24 11)) ≡ Blocked }

@@ -8,7 +8,7 @@ use s3_slots::Format;
 use s3_store::MemoryStore;
 use std::alloc::{AllocError, Global};
 
-/// Where the label slots of a pack end. No byte behind them changes.
+/// Where the label slots of a pack end. No byte after them changes.
 const SLOTS_END: usize = 6_400;
 
 /// Whether a place is in the second to fourth extent of a slot.
@@ -44,7 +44,7 @@ fn migrated_singly(alloc: Global, bytes: &[u8], room: usize) -> Result<Vec<u8>, 
     Ok(new)
 }
 
-/// The bytes of the new pack. Those behind the slots are the old ones, and are copied at once.
+/// The bytes of the new pack. Those after the slots are the old ones, and are copied at once.
 fn migrated_bytes(alloc: Global, bytes: &[u8]) -> Result<Vec<u8>, AllocError>
     ensures { IfOk result (λ new. new.items ≡ migrated_bytes_spec 0 bytes.now) }
 {
@@ -56,10 +56,10 @@ fn migrated_bytes(alloc: Global, bytes: &[u8]) -> Result<Vec<u8>, AllocError>
     Ok(new)
 }
 
-/// A pack of the first format in the second, with 64 lines a level: its format, its quotas and the further extents of its
-/// slots change, and nothing else.
+/// A pack of the first format in the second, with 64 lines a level: only its format, its quotas and the further extents of its
+/// slots change.
 ///
-/// It is refused where the pack isn't mounted, then where it is in the second format.
+/// Refused if the pack can't be mounted, and then if it is in the second format.
 #[tactic(auto, unfolding(crate::specs::Inner::Images::migrated))]
 pub fn migrate(alloc: Global, bytes: &[u8]) -> Result<Vec<u8>, MigrateFault>
     ensures ok { IfOk result (λ new. migrated bytes.now ≡ Ok new.items) }

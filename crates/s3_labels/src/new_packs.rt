@@ -52,14 +52,14 @@ fn new_header(
     })
 }
 
-/// Puts a part behind the others.
+/// Puts a part after the others.
 fn push_part(bytes: &mut Vec<u8>, part: &[u8]) -> Result<(), AllocError>
     ensures { OnOk result (bytes.new.items ≡ bytes.old.items ++ part.now) }
 {
     bytes.extend_from_slice(part)
 }
 
-/// Puts a number of two bytes behind the others.
+/// Puts a number of two bytes after the others.
 fn push_u16(bytes: &mut Vec<u8>, n: u16) -> Result<(), AllocError>
     ensures { OnOk result (bytes.new.items ≡ bytes.old.items ++ big_bytes 2 n) }
 {
@@ -68,7 +68,7 @@ fn push_u16(bytes: &mut Vec<u8>, n: u16) -> Result<(), AllocError>
     push_part(bytes, &number)
 }
 
-/// Puts start and length of a region behind the others.
+/// Puts start and length of a region after the others.
 #[tactic(auto, using(std::proofs::Common::append_assoc))]
 fn push_region(bytes: &mut Vec<u8>, region: Stretch) -> Result<(), AllocError>
     ensures { OnOk result (bytes.new.items ≡ bytes.old.items ++ region_bytes region) }
@@ -91,7 +91,7 @@ fn bytes_of_header(alloc: Global, header: &Header) -> Result<Vec<u8>, AllocError
     Ok(bytes)
 }
 
-/// Puts zeros behind the others, up to so many bytes.
+/// Puts zeros after the others, up to so many bytes.
 #[tactic(auto, unfolding(crate::specs::Inner::Images::padded))]
 fn pad(bytes: &mut Vec<u8>, width: usize) -> Result<(), AllocError>
     ensures { OnOk result (bytes.new.items ≡ padded width bytes.old.items) }
@@ -124,7 +124,7 @@ fn moved_label(region: Stretch, label: &FileLabel) -> FileLabel
     master
 }
 
-/// Puts the labels of the sound files behind the others.
+/// Puts the labels of the sound files after the others.
 fn push_labels(bytes: &mut Vec<u8>, region: Stretch, slots: &[Slot]) -> Result<(), AllocError>
     requires { 168 ≤ region.start }
     ensures { OnOk result (bytes.new.items ≡ bytes.old.items ++ flat_map (master_bytes_spec region) slots.now) }
@@ -137,7 +137,7 @@ fn push_labels(bytes: &mut Vec<u8>, region: Stretch, slots: &[Slot]) -> Result<(
     Ok(())
 }
 
-/// Puts the sectors of a region of an old pack behind the others.
+/// Puts the sectors of a region of an old pack after the others.
 fn push_sectors(
     bytes: &mut Vec<u8>,
     old: &mut MemoryStore,
@@ -230,7 +230,7 @@ fn image_from_old(
 /// queued. From an old pack its masters are that one's sound files of level 1, in slot order, and their region is a copy
 /// of its level 1's; `masters` then isn't used.
 ///
-/// It is refused where the old pack isn't mounted, then by its quotas, then where there are more than 2,723 tracks.
+/// It is refused if the old pack isn't mounted, then by its quotas, then if there are more than 2,723 tracks.
 #[tactic(auto, using(crate::proofs::Outcomes::image_fault))]
 pub fn image_with(
     alloc: Global,
@@ -255,8 +255,8 @@ pub fn image_with(
     }
 }
 
-/// A new pack as `image_with` gives it, whose levels may each have 64 lines queued. Refused where the old pack isn't
-/// mounted, then where there are more than 2,723 tracks.
+/// A new pack as `image_with` gives it, whose levels may each have 64 lines queued. Refused if the old pack isn't mounted, then
+/// if there are more than 2,723 tracks.
 pub fn image(
     alloc: Global,
     from: Option<&[u8]>,

@@ -89,8 +89,8 @@ fn read_areas<P: Sectors>(alloc: Global, pool: &mut P) -> Result<AreaSlots, Refu
 }
 
 impl<S: PackStore> Pack<Pool<S>> {
-    /// Mounts the pack on a store, over a new pool. It is refused by its header, or where memory or a transfer fails; then
-    /// the store comes back as it was.
+    /// Mounts the pack on a store, over a new pool. Refused by its header, or if memory or a transfer fails; then the store is
+    /// given back as it was.
     #[tactic(auto, using(crate::proofs::Mounts::mounted_ready, crate::proofs::Mounts::given_back))]
     pub fn mount(alloc: Global, store: S) -> Result<Self, RefusedStore<S>>
         ensures ok { IfOk result (λ pack. mounted (S.contents store) ≡ Ok pack.areas.header) }
@@ -123,8 +123,8 @@ impl<S: PackStore> Pack<Pool<S>> {
 }
 
 impl<P: Sectors> Pack<P> {
-    /// Mounts the pack on these sectors, with its slots as they are judged. It is refused by its header, or where memory or a
-    /// transfer fails; then the sectors come back as they were.
+    /// Mounts the pack on these sectors, with its slots as `s3_slots` classifies them. Refused by its header, or if memory or a
+    /// transfer fails; then the sectors are given back as they were.
     #[tactic(auto, using(crate::proofs::Mounts::mounted_ready))]
     pub fn over(alloc: Global, mut pool: P) -> Result<Self, Refused<P>>
         ensures ok { IfOk result (λ pack. mounted (P.state pool).contents ≡ Ok pack.areas.header) }
@@ -142,7 +142,7 @@ impl<P: Sectors> Pack<P> {
         }
     }
 
-    /// What stands in slot `i`, 0 to 31, of an area: 0 for the masters, 1 and 2 for the levels.
+    /// What slot `i`, 0 to 31, of an area has: 0 for the masters, 1 and 2 for the levels.
     pub fn slot(&self, area: u16, i: usize) -> &Slot
         requires area { area < 3 }
         requires slot { i < 32 }
@@ -152,7 +152,7 @@ impl<P: Sectors> Pack<P> {
     }
 
     /// The file of a label for a level, one of its own before one of the masters', and whether it is a master's. Refused with
-    /// `DamagedLabel` where damage blocks the label, and with `NotFound`.
+    /// `DamagedLabel` if damage blocks the label, and with `NotFound`.
     #[tactic(auto, using(crate::proofs::Regions::own_on_pack, crate::proofs::Regions::master_on_pack), unfolding(s3_slots::specs::Inner::Making::found))]
     pub fn find(&self, level: LevelId, name: Name) -> Result<(FileLabel, bool), LabelFault>
         ensures value { result ≡ found name (slots_at level self.now.areas) self.now.areas.masters }
@@ -188,9 +188,9 @@ impl<P: Sectors> Pack<P> {
         Ok(())
     }
 
-    /// Makes a file of a level, and answers its label. The records of a direct file are blank. Refused or not, no label slots
-    /// change but that of the level's old file of this label and the lowest that is free without it. Refused with `Label` as
-    /// `make_in` says, where nothing changes, and with `Sectors`.
+    /// Makes a file of a level, and answers its label. The records of a direct file are blank. Only two label slots may change,
+    /// refused or not: the slot of the level's old file of this label, and the lowest slot that is free without it. Refused with
+    /// `Label` as `make_in` says, and then nothing changes, and with `Sectors`.
     ///
     /// After `Sectors` no call on the pack is to be made.
     pub fn make(&mut self, level: LevelId, new: &NewFile) -> Result<FileLabel, ChangeFault>
@@ -219,8 +219,8 @@ impl<P: Sectors> Pack<P> {
         Ok(made.label)
     }
 
-    /// Sets the count of the file that a level itself has under a label. Refused with `Label`, `NotFound` or `DamagedLabel`
-    /// in it, where nothing changes, and with `Sectors`, after which no call on the pack is to be made.
+    /// Sets the count of the file that a level itself has under a label. Refused with `Label`, `NotFound` or `DamagedLabel` in
+    /// it, and then nothing changes, and with `Sectors`, after which the pack must not be used.
     pub fn set_count(&mut self, level: LevelId, name: Name, count: u32) -> Result<(), ChangeFault>
         requires ready { IsReady self.old.areas (P.state self.old.pool).contents }
         requires room { MayHave count (standing name (slots_at level self.old.areas)) }
@@ -241,8 +241,8 @@ impl<P: Sectors> Pack<P> {
         Ok(())
     }
 
-    /// Drops the label of a file of a level, whatever its retention. Refused with `Label`, `NotFound` or `DamagedLabel` in
-    /// it, where nothing changes, and with `Sectors`, after which no call on the pack is to be made.
+    /// Drops the label of a file of a level, whatever its retention. Refused with `Label`, `NotFound` or `DamagedLabel` in it,
+    /// and then nothing changes, and with `Sectors`, after which the pack must not be used.
     pub fn drop_label(&mut self, level: LevelId, name: Name) -> Result<(), ChangeFault>
         requires ready { IsReady self.old.areas (P.state self.old.pool).contents }
         ensures ok { OnOk result (without_label name (slots_at level self.old.areas) ≡ Ok (slots_at level self.new.areas)) }
@@ -263,8 +263,8 @@ impl<P: Sectors> Pack<P> {
     }
 }
 
-/// Reads the name and the date of a new file, so that the prover knows how wide they are: it learns that where an array is
-/// read.
+/// Reads the name and the date of a new file, so that the prover knows their widths. It learns the width of an array when the
+/// array is read.
 fn know_widths(new: &NewFile)
     ensures codes { length new.now.name.codes ≡ 8 }
     ensures date { length new.now.date ≡ 6 }

@@ -35,7 +35,7 @@ pub fn write_slot<P: Sectors>(
     pool.change_sector(1 + 8 * area + i / 4, usize::from(i % 4) * 64, bytes)
 }
 
-/// Writes zeros to the slot that a make has freed, if it isn't the one that it has filled.
+/// Writes zeros to the slot that a make has freed, unless the make has filled the same slot.
 #[tactic(auto, using(crate::proofs::Parts::slot_within, s3_store::proofs::Frames::within_refl))]
 fn clear_freed<P: Sectors>(
     pool: &mut P,

@@ -69,6 +69,7 @@ ready_put level areas blocks s t ready within = record {
   files = files_ready_over level.id (open_files level.job) (seen areas s.contents) (seen areas t.contents) ready.files (put_sees level.id areas blocks s t ready.files.pack within)
       (pack_over areas s.contents t.contents within.count ready.files.pack);
   job = ready.job;
+  of_library = ready.of_library;
 }
 
 -- ---- queues

@@ -17,15 +17,18 @@ use Rattle.s3_job_files.specs.Inner.Packs.{KeepsOthers}
 use Rattle.s3_spool.specs.Inner.Queues.{Blocks}
 use Rattle.s3_solo.specs.Inner.Asked.{IsAsked}
 use Rattle.s3_level.proofs.Beside.{shown_moved}
-use Rattle.s3_level.specs.Inner.Holds.{AreAll, Becomes, Holds, HoldsAtWork, around, shown, HoldsJob, HoldsParts, IsAtWorkReady, IsReady, Shown, open_files, with_seen}
+use Rattle.s3_level.specs.Inner.Holds.{AreAll, Becomes, Holds, HoldsAtWork, around, shown, HoldsJob, HoldsParts, IsAtWorkReady, IsReady, Shown, Stocks, open_files, with_seen}
+use Rattle.s3_level.specs.Inner.Library.{HasSame}
+use Rattle.s3_program.specs.declared.program.Program.{Program}
 
 -- the job at work is over
-pub job_closed : (s : Shown) {T E : Type 0} (result : Result T E) (old new : Level) (job : OpenJob) (before after : Seen) → old.job ≡ Some job → IsReady old before
-    → new ≡ record old { job = None }
+pub job_closed : (s : Shown) {T E : Type 0} (result : Result T E) (old new : Level) (job : OpenJob) (library : _) (before after : Seen) → old.job ≡ Some job → IsReady old before
+    → HasSame old.library library
+    → new ≡ record old { job = None; library = library }
     → OnOk result ((in_use : FilesInUse) → HoldsInUse job.files.level job.files.files.items before in_use
     → HoldsInUse job.files.level [] after (record { files = files_closed in_use.job_files in_use.files; job_files = [] }))
     → OnOk result (Becomes job_ended (HoldsParts old (with_seen before s)) (HoldsParts new (with_seen after s)))
-job_closed s (Ok _) old new job before after is_open ready is closes = λ w held.
+job_closed s (Ok _) old new job library before after is_open ready same is closes = λ w held.
     subst (λ (level : Level). HoldsParts level (with_seen after s) (job_ended w)) (sym is) (by w held w.job refl held.job)
   where
     level_is : job.files.level ≡ old.id
@@ -39,7 +42,7 @@ job_closed s (Ok _) old new job before after is_open ready is closes = λ w held
         subst (λ (level : LevelId). HoldsInUse level [] after (record { files = files_closed meant.files w.pack; job_files = [] })) level_is (closes (record { files = w.pack; job_files = meant.files }) in_use)
 
     by : (w : World) → HoldsParts old (with_seen before s) w → (meant : Option JobAtWork) → w.job ≡ meant → HoldsAtWork old.deck old.job w meant
-        → HoldsParts (record old { job = None }) (with_seen after s) (over meant w)
+        → HoldsParts (record old { job = None; library = library }) (with_seen after s) (over meant w)
     by w held None is_none at = absurd (let P : Option OpenJob → Type 0 = λ o. HoldsAtWork old.deck o w None in subst P is_open at)
     by w held (Some meant) is_job at =
         let h : HoldsJob old.deck job w meant = (let P : Option OpenJob → Type 0 = λ o. HoldsAtWork old.deck o w (Some meant) in subst P is_open at) in
@@ -47,7 +50,7 @@ job_closed s (Ok _) old new job before after is_open ready is closes = λ w held
           cards = held.cards;
           jobs = held.jobs;
           number = held.number;
-          library = held.library;
+          library = λ name. subst (λ (of : Option Program). Stocks of (w.library name)) (sym (same name)) (held.library name);
           switches = held.switches;
           date = held.date;
           pack = (closed w meant held h).files;
@@ -55,10 +58,10 @@ job_closed s (Ok _) old new job before after is_open ready is closes = λ w held
           lines = record { printed = held.lines.printed; drained_lines = held.lines.drained_lines; quota = held.lines.quota };
           halts = held.halts;
         }
-job_closed s (Err _) old new job before after is_open ready is closes = tt
+job_closed s (Err _) old new job library before after is_open ready same is closes = tt
 
-pub ready_over : (old new : Level) (after : Seen) → new ≡ record old { job = None } → AreFilesReady old.id [] after → IsReady new after
-ready_over old new after is ready = subst (λ (level : Level). IsReady level after) (sym is) (record { files = ready; job = tt })
+pub ready_over : (old new : Level) (after : Seen) (library : _) → new ≡ record old { job = None; library = library } → AreFilesReady old.id [] after → IsReady new after
+ready_over old new after library is ready = subst (λ (level : Level). IsReady level after) (sym is) (record { files = ready; job = tt; of_library = tt })
 
 -- ---- the whole
 ended_asks : (w : World) → IsAsked w → IsAsked (job_ended w)

@@ -2,21 +2,24 @@
 use Rattle.std.proofs.Common.{◌≡◌, ℕ, List, slice_range, Bool, true, false, refl, sym, ◌∙◌, ap, subst, Option, Some, Result, Ok, Err, IfOk, OnOk, OnErr, IsErr, true≢false}
 use Rattle.s3_cards.specs.declared.levels.LevelId.{LevelId}
 use Rattle.s3_meaning.specs.Requests.{Request}
-use Rattle.s3_cycle.specs.Inner.Following.{Resumes, asked, waits}
+use Rattle.s3_meaning.specs.Source.{Source}
+use Rattle.s3_cycle.specs.Inner.Following.{Resumes, StandsFor, asked, waits}
 use Rattle.s3_cycle.proofs.FollowLemmas.{follows_on, waits_as}
 use Rattle.s3_job_files.specs.Inner.Holds.{Seen, HoldsFiles, Holds as HoldsInUse, IsReady as AreFilesReady}
 use Rattle.s3_job_files.specs.Requests as files
 use Rattle.s3_job_files.specs.Requests.{Served}
 use Rattle.s3_job_files.specs.declared.file.OpenFile.{OpenFile}
+use Rattle.s3_job_files.specs.declared.job_files.JobFiles.{JobFiles}
 use Rattle.s3_solo.specs.World.{World, JobAtWork}
 use Rattle.s3_solo.specs.Serving.{Outcome, at_work, file_served, in_use, pending, with_answer}
 use Rattle.s3_solo.specs.declared.action.Did.{Did}
 use Rattle.s3_solo.specs.declared.action.Did.TheVariants.{Acted, Idle}
 use Rattle.s3_level.specs.declared.job.OpenJob.{OpenJob}
 use Rattle.s3_level.specs.declared.level.Level.{Level}
-use Rattle.s3_level.specs.Inner.Calls.{CanServe}
+use Rattle.s3_level.specs.Inner.Calls.{CanServe, KeepsReady}
 use Rattle.s3_level.specs.Inner.Holds.{Shown, HoldsParts, HoldsJob, HoldsAtWork, IsAtWorkReady, IsJobReady, IsReady, Stays, open_files, with_seen}
 use Rattle.s3_level.specs.Inner.Turning.{AsksFile, AtWorkBecomes, FileServed, FileThere, HasFile, KeepsPlace, Serves, ServesFile, on_files, request_by}
+use Rattle.s3_level.proofs.Library.{still_of_library}
 use Rattle.s3_level.proofs.Running.{standing_same}
 
 -- ---- the files of the open job
@@ -67,8 +70,21 @@ then_ready (Ok _) old job new_job before after is_open ready place can =
     record {
       files = subst (λ (l : LevelId). AreFilesReady l new_job.files.files.items after) level can.files;
       job = record { level_of_files = level; switches = can.job.switches; lines = can.job.lines; places = can.job.places };
+      of_library = still_of_library old job new_job is_open place.program place.stands ready.of_library;
     }
 then_ready (Err _) old job new_job before after is_open ready place can = tt
+
+-- and with a job whose files stay
+pub ready_on : (old : Level) (job after : OpenJob) → old.job ≡ Some job → after.program ≡ job.program → after.files ≡ job.files → ((source : Source) → StandsFor job.cycle source → StandsFor after.cycle source)
+    → (IsJobReady job.files.level job → IsJobReady after.files.level after) → KeepsReady old (record old { job = Some after })
+ready_on old job after is_open program same stands still = record {
+  stays = record { id = refl; deck = refl; drained = refl };
+  ready = λ pack ready. record {
+    files = subst (λ (items : List OpenFile). AreFilesReady old.id items pack) (ap open_files is_open ∙ sym (ap (λ (f : JobFiles). f.files.items) same)) ready.files;
+    job = subst (λ (level : LevelId). IsJobReady level after) (ap (λ (f : JobFiles). f.level) same ∙ level_of old job pack is_open ready) (still (job_ready old job pack is_open ready));
+    of_library = still_of_library old job after is_open program stands ready.of_library;
+  };
+}
 
 -- ---- a request is served
 -- the world is then held with what served it

@@ -61,7 +61,7 @@ job_passed {job = job} {areas = areas} {s = s} passes ready = record {
   fails = tt;
   untouched = λ is. (refl, refl);
   ready = ready;
-  place = record { number = refl; next = refl; end = refl; level = refl };
+  place = record { number = refl; program = refl; next = refl; end = refl; level = refl; stands = λ source stands. stands };
   pack = pack_kept job.files.level areas s false ready.files.pack;
 }
 
@@ -80,12 +80,17 @@ pub stays_with : {old new : Level} {job : Option OpenJob} → new ≡ record old
 stays_with is = record { id = ap (λ (level : Level). level.id) is; deck = ap (λ (level : Level). level.deck) is; drained = ap (λ (level : Level). level.lines.items) is }
 
 pub keeps_then : {old middle new : Level} → KeepsJob old middle → KeepsJob middle new → KeepsJob old new
-keeps_then {old = old} {middle = middle} {new = new} first second = record { stays = stays_then old middle new first.stays second.stays; job = second.job ∙ first.job }
+keeps_then {old = old} {middle = middle} {new = new} first second = record {
+  stays = stays_then old middle new first.stays second.stays;
+  job = second.job ∙ first.job;
+  of_library = λ of. second.of_library (first.of_library of);
+}
 
 pub ready_kept : {old new : Level} {pack : Seen} → KeepsJob old new → IsReady old pack → IsReady new pack
 ready_kept {old = old} {new = new} {pack = pack} keeps ready = record {
   files = subst (λ (level : LevelId). AreFilesReady level (open_files new.job) pack) (sym keeps.stays.id) (subst (λ (job : Option OpenJob). AreFilesReady old.id (open_files job) pack) (sym keeps.job) ready.files);
   job = subst (λ (level : LevelId). IsAtWorkReady level new.job) (sym keeps.stays.id) (subst (λ (job : Option OpenJob). IsAtWorkReady old.id job) (sym keeps.job) ready.job);
+  of_library = keeps.of_library ready.of_library;
 }
 
 pub leaves_ok : {T U : Type 0} {first : T} {old new : Level} {before after : Areas} {s t : PoolState} (answer : U) → Leaves (Ok first) old new before after s t → Leaves (Ok answer) old new before after s t
@@ -101,7 +106,7 @@ pub leaves_kept : {T : Type 0} {old new : Level} {areas : Areas} {s : PoolState}
 leaves_kept {old = old} {areas = areas} {s = s} answer ready keeps = record { stays = keeps.stays; ready = ready_kept keeps ready; pack = pack_kept old.id areas s answer ready.files.pack }
 
 pub leaves_same : {T : Type 0} {level : Level} {areas : Areas} {s : PoolState} (answer : T) → IsReady level (seen areas s.contents) → Leaves (Ok answer) level level areas areas s s
-leaves_same {level = level} answer ready = leaves_kept answer ready (record { stays = still level; job = refl })
+leaves_same {level = level} answer ready = leaves_kept answer ready (record { stays = still level; job = refl; of_library = λ of. of })
 
 -- memory ran out, and of the pack that is left which was
 pub leaves_spent : {T U : Type 0} {old new : Level} {first : T} {before after : Areas} {s t : PoolState} (result : Result U SectorFault) → IsErrAnd result (λ f. f ≡ NoMemory) → Stays old new → LeavesPack old.id (Ok first) before after s t
@@ -139,10 +144,10 @@ leaves_served {result = result} {old = old} {job = job} {new_job = new_job} {bef
 }
 
 -- it was closed
-pub leaves_closed : {T : Type 0} (result : Result T SectorFault) {old new : Level} {job : OpenJob} {before after : Areas} {s t : PoolState} → old.job ≡ Some job → IsReady old (seen before s.contents) → new ≡ record old { job = None }
+pub leaves_closed : {T : Type 0} (result : Result T SectorFault) {old new : Level} {job : OpenJob} {library : _} {before after : Areas} {s t : PoolState} → old.job ≡ Some job → IsReady old (seen before s.contents) → new ≡ record old { job = None; library = library }
     → OnOk result (AreFilesReady job.files.level [] (seen after t.contents)) → LeavesPack job.files.level result before after s t → Leaves result old new before after s t
-leaves_closed {T = T} result {old = old} {new = new} {job = job} {before = before} {after = after} {s = s} {t = t} is_open ready is files leaves = record {
-  stays = stays_with is;
+leaves_closed {T = T} result {old = old} {new = new} {job = job} {library = library} {before = before} {after = after} {s = s} {t = t} is_open ready is files leaves = record {
+  stays = record { id = ap (λ (level : Level). level.id) is; deck = ap (λ (level : Level). level.deck) is; drained = ap (λ (level : Level). level.lines.items) is };
   ready = by result files;
   pack = subst (λ (level : LevelId). LeavesPack level result before after s t) same leaves;
 }
@@ -151,7 +156,7 @@ leaves_closed {T = T} result {old = old} {new = new} {job = job} {before = befor
     same = level_of old job (seen before s.contents) is_open ready
 
     by : (r : Result T SectorFault) → OnOk r (AreFilesReady job.files.level [] (seen after t.contents)) → OnOk r (IsReady new (seen after t.contents))
-    by (Ok answer) it = ready_over old new (seen after t.contents) is (subst (λ (level : LevelId). AreFilesReady level [] (seen after t.contents)) same it)
+    by (Ok answer) it = ready_over old new (seen after t.contents) library is (subst (λ (level : LevelId). AreFilesReady level [] (seen after t.contents)) same it)
     by (Err fault) it = tt
 
 -- ---- the level beside the queues

@@ -19,3 +19,4 @@ pub mod Requests
 pub mod Files
 pub mod Repeating
 pub mod Asking
+pub mod Library

@@ -10,6 +10,7 @@ use Rattle.s3_cards.specs.declared.name.Name.{Name}
 use Rattle.s3_cards.specs.Names.{same_name}
 use Rattle.s3_meaning.specs.Requests.{Answer}
 use Rattle.s3_meaning.specs.Cycle.{Req}
+use Rattle.s3_cycle.specs.declared.stepper.Stepper.{Stepper}
 use Rattle.s3_cycle.specs.Inner.Rest.{rest}
 use Rattle.s3_cycle.specs.Inner.Following.{StandsFor as RunsFor, files as files_of}
 use Rattle.s3_solo.specs.World.{World, JobAtWork}
@@ -52,7 +53,9 @@ use Rattle.s3_job_files.proofs.Starting.{holds_mounted}
 use Rattle.s3_spool.specs.Inner.Queues.{lines_in, queue_of}
 use Rattle.s3_solo.specs.World.{at_start}
 use Rattle.s3_level.specs.Inner.Holds.{Around, Holds, IsFresh, Shown, HoldsParts, HoldsAtWork, IsReady, Stocks, Becomes, open_files, places_of, with_seen}
+use Rattle.s3_level.specs.Inner.Library.{HasSame, IsFor, IsOfLibrary}
 use Rattle.s3_level.specs.Inner.Turning.{AtWorkBecomes, NextIs, Starts}
+use Rattle.s3_level.proofs.Library.{parts_restocked}
 use Rattle.s3_level.proofs.Running.{standing_same}
 
 pub taken_then_started : (s : Shown) {T E : Type 0} (result : Result T E) (old : Level) (taken new : World → Type 0) (job : Result Job FaultyJob) (behind : List (Result Job FaultyJob)) (number : ℕ)
@@ -240,17 +243,18 @@ files_refused s (Ok _) code number job cards date program before old new found i
 files_refused s (Err _) code number job cards date program before old new found is_date rests refuses shows = tt
 
 -- a job whose files are opened is at work
-pub files_opened : (s : Shown) {T E : Type 0} (result : Result T E) (job_files : JobFiles) (number : ℕ) (job : Job) (cards date : List _) (program copy : Program) (before after : Seen) (old : Level) (new : World → Type 0)
+pub files_opened : (s : Shown) {T E : Type 0} (result : Result T E) (job_files : JobFiles) (number : ℕ) (job : Job) (cards date : List _) (program : Program) (cycle : Stepper) (before after : Seen) (old : Level) (library : _) (new : World → Type 0)
     → get same_name old.library job.program ≡ Some program
-    → parts_of copy ≡ parts_of program
+    → IsFor program cycle
+    → HasSame old.library library
     → date ≡ old.date
     → old.job ≡ None
     → ((files : Files) → HoldsFiles old.id [] before files
     → HoldsStarted old.id job_files.files.items after (opened (record { statements = job.files; switches = old.switches; date = date }) program.files.items files))
-    → OnOk result ((w : World) (source : Source) (in_use : FilesInUse) → Stands copy source → HoldsParts old (with_seen before s) w → HoldsInUse old.id job_files.files.items after in_use
+    → OnOk result ((w : World) (source : Source) (in_use : FilesInUse) → RunsFor cycle source → HoldsParts (record old { library = library }) (with_seen before s) w → HoldsInUse old.id job_files.files.items after in_use
     → new (at_work (record { number = number; source = source; cards = cards; files = in_use.job_files; past = [] }) (record w { pack = in_use.files })))
     → OnOk result (Becomes (λ w. run number job.files cards (w.library job.program) w) (HoldsParts old (with_seen before s)) new)
-files_opened s (Ok _) job_files number job cards date program copy before after old new found copies is_date rests starts goes = λ w held.
+files_opened s (Ok _) job_files number job cards date program cycle before after old library new found is_for same is_date rests starts goes = λ w held.
     let there = source_of_program (with_seen before s) old job.program program w found held in
     subst (λ (meant : Option Source). new (run number job.files cards meant w)) (sym there.1)
     (by w held there.0 there.2 (opened (settings job.files w) there.0.files w.pack)
@@ -258,20 +262,19 @@ files_opened s (Ok _) job_files number job cards date program copy before after 
   where
     by : (w : World) → HoldsParts old (with_seen before s) w → (source : Source) → Stands program source → (outcome : Result FilesInUse HaltCode) → HoldsStarted old.id job_files.files.items after outcome
         → new (run_over number cards source outcome w)
-    by w held source stands (Ok in_use) starts' = goes w source in_use (ap named copies ∙ stands) held starts'
+    by w held source stands (Ok in_use) starts' = goes w source in_use (is_for source stands) (parts_restocked (with_seen before s) old library w same held) starts'
     by w held source stands (Err code) starts' = absurd starts'
-files_opened s (Err _) job_files number job cards date program copy before after old new found copies is_date rests starts goes = tt
+files_opened s (Err _) job_files number job cards date program cycle before after old library new found is_for same is_date rests starts goes = tt
 
 -- its cycle is at the beginning of the whole run
-pub at_beginning : (s : Shown) {T E : Type 0} (result : Result T E) (job : OpenJob) (cards : List (List ℕ)) (program : Program) (date : List ℕ) (before after : Seen) (old middle : Level) (new : World → Type 0)
+pub at_beginning : (s : Shown) {T E : Type 0} (result : Result T E) (job : OpenJob) (cards : List (List ℕ)) (before after : Seen) (old middle : Level) (new : World → Type 0)
     → slice_range old.deck job.next job.end ≡ cards
-    → date ≡ old.date
-    → ((source : Source) → Stands program source → RunsFor job.cycle source × ((answers : List Answer) → rest source job.cycle answers ≡ Req source old.switches date answers))
+    → ((source : Source) → RunsFor job.cycle source → (answers : List Answer) → rest source job.cycle answers ≡ Req source old.switches old.date answers)
     → middle ≡ record old { job = Some job }
     → OnOk result (AtWorkBecomes at_work (HoldsParts middle (with_seen after s)) new)
-    → OnOk result ((w : World) (source : Source) (in_use : FilesInUse) → Stands program source → HoldsParts old (with_seen before s) w → HoldsInUse old.id job.files.files.items after in_use
+    → OnOk result ((w : World) (source : Source) (in_use : FilesInUse) → RunsFor job.cycle source → HoldsParts old (with_seen before s) w → HoldsInUse old.id job.files.files.items after in_use
     → new (at_work (record { number = job.number; source = source; cards = cards; files = in_use.job_files; past = [] }) (record w { pack = in_use.files })))
-at_beginning s (Ok _) job cards program date before after old middle new are_cards is_date starts opens stands_then = λ w source in_use stands held in_files.
+at_beginning s (Ok _) job cards before after old middle new are_cards starts opens stands_then = λ w source in_use stands held in_files.
     let meant : JobAtWork = at source in_use in
     let there : World = record w { pack = in_use.files; job = Some meant } in
     subst new (standing_same (pending meant w) meant (record w { pack = in_use.files }) (Some meant))
@@ -280,10 +283,9 @@ at_beginning s (Ok _) job cards program date before after old middle new are_car
     at : Source → FilesInUse → JobAtWork
     at source in_use = record { number = job.number; source = source; cards = cards; files = in_use.job_files; past = [] }
 
-    begun : (w : World) (source : Source) (in_use : FilesInUse) → Stands program source → HoldsParts old (with_seen before s) w → HoldsInUse old.id job.files.files.items after in_use
+    begun : (w : World) (source : Source) (in_use : FilesInUse) → RunsFor job.cycle source → HoldsParts old (with_seen before s) w → HoldsInUse old.id job.files.files.items after in_use
         → HoldsParts (record old { job = Some job }) (with_seen after s) (record w { pack = in_use.files; job = Some (at source in_use) })
     begun w source in_use stands held in_files =
-        let runs = starts source stands in
         record {
           cards = held.cards;
           jobs = held.jobs;
@@ -297,36 +299,31 @@ at_beginning s (Ok _) job cards program date before after old middle new are_car
             cards = sym are_cards;
             files = in_files.job_files;
             follows = record {
-              stands = runs.0;
-              runs = λ answers. runs.1 answers ∙ ap (λ d. Req source old.switches d answers) (is_date ∙ sym held.date) ∙ ap (λ n. Req source n w.date answers) (sym held.switches);
+              stands = stands;
+              runs = λ answers. starts source stands answers ∙ ap (λ d. Req source old.switches d answers) (sym held.date) ∙ ap (λ n. Req source n w.date answers) (sym held.switches);
             };
           };
           lines = record { printed = held.lines.printed; drained_lines = held.lines.drained_lines; quota = held.lines.quota };
           halts = held.halts;
         }
-at_beginning s (Err _) job cards program date before after old middle new are_cards is_date starts opens stands_then = tt
+at_beginning s (Err _) job cards before after old middle new are_cards starts opens stands_then = tt
 
 -- ---- what is true of it whatever it holds
-pub ready_at_beginning : (job : OpenJob) (program : Program) (pack : Seen) (old middle : Level)
-    → ((source : Source) → Stands program source → RunsFor job.cycle source)
+pub ready_at_beginning : (job : OpenJob) (pack : Seen) (old middle : Level)
     → middle ≡ record old { job = Some job }
+    → IsOfLibrary old.library (Some job)
     → AreFilesReady old.id job.files.files.items pack
     → job.files.level ≡ old.id
-    → AreOfLines old.switches program.files.items job.files.files.items
-    → job.places.items ≡ places_of program.files.items job.files.files.items
+    → AreOfLines old.switches (files_of job.cycle) job.files.files.items
+    → job.places.items ≡ places_of (files_of job.cycle) job.files.files.items
     → IsReady middle pack
-ready_at_beginning job program pack old middle stands is ready level lines places =
-    let same : program.files.items ≡ files_of job.cycle = sym (files_stand job.cycle (source_named program) (stands (source_named program) refl) ∙ files_of_source program (source_named program) refl) in
+ready_at_beginning job pack old middle is of ready level lines places =
     subst (λ (l : Level). IsReady l pack) (sym is)
-    (record {
-      files = ready;
-      job = record {
-        level_of_files = level;
-        switches = old.switches;
-        lines = subst (λ (all : List FileLine). AreOfLines old.switches all job.files.files.items) same lines;
-        places = places ∙ ap (λ (all : List FileLine). places_of all job.files.files.items) same;
-      };
-    })
+    (record { files = ready; job = record { level_of_files = level; switches = old.switches; lines = lines; places = places }; of_library = of })
+
+-- the files of a cycle of a program are those of the program
+pub files_for : (program : Program) (cycle : Stepper) → IsFor program cycle → files_of cycle ≡ program.files.items
+files_for program cycle is_for = files_stand cycle (source_named program) (is_for (source_named program) refl) ∙ files_of_source program (source_named program) refl
 
 -- ---- a level before its first entry
 none_in : (contents : List (List ℕ)) → lines_in [] contents ≡ []

@@ -86,7 +86,7 @@ impl Level {
         ensures ends { self.old.job ≡ None → IsOk result }
     {
         match self.job.take() {
-            Some(job) => job.close(pack),
+            Some(job) => job.close(&mut self.library, pack),
             None => Ok(()),
         }
     }
@@ -168,7 +168,7 @@ impl Level {
         }
     }
 
-    /// Where the job at work asks for a reply, shows that halt; where a reply has ended it, it is over.
+    /// Shows the halt if the job at work asks for a reply; ends the job if a reply has ended it.
     #[tactic(auto, using(crate::proofs::Running::halt_shown, crate::proofs::Running::job_over, crate::proofs::Running::job_goes_on))]
     pub(crate) fn stand<P: Sectors>(&mut self, pack: &mut Pack<P>) -> Result<(), SectorFault>
         requires ready { IsReady self.old (seen pack.old.areas (P.state pack.old.pool).contents) }
@@ -182,7 +182,7 @@ impl Level {
         }
     }
 
-    /// What the job at work comes to.
+    /// The next state of the job at work.
     #[tactic(auto, using(crate::proofs::Running::comes_halt, crate::proofs::Running::comes_over, crate::proofs::Running::comes_on))]
     fn next(&self) -> Next
         ensures { (s : Shown) (w : World) (job : JobAtWork) → w.job ≡ Some job → HoldsParts self.now s w → Comes result job w }

@@ -14,9 +14,12 @@ ghost use Rattle.s3_cycle.specs.declared.request.Request.TheVariants as asks;
 ghost use Rattle.s3_solo.specs.Serving.{card_answer};
 ghost use Rattle.s3_level.specs.Inner.Calls.{CanServe, KeepsOpened, ServesJob};
 ghost use Rattle.s3_level.specs.Inner.Holds.{IsJobReady, places_of};
+ghost use Rattle.s3_level.specs.Inner.Library.{HasSame, IsOfLibrary};
 ghost use Rattle.s3_level.specs.Inner.Turning.{AsksFile, KeepsPlace, SuitsSought};
 
-use s3_cards::{Card, Deck};
+use crate::stocked::{Stocked, give_back};
+use indexmap::IndexMap;
+use s3_cards::{Card, Deck, Name};
 use s3_cycle::{Answer, Cycle, FileCall, Request, Sought};
 use s3_job_files::{JobFiles, Put};
 use s3_labels::Pack;
@@ -32,6 +35,8 @@ use std::num::NonZeroU16;
 pub struct OpenJob {
     /// Its number, 0 to 999.
     pub number: u16,
+    /// The name under which its program is in the library.
+    pub program: Name,
     /// The cycle of its program.
     pub cycle: Cycle,
     /// Its files on the pack.
@@ -73,7 +78,7 @@ fn first_card(deck: &Deck, from: usize, to: usize) -> Option<&Card>
     Some(card)
 }
 
-/// What a run continues with where a record was found, or none.
+/// The answer for a run: the record that was found, or none.
 #[tactic(auto, unfolding(s3_cycle::specs::Inner::Requests::answer_of))]
 fn record_answer(found: bool, bytes: &[u8]) -> Answer<'_>
     ensures { answer_of result ≡ found_answer found bytes.now }
@@ -85,7 +90,7 @@ fn record_answer(found: bool, bytes: &[u8]) -> Answer<'_>
     }
 }
 
-/// What a run continues with where a record was put, or refused.
+/// The answer for a run: a record was put, or refused.
 #[tactic(auto, unfolding(s3_cycle::specs::Inner::Requests::answer_of))]
 fn answer_of_put(put: Put) -> Answer<'static>
     ensures { answer_of result ≡ put_answer put }
@@ -146,6 +151,7 @@ impl OpenJob {
         ensures resumes { Resumes self.old.cycle self.new.cycle (card_answer (slice_range deck.now self.old.next self.old.end)) }
         ensures cards { slice_range deck.now self.new.next self.new.end ≡ drop 1 (slice_range deck.now self.old.next self.old.end) }
         ensures number { self.new.number ≡ self.old.number }
+        ensures program { self.new.program ≡ self.old.program }
         ensures files { self.new.files ≡ self.old.files }
         ensures ready { IsJobReady self.old.files.level self.old → IsJobReady self.new.files.level self.new }
     {
@@ -182,15 +188,22 @@ impl OpenJob {
         self.cycle.pass_jumps(most)
     }
 
-    /// Closes the files of the job: counts are set, and scratch files that it made are dropped.
+    /// Closes the files of the job: counts are set, and scratch files that it made are dropped. The cycle goes back to the library.
     ///
     /// After a fault of the sectors no call on the pack is to be made.
-    pub fn close<P: Sectors>(self, pack: &mut Pack<P>) -> Result<(), SectorFault>
+    pub fn close<P: Sectors>(
+        self,
+        library: &mut IndexMap<Name, Stocked>,
+        pack: &mut Pack<P>,
+    ) -> Result<(), SectorFault>
         requires ready { AreFilesReady self.files.level self.files.files.items (seen pack.old.areas (P.state pack.old.pool).contents) }
+        requires of_library { IsOfLibrary library.old (Some self) }
+        ensures library { HasSame library.old library.new }
         ensures closes { OnOk result ((in_use : FilesInUse) → HoldsInUse self.files.level self.files.files.items (seen pack.old.areas (P.state pack.old.pool).contents) in_use → HoldsInUse self.files.level [] (seen pack.new.areas (P.state pack.new.pool).contents) (record { files = files_closed in_use.job_files in_use.files; job_files = [] })) }
         ensures ready { OnOk result (AreFilesReady self.files.level [] (seen pack.new.areas (P.state pack.new.pool).contents)) }
         ensures pack { LeavesPack self.files.level result pack.old.areas pack.new.areas (P.state pack.old.pool) (P.state pack.new.pool) }
     {
+        give_back(library, self.program, self.cycle);
         self.files.close(pack)
     }
 

@@ -4,6 +4,7 @@ use crate::date::Date;
 use crate::details::one_detail;
 use crate::job::{OpenJob, places_of};
 use crate::level::Level;
+use crate::stocked::begin;
 use crate::switches::switches_after;
 use s3_cycle::Cycle;
 use s3_job_files::JobFiles;
@@ -12,15 +13,20 @@ use s3_ocl::{FaultyJob, JobCards, OclFault, job_at, split};
 use s3_opening::{JobSettings, OpeningFault, open_files};
 use s3_operator::HaltCode;
 use s3_output::composition::LONGEST_RECORD;
-use s3_program::program::Program;
 use s3_solo::Did;
 use s3_store::{SectorFault, Sectors};
 use std::alloc::AllocError;
 
 impl Level {
-    ghost use Rattle.std.specs.Prelude.{◌≡◌, ◌≢◌, ◌<◌, [], true, false, nat_lt, length, unwrap_or, None, IfOk, IsTrue, OnOk};
+    ghost use Rattle.std.specs.Prelude.{◌≡◌, ◌≢◌, ◌<◌, [], true, false, nat_lt, length, unwrap_or, List, None, Some, IfOk, IsTrue, OnOk};
     ghost use Rattle.s3_meaning.specs.Source.{Source};
-    ghost use Rattle.s3_program.specs.Inner.Stands.{Stands};
+    ghost use Rattle.indexmap.specs.IndexMap.{get};
+    ghost use Rattle.s3_cards.specs.Names.{same_name};
+    ghost use Rattle.s3_meaning.specs.Requests.{Answer};
+    ghost use Rattle.s3_meaning.specs.Cycle.{Req};
+    ghost use Rattle.s3_program.specs.declared.program.Program.{Program};
+    ghost use Rattle.s3_cycle.specs.Inner.Following.{StandsFor, files};
+    ghost use Rattle.s3_cycle.specs.Inner.Rest.{rest};
     ghost use Rattle.s3_ocl.specs.Jobs.{next_job};
     ghost use Rattle.s3_ocl.specs.Inner.Sound.{is_sound_date};
     ghost use Rattle.s3_ocl.specs.Streams.{jobs_from};
@@ -31,6 +37,7 @@ impl Level {
     ghost use Rattle.s3_solo.specs.Serving.{at_work, data_of, performed, run, started, switches_after, with_jobs};
     ghost use Rattle.s3_level.specs.Inner.Calls.{IsJobOf, KeepsJob, Leaves, MayBegin};
     ghost use Rattle.s3_level.specs.Inner.Holds.{Shown, with_seen, HoldsParts, IsQuiet, Becomes, Stays};
+    ghost use Rattle.s3_level.specs.Inner.Library.{IsFor};
     ghost use Rattle.s3_level.specs.Inner.Turning.{NextIs, Begins, Starts};
 
     /// Begins the next job, if there is one.
@@ -167,18 +174,20 @@ impl Level {
         ensures world { (s : Shown) → OnOk result (Becomes (λ w. run number job.now.files (data_of self.old.deck job.now) (w.library job.now.program) w) (HoldsParts self.old (with_seen (seen pack.old.areas (P.state pack.old.pool).contents) s)) (HoldsParts self.new (with_seen (seen pack.new.areas (P.state pack.new.pool).contents) s))) }
         ensures leaves { Leaves result self.old self.new pack.old.areas pack.new.areas (P.state pack.old.pool) (P.state pack.new.pool) }
     {
-        let Some(program) = self.library.get(&job.program()) else {
+        let name = job.program();
+        let Some(stocked) = self.library.get(&name) else {
             return Ok(self.show(number, HaltCode::NoProgram, Vec::new(self.alloc))?);
         };
+        let date = self.date.digits();
         let settings = JobSettings {
             statements: job.files(),
             switches: self.switches,
-            date: self.date.digits(),
+            date,
         };
-        match open_files(self.alloc, self.id, pack, &settings, &program.files) {
+        match open_files(self.alloc, self.id, pack, &settings, stocked.file_lines()) {
             Ok(files) => {
-                let program = program.copy(self.alloc)?;
-                self.run_over(number, job, program, files, pack)
+                let cycle = begin(&mut self.library, name, self.alloc, self.switches, date)?;
+                self.run_over(number, job, cycle, files, pack)
             }
             Err(OpeningFault::Halted(code)) => {
                 Ok(self.show(number, code, Vec::new(self.alloc))?)
@@ -187,28 +196,30 @@ impl Level {
         }
     }
 
-    /// Runs a program over the files that its job has in use.
+    /// Runs a cycle over the files that its job has in use.
     #[tactic(auto, using(crate::proofs::Starting::ready_at_beginning))]
     fn run_over<P: Sectors>(
         &mut self,
         number: u16,
         job: &JobCards,
-        program: Program,
+        cycle: Cycle,
         job_files: JobFiles,
         pack: &mut Pack<P>,
     ) -> Result<(), SectorFault>
         requires rests { self.old.job ≡ None }
         requires ready { AreFilesReady self.old.id job_files.files.items (seen pack.old.areas (P.state pack.old.pool).contents) }
         requires level { job_files.level ≡ self.old.id }
-        requires lines { AreOfLines self.old.switches program.files.items job_files.files.items }
-        ensures world { (s : Shown) (before : Seen) → OnOk result ((w : World) (source : Source) (in_use : FilesInUse) → Stands program source → HoldsParts self.old (with_seen before s) w → HoldsInUse self.old.id job_files.files.items (seen pack.old.areas (P.state pack.old.pool).contents) in_use → HoldsParts self.new (with_seen (seen pack.new.areas (P.state pack.new.pool).contents) s) (at_work (record { number = number; source = source; cards = data_of self.old.deck job.now; files = in_use.job_files; past = [] }) (record w { pack = in_use.files }))) }
+        requires lines { AreOfLines self.old.switches (files cycle) job_files.files.items }
+        requires begins { (source : Source) → StandsFor cycle source → (answers : List Answer) → rest source cycle answers ≡ Req source self.old.switches self.old.date answers }
+        requires of_library { (program : Program) → get same_name self.old.library job.now.program ≡ Some program → IsFor program cycle }
+        ensures world { (s : Shown) (before : Seen) → OnOk result ((w : World) (source : Source) (in_use : FilesInUse) → StandsFor cycle source → HoldsParts self.old (with_seen before s) w → HoldsInUse self.old.id job_files.files.items (seen pack.old.areas (P.state pack.old.pool).contents) in_use → HoldsParts self.new (with_seen (seen pack.new.areas (P.state pack.new.pool).contents) s) (at_work (record { number = number; source = source; cards = data_of self.old.deck job.now; files = in_use.job_files; past = [] }) (record w { pack = in_use.files }))) }
         ensures leaves { Leaves result self.old self.new pack.old.areas pack.new.areas (P.state pack.old.pool) (P.state pack.new.pool) }
     {
-        let places = places_of(self.alloc, &program.files, &job_files)?;
+        let places = places_of(self.alloc, cycle.file_lines(), &job_files)?;
         let room = Box::new(self.alloc, [0; LONGEST_RECORD])?;
-        let cycle = Cycle::start(self.alloc, program, self.switches, self.date.digits())?;
         self.open(OpenJob {
             number,
+            program: job.program(),
             cycle,
             files: job_files,
             places,

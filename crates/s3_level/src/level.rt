@@ -3,12 +3,12 @@
 use crate::date::Date;
 use crate::job::OpenJob;
 use crate::job_number::JobNumber;
+use crate::stocked::Stocked;
 use crate::taken::Taken;
 use indexmap::IndexMap;
 use s3_cards::{Deck, LevelId, Name, PrintLine};
 use s3_labels::Pack;
 use s3_operator::{Halt, HaltLog};
-use s3_program::program::Program;
 use s3_solo::Did;
 use s3_spool::{Spool, SpoolFault};
 use s3_store::{SectorFault, Sectors};
@@ -26,7 +26,7 @@ pub struct Level {
     /// The number of the next job.
     pub(crate) number: JobNumber,
     /// The programs that were compiled, by their names.
-    pub(crate) library: IndexMap<Name, Program>,
+    pub(crate) library: IndexMap<Name, Stocked>,
     /// The switches U1 to U8, U1 the highest bit.
     pub(crate) switches: u8,
     pub(crate) date: Date,
@@ -87,7 +87,7 @@ impl Level {
     /// Performs the pending request of the job at work, or begins the next job (docs/RUNNING.md, "The script").
     ///
     /// It is idle, takes no memory and changes nothing if a halt waits, if no job is at work and none is left, and if
-    /// the job would print and its quota of lines is queued. Where memory runs out, or a transfer of the sectors fails, nothing
+    /// the job would print and its quota of lines is queued. If memory runs out, or a transfer of the sectors fails, nothing
     /// is known of the worlds that the level holds, and no entry may follow.
     pub fn turn<P: Sectors>(
         &mut self,
@@ -109,12 +109,12 @@ impl Level {
         Ok(self.turns(NonZeroU16::MIN, pack, spool)?.did)
     }
 
-    /// Takes turns one after the other, at most `most` of them and at least one. They go on as long as they act, up to the one in
+    /// Takes turns one after the other, at most `most` of them and at least one. They continue as long as they act, up to the one in
     /// which a job ends, so that a caller sees each end (`stops`). It answers how many they were and what each of them did.
     ///
     /// Each turn performs the pending request of the job at work, or begins the next job. A first turn is idle, takes no memory
     /// and changes nothing if a halt waits, if no job is at work and none is left, and if the job would print and its
-    /// quota of lines is queued. Where memory runs out, or a transfer of the sectors fails, nothing is known of the worlds that
+    /// quota of lines is queued. If memory runs out, or a transfer of the sectors fails, nothing is known of the worlds that
     /// the level holds, and no entry may follow.
     #[inline(never)]
     pub fn turns<P: Sectors>(
@@ -153,8 +153,8 @@ impl Level {
     }
 
     /// Answers the halt that waits with a digit, and a job at work continues with it to its next request (docs/MESSAGES.md,
-    /// "Replies"). It is refused with 1 where no halt waits, and with 2 where the halt doesn't allow the digit; then it takes no
-    /// memory and changes nothing. Where memory runs out, or a transfer of the sectors fails, nothing is known of the worlds that
+    /// "Replies"). It is refused with 1 if no halt waits, and with 2 if the halt doesn't allow the digit; then it takes no
+    /// memory and changes nothing. If memory runs out, or a transfer of the sectors fails, nothing is known of the worlds that
     /// the level holds, and no entry may follow.
     #[inline(never)]
     #[tactic(auto, using(crate::proofs::Replies::reply_refused, crate::proofs::Replies::reply_taken))]

@@ -8,7 +8,7 @@
 //! - a new level holds the world at the start over a pack as it was mounted (`Level::new`);
 //! - `turn`, `answer` and `drain` are one entry of the reference model (`step`): compile jobs, starts, cards, lines, jumps, requests to
 //!   files, replies, ends; `turns` is so many turns as it answers, one at least and no more than it may, each with that answer
-//!   (`steps`, `times`). They stop where a job ends (`stops`), and it fails only if a turn acts (`acts`);
+//!   (`steps`, `times`). They stop when a job ends (`stops`), and it fails only if a turn acts (`acts`);
 //! - an entry that is idle or refused in a world that is held is answered so, and no fault comes in its place (`idle`,
 //!   `refused`); it leaves the pack, the store and the queues as they are (`quiet`, `queues`);
 //! - `close` ends the job at work and closes its files, `drain_all` drains the queue (`world`), and neither fails if there is
@@ -37,6 +37,7 @@ mod queries;
 mod replying;
 mod requesting;
 mod sources;
+mod stocked;
 mod switches;
 mod taken;
 

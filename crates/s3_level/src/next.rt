@@ -1,4 +1,4 @@
-//! What a job at work comes to.
+//! The next state of a job at work.
 
 ghost use Rattle.std.specs.Prelude.{◌≡◌};
 ghost use Rattle.s3_level.specs.Inner.Turning.{code_asked};
@@ -6,7 +6,7 @@ ghost use Rattle.s3_level.specs.Inner.Turning.{code_asked};
 use s3_cycle::Request;
 use s3_operator::HaltCode;
 
-/// What a job at work comes to, once its request has its answer.
+/// The next state of a job at work, once its request has its answer.
 #[derive(Clone, Copy)]
 pub enum Next {
     /// The job of this number halts and asks for a reply.

@@ -25,7 +25,7 @@ impl Level {
     ghost use Rattle.s3_level.specs.Inner.Holds.{Around, Holds};
     ghost use Rattle.s3_level.specs.Inner.Queries.{AreUnread, IsCycleOf, files_of, has_work, is_left};
 
-    /// For what the level halts, while it waits for the reply; none where no halt waits.
+    /// The halt of the level while it waits for the reply; none if no halt waits.
     pub fn waits(&self) -> Option<HaltCode>
         ensures world { (beside : Around) (w : World) → Holds self.now beside w → result ≡ waiting w.halts }
     {
@@ -88,7 +88,7 @@ impl Level {
     }
 
     /// The files that the job at work has in use, in the order in which they were opened: of each how many of its records were
-    /// read, and the place of the one that was chained last. None where no job is at work.
+    /// read, and the place of the one that was chained last. Empty if no job is at work.
     #[tactic(auto, using(crate::proofs::Asking::files_held, crate::proofs::Asking::no_files))]
     pub fn files(&self) -> &[OpenFile]
         ensures world { (beside : Around) (w : World) → Holds self.now beside w → map job_file_of result.now ≡ files_of w.job }

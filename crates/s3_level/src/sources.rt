@@ -2,6 +2,7 @@
 
 use crate::details::details_of;
 use crate::level::Level;
+use crate::stocked::Stocked;
 use s3_compile::{CompileFault, compile};
 use s3_lines::Diagnostic;
 use s3_lines::sheet::Line;
@@ -11,7 +12,7 @@ use s3_sheets::{SheetFault, read_sheets};
 use std::alloc::AllocError;
 
 impl Level {
-    ghost use Rattle.std.specs.Prelude.{◌≤◌, length, slice_range, IsTrue, OnOk};
+    ghost use Rattle.std.specs.Prelude.{◌≡◌, ◌≤◌, None, length, slice_range, IsTrue, OnOk};
     ghost use Rattle.s3_meaning.specs.Source.{Source};
     ghost use Rattle.s3_lines.specs.Inner.Ranges.{are_read};
     ghost use Rattle.s3_diagnose.specs.Diagnostics.{compile_diagnostics};
@@ -31,6 +32,7 @@ impl Level {
     ) -> Result<(), AllocError>
         requires order { from ≤ to }
         requires within { to ≤ length self.old.deck }
+        requires rests { self.old.job ≡ None }
         ensures world { (s : Shown) → OnOk result (Becomes (compiled_data number run_card from (slice_range self.old.deck from to)) (HoldsParts self.old s) (HoldsParts self.new s)) }
         ensures keeps { KeepsJob self.old self.new }
     {
@@ -51,7 +53,8 @@ impl Level {
         run_card: u16,
         lines: &[Line],
     ) -> Result<(), AllocError>
-        requires { IsTrue (are_read lines.now) }
+        requires read { IsTrue (are_read lines.now) }
+        requires rests { self.old.job ≡ None }
         ensures world { (s : Shown) → OnOk result (Becomes (compiled number lines.now (compile_diagnostics run_card lines.now)) (HoldsParts self.old s) (HoldsParts self.new s)) }
         ensures keeps { KeepsJob self.old self.new }
     {
@@ -73,10 +76,11 @@ impl Level {
 
     /// Puts a program into the library, in place of an earlier one of its name.
     fn stock(&mut self, program: Program) -> Result<(), AllocError>
+        requires { self.old.job ≡ None }
         ensures world { (s : Shown) → OnOk result ((source : Source) → Stands program source → Becomes (stocked program.name source) (HoldsParts self.old s) (HoldsParts self.new s)) }
         ensures keeps { KeepsJob self.old self.new }
     {
-        self.library.insert(program.name, program)?;
+        self.library.insert(program.name, Stocked::new(program))?;
         Ok(())
     }
 }

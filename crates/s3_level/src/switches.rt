@@ -4,7 +4,7 @@ ghost use Rattle.s3_solo.specs.Serving.{is_on_after, switches_after};
 
 use s3_ocl::Switch;
 
-/// The bit of a switch after what a job does with it: the bit where it is on then, else 0.
+/// The bit of a switch after what a job does with it: the bit if it is then on, else 0.
 fn bit_after(switch: Switch, was: u8, bit: u8) -> u8
     requires { 0 < bit }
     ensures value { result ≡ (if is_on_after switch (was / bit % 2 == 1) then bit else 0) }

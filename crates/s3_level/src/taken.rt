@@ -26,7 +26,7 @@ impl Taken {
         }
     }
 
-    /// These entries; or where others acted right before them, `acted` in number, those alone.
+    /// These entries; or, if other entries acted right before them, `acted` in number, only those.
     pub fn behind(self, acted: u16) -> Taken
         ensures none { acted ≡ 0 → result ≡ self }
         ensures some { 1 ≤ acted → result ≡ record { did = Acted; times = acted } }

@@ -17,7 +17,7 @@ pub enum HeadingFault {
     Overlap(Name, Name),
     /// The field isn't named.
     Missing(Name),
-    /// The first field is a number that isn't named, and lies partly under the second one, which is: so it can't be 0.
+    /// The first field is a number without a column, and is partly under the second field, which has one: so it can't be 0.
     Under(Name, Name),
 }
 

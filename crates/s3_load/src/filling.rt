@@ -112,7 +112,7 @@ fn is_of_kind(label: &FileLabel, order: &Order<'_>) -> bool
     has_key(label, order.key) && label.record_length == order.layout.record_length
 }
 
-/// Whether a file has a key there, or none where none is asked for.
+/// Whether a file has this key, or no key if none is asked for.
 fn has_key(label: &FileLabel, key: Option<KeyField>) -> bool
     ensures { result ≡ has_key_spec key label.now }
 {
@@ -125,7 +125,7 @@ fn has_key(label: &FileLabel, key: Option<KeyField>) -> bool
     }
 }
 
-/// Puts records after those of a file, whose label doesn't count them yet, and answers how many it has then. Where it has an index,
+/// Puts records after those of a file, whose label doesn't count them yet, and answers how many it has then. If it has an index,
 /// that is the one of all of them. Refused or not, no sector changes but those of the file.
 pub fn fill(
     alloc: Global,

@@ -4,14 +4,14 @@
 //!
 //! - the columns of a heading are fields that its cells name, no two of which lie over each other, and the fields that they leave out
 //!   are filled, if that is asked for and no number of them lies partly under a column (`read_columns`);
-//! - the records are those of the rows of the table's text, one for each row; where the file has a key, each comes before all those
+//! - the records are those of the rows of the table's text, one for each row; if the file has a key, each comes before all those
 //!   after it by the characters of its key, so that no two have the same one, and else they are in the order of the rows
 //!   (`read_table`);
 //! - the record of a row has the value of each cell in the field of its column, and is blank elsewhere except for the numbers that are
 //!   filled (`record_of`); it shows the values that the row says, and the row of a record gives that record again
 //!   (`a_loaded_row_is_unloaded`, `an_unloaded_record_is_loaded`);
 //! - the pack that is handed out has, in a slot of the level's area, the file that is asked for: with its label, its record length
-//!   and its key. Its records are those of the file that was there, where the order appends, and after them those of the table;
+//!   and its key. Its records are those of the old file, if the order appends, and after them those of the table;
 //!   an index is the one of all of them. Each other slot is as it was, and its file has the same bytes; the slot of an old file
 //!   of the label, in whose place a new one comes, is free, if the new one hasn't got it (`load`);
 //! - a table that is loaded ends in no open quote (`load`);

@@ -77,7 +77,7 @@ fn mount(alloc: Global, pack: &[u8]) -> Result<Pack<MemoryStore>, LoadFault>
     }
 }
 
-/// Puts records into the file that the order asks for: a new one, or the one that is there.
+/// Puts records into the file that the order asks for: a new file, or the existing one.
 fn place_rows(
     alloc: Global,
     mounted: &mut Pack<MemoryStore>,

@@ -27,7 +27,7 @@ pub struct Order<'a> {
     pub layout: &'a Layout,
     /// The type of each record: its codes are put in, and its records are of that type.
     pub chosen: &'a ChosenRecords,
-    /// Where the key lies, if the file has an index.
+    /// The place of the key, if the file has an index.
     pub key: Option<KeyField>,
     /// How much room a new file is to have.
     pub room: Room,

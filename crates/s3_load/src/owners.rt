@@ -41,7 +41,7 @@ pub fn first_owner(field: &Field, owners: &[usize]) -> usize
     first
 }
 
-/// The lesser of two numbers, where 0 is none.
+/// The lesser of two numbers, of which 0 means none.
 fn lesser(one: usize, other: usize) -> usize
     ensures one { result ≡ 0 → one ≡ 0 }
     ensures other { result ≡ 0 → other ≡ 0 }

@@ -102,7 +102,7 @@ impl Faults {
     }
 }
 
-/// The record of a row; what is wrong with the row is added to the faults. None where the row has too many or too few cells, one
+/// The record of a row; what is wrong with the row is added to the faults. None if the row has too many or too few cells, a cell
 /// that goes over the end of a line, or a key that isn't taken: such a row isn't compared with others.
 pub fn record_of(
     alloc: Global,

@@ -24,7 +24,7 @@ use std::io::Read;
 /// The most records of a table.
 pub const MOST_RECORDS: usize = 999_999;
 
-/// The records of a table: in the order of their keys where the file has an index, else of their rows. Refused with all that is
+/// The records of a table: in the order of their keys if the file has an index, else in the order of their rows. Refused with all that is
 /// wrong with the heading, or with the rows, whose lines are those of the text that the reader reads.
 #[tactic(auto, using(crate::proofs::RecordLemmas::named_lie, crate::proofs::RecordLemmas::left_out_lie))]
 pub fn read_table<R: Read + Drop>(

@@ -186,15 +186,19 @@ fn operate_order<'a>(
         test_decks(rt, order)?;
     }
     match Decks::read(rt, order, words, wants_checksums(order, again)) {
-        Ok(decks) if lists_jobs => jobs_listed(rt, &decks),
+        Ok(decks) if lists_jobs => jobs_listed(rt, order, &decks),
         Ok(decks) => operate_decks(rt, order, decks, again),
         Err(fault) => Err(fault),
     }
 }
 
 /// Lists the jobs of both decks.
-fn jobs_listed<'a>(rt: &HostRuntime, decks: &Decks<'a>) -> Result<u8, DayFault<'a>> {
-    match list_jobs(rt, &decks.one, &decks.two) {
+fn jobs_listed<'a>(
+    rt: &HostRuntime,
+    order: &Order<'a>,
+    decks: &Decks<'a>,
+) -> Result<u8, DayFault<'a>> {
+    match list_jobs(rt, order.is_json, &decks.one, &decks.two) {
         Ok(()) => Ok(DONE),
         Err(fault) => Err(fault),
     }
@@ -204,6 +208,9 @@ fn jobs_listed<'a>(rt: &HostRuntime, decks: &Decks<'a>) -> Result<u8, DayFault<'
 fn conflict_of(order: &Order<'_>, lists_jobs: bool) -> Option<&'static str> {
     if lists_jobs && order.deck1.is_empty() && order.deck2.is_empty() {
         return Some("--jobs lists the jobs of decks; give --deck1 FILE, --deck2 FILE or both");
+    }
+    if order.is_json && !lists_jobs {
+        return Some("--json goes with --jobs");
     }
     if order.saves_unfinished && order.save.is_none() {
         return Some("--save-unfinished needs --save FILE, which names where the pack is saved");

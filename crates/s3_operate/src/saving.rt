@@ -111,6 +111,9 @@ fn save<'n>(
     let path = saving.path;
     let done = saved(rt, order, path, locked, kept.limit, &over.day.run.pack);
     end_aside(rt, &aside, &done);
+    if let Some(journal) = &journal {
+        journal.end_save(rt, &done);
+    }
     match done {
         Ok(()) => end_saved(rt, order, desk, kept, over, path, pack),
         Err(FileFault::Unsynced(error)) => end_unsynced(rt, order, desk, kept, path, pack, &error),

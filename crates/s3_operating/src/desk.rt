@@ -22,7 +22,7 @@ use std::io::{Read, Write};
 const SOONEST: u64 = 200;
 
 /// Printed for a line that came sooner than that.
-const BEFORE_HALT: &'static str = "that was typed before the halt was shown; once more\n";
+const BEFORE_HALT: &'static str = "that was typed before this question; once more\n";
 
 /// Printed for a line that was typed before another question was asked.
 const BEFORE_QUESTION: &'static str = "that was typed before it was asked; once more\n";

@@ -477,11 +477,25 @@ impl<'a> Levels<'a> {
 
     /// A digit without a level: for the level that is asked, unless a person is asked for both.
     fn hear_digit(&self, message: &mut Message, level: LevelId, digit: u8) -> Said {
-        if self.is_person_asked() && self.asked_in(level, level.other()).is_some() {
-            push_both(message, digit);
-            Said::Nothing
-        } else {
-            self.hear_reply(message, level, level, digit)
+        if !self.is_person_asked() || self.asked_in(level, level.other()).is_none() {
+            return self.hear_reply(message, level, level, digit);
+        }
+        let one = self.allows(level, LevelId::One, digit);
+        let two = self.allows(level, LevelId::Two, digit);
+        match (one, two) {
+            (true, true) => push_both(message, digit),
+            (true, false) => push_one(message, LevelId::One, digit),
+            (false, true) => push_one(message, LevelId::Two, digit),
+            (false, false) => return self.hear_reply(message, level, level, digit),
+        }
+        Said::Nothing
+    }
+
+    /// Whether the halt of a level allows a digit, if one is asked for while a level is.
+    fn allows(&self, level: LevelId, of: LevelId, digit: u8) -> bool {
+        match self.asked_in(level, of) {
+            Some(code) => is_allowed(Some(code), digit),
+            None => false,
         }
     }
 
@@ -592,6 +606,15 @@ fn push_answer(message: &mut Message, answer: Answer) {
         }
         Giver::Log | Giver::Line | Giver::Person => message.push(" by the log"),
     }
+}
+
+/// Appends that both levels wait, and how to give a digit to the one whose halt allows it.
+fn push_one(message: &mut Message, level: LevelId, digit: u8) {
+    message.push("both levels wait: ");
+    message.push_number(u64::from(level.number()));
+    message.push(" ");
+    message.push_number(u64::from(digit));
+    message.push("?\n");
 }
 
 /// Appends that both levels wait, and how to give a digit to either.

@@ -36,7 +36,7 @@ fn words_of(fault: CardFault) -> &'static str {
     match fault {
         CardFault::TooWide => "has over 96 columns; shorten its line, or make two cards of it",
         CardFault::BadCharacter =>
-            "has a character that no card has; write one that cards have, or give the file a name that ends in .rpg, so that it is punched",
+            "has a character that no card has; write one that cards have; small letters become capitals in a file whose name ends in .rpg",
         CardFault::TooMany =>
             "is the last that a deck may have, the 9,999th, and there are more; put some of the jobs into another day",
     }

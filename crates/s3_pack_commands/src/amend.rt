@@ -150,30 +150,36 @@ fn which_of<'a>(rt: &HostRuntime, matches: &ArgMatches<'a>) -> Result<Which<'a>,
     }
 }
 
-/// The fields and values that the arguments give.
+/// The fields and values that the arguments give. Refused with a line for each argument without a value.
 fn settings_of<'a>(rt: &HostRuntime, matches: &ArgMatches<'a>) -> Result<Vec<Setting<'a>>, Fault> {
     let mut settings = Vec::new(rt.alloc());
+    let mut wrong = String::new(rt.alloc());
     for text in matches.get_strs("values").unwrap_or(&[]) {
         match (*text).split_once("=") {
             Some((name, value)) => settings.push(Setting {
                 name: name.as_bytes(),
                 value: value.as_bytes(),
             })?,
-            None => return Err(no_setting(rt.alloc(), *text)),
+            None => push_no_setting(&mut wrong, *text)?,
         }
     }
-    Ok(settings)
+    if wrong.is_empty() {
+        Ok(settings)
+    } else {
+        Err(Fault::Usage(wrong))
+    }
 }
 
-/// The refusal of an argument without a value.
-fn no_setting(alloc: Global, text: &str) -> Fault {
-    let text = Shown(text);
-    match format!(in alloc;
-        "{text} has no = before a value; give each field with its value, as NAME='SMITH, J'"
-    ) {
-        Ok(sentence) => Fault::Usage(sentence),
-        Err(_) => Fault::NoMemory,
+/// Appends the sentence of an argument without a value, on a line of its own.
+fn push_no_setting(wrong: &mut String, text: &str) -> Result<(), AllocError> {
+    if !wrong.is_empty() {
+        wrong.push_str("\nerror: ")?;
     }
+    let text = Shown(text);
+    write!(
+        wrong,
+        "{text} has no = before a value; give each field with its value, as NAME='SMITH, J'"
+    )
 }
 
 fn amend_record(rt: &HostRuntime, matches: &ArgMatches<'_>) -> Result<(), Fault> {

@@ -2,20 +2,23 @@
 ghost use Rattle.std.specs.Prelude.{◌≤◌};
 
 use clap::ArgMatches;
-use s3_data_commands::fault::{Fault, Use, of_pack};
+use s3_data_commands::fault::{Fault, Use, of_call, of_pack};
 use s3_data_commands::filled::Words;
-use s3_data_commands::pack_words::{
-    Save, pack_of, refuse_file_there, refused, saved, tell_done, test_begin,
-};
+use s3_data_commands::pack_words::{Save, pack_of, refuse_file_there, refused, saved, tell_done};
 use s3_data_commands::sentences::output_sentence;
 use s3_data_commands::words::{OVERWRITE, PACK, SAVE};
-use s3_dump::{DumpFault, RestoreFault};
-use s3_host_files::{StandardOutput, keep_save_apart};
+use s3_dump::RestoreFault;
+use s3_host_files::{StandardOutput, keep_save_apart, save_new_pack};
 use s3_journal::Work;
+use s3_labels::MountFault;
+use s3_listing::{ListFault, mount_slots};
 use s3_paper_commands::status::{
-    DONE, FILE_WRONG, NOTHING_SAVED, OPTIONS_WRONG, PACK_SAVED, REFUSED,
+    DONE, FILE_WRONG, NOTHING_SAVED, OPTIONS_WRONG, PACK_SAVED, PERSON_NEEDED, REFUSED,
 };
 use s3_paper_commands::words::{CommandWords, Example, Status, value_of};
+use s3_refusals::beginning_words;
+use std::alloc::Global;
+use std::fs;
 use std::io::{ErrorKind, IsTerminal, Read, Write};
 
 /// `bureau dump` and its options.
@@ -47,7 +50,16 @@ pub const RESTORE: CommandWords = CommandWords {
     name: "restore",
     about: "Makes the pack again whose dump is on standard input",
     aliases: &[],
-    statuses: &[PACK_SAVED, NOTHING_SAVED, OPTIONS_WRONG, FILE_WRONG],
+    statuses: &[
+        PACK_SAVED,
+        NOTHING_SAVED,
+        OPTIONS_WRONG,
+        FILE_WRONG,
+        Status {
+            number: PERSON_NEEDED,
+            meaning: "the pack is saved, and can't be used: its dump isn't whole, or it was damaged",
+        },
+    ],
     examples: &[Example {
         line: "bureau restore --save new.pack < shop.dump",
         purpose: "Makes a pack of its text",
@@ -55,8 +67,8 @@ pub const RESTORE: CommandWords = CommandWords {
     words: &[SAVE, OVERWRITE],
 };
 
-/// Runs `bureau dump`, and returns the exit status: 0 if it is done, else the status of the refusal, whose sentence was written
-/// on standard error.
+/// Runs `bureau dump`, and returns the exit status: 0 if it is done, else the status of the refusal, whose sentence
+/// was written on standard error.
 pub fn dump_pack(rt: &HostRuntime, matches: &ArgMatches<'_>) -> u8
     ensures { result ≤ 4 }
 {
@@ -68,22 +80,15 @@ pub fn dump_pack(rt: &HostRuntime, matches: &ArgMatches<'_>) -> u8
 
 fn print_dump(rt: &HostRuntime, path: &str) -> Result<(), Fault> {
     let pack = pack_of(rt, path)?;
-    let text = match s3_dump::dump(rt.alloc(), &pack) {
-        Ok(text) => text,
-        Err(DumpFault::NoMemory) => return Err(Fault::NoMemory),
-        Err(DumpFault::OtherBytes) => return Err(refused(Words::of_path(path).fill(
-            rt.alloc(),
-            "the dump of {path} isn't printed, because the pack could not be made from it; keep a copy of the pack, and report this as an error of the program",
-        ))),
-    };
+    let text = s3_dump::dump(rt.alloc(), &pack)?;
     match StandardOutput::new(rt).write_all(text.as_slice()) {
         Ok(()) => Ok(()),
         Err(_) => Err(Fault::File(output_sentence(rt.alloc())?)),
     }
 }
 
-/// Runs `bureau restore`, and returns the exit status: 0 if it is done, else the status of the refusal, whose sentence was
-/// written on standard error; then nothing is saved.
+/// Runs `bureau restore`, and returns the exit status: 0 if it is done, 4 if the pack is saved and can't be used,
+/// else the status of the refusal, whose sentence was written on standard error; then nothing is saved.
 pub fn restore_pack(rt: &HostRuntime, matches: &ArgMatches<'_>) -> u8
     ensures { result ≤ 4 }
 {
@@ -101,22 +106,100 @@ fn save_restored(rt: &HostRuntime, matches: &ArgMatches<'_>, save: &str) -> Resu
         refuse_file_there(rt, save)?;
     }
     let text = dump_text(rt)?;
-    let pack = match s3_dump::restore(rt.alloc(), &text) {
-        Ok(pack) => pack,
-        Err(fault) => return Err(no_dump(rt, fault)),
-    };
-    test_begin(rt.alloc(), "the dump", &pack)?;
+    let pack = restored(rt, &text)?;
+    match fault_in(rt.alloc(), &pack)? {
+        None => save_good(rt, matches, save, &pack),
+        Some(fault) => save_damaged(rt, save, line_ends(&text), fault, &pack),
+    }
+}
+
+/// Saves a pack that can be used.
+fn save_good(
+    rt: &HostRuntime,
+    matches: &ArgMatches<'_>,
+    save: &str,
+    pack: &[u8],
+) -> Result<(), Fault> {
     let how = Save {
         locked: None,
         journal: None,
         work: Work::Restore,
     };
-    let saved = saved(rt, matches, save, how, &pack)?;
+    let saved = saved(rt, matches, save, how, pack)?;
     tell_done(
         rt,
         Words::of_path(save).fill(rt.alloc(), "{path} is restored"),
         saved,
     )
+}
+
+/// Saves a pack that can't be used, but only to a new name, even with `--overwrite`: its dump may have been cut off
+/// after this line, and a good pack would be lost.
+fn save_damaged(
+    rt: &HostRuntime,
+    save: &str,
+    line: u64,
+    fault: MountFault,
+    pack: &[u8],
+) -> Result<(), Fault> {
+    let words = Words::of_path(save).with_number(line);
+    match fs::exists(rt, save) {
+        Ok(false) => {}
+        Ok(true) => return Err(refused(words.fill(rt.alloc(), kept_words(fault)))),
+        Err(error) => return Err(of_call(rt, Use::Saves, &error, save)),
+    }
+    match save_new_pack(rt, save, None, &[None], pack) {
+        Ok(()) => Err(Fault::Waits(words.fill(rt.alloc(), damaged_words(fault))?)),
+        Err(fault) => Err(of_pack(rt, Use::Saves, &fault, save)),
+    }
+}
+
+/// Why a file isn't replaced by a pack that can't be used, and what helps.
+fn kept_words(fault: MountFault) -> &'static str {
+    match fault {
+        MountFault::BadHeader =>
+            "{path} isn't replaced, because the pack of the dump can't be used: its quotas are those of no pack; correct the dump, or save to a new name",
+        MountFault::BadRegions =>
+            "{path} isn't replaced, because the pack of the dump can't be used: its regions aren't whole tracks within it, or they meet; correct the dump, or save to a new name",
+        MountFault::Short =>
+            "{path} isn't replaced, because the dump isn't whole: it ends after line {number} of standard input, with fewer sectors than its header says, or than 168; give the whole text that `bureau dump` printed, or save to a new name",
+    }
+}
+
+/// Why a pack that is saved can't be used, and what helps.
+fn damaged_words(fault: MountFault) -> &'static str {
+    match fault {
+        MountFault::BadHeader =>
+            "{path} is saved, but can't be used: its quotas are those of no pack; correct the dump, or take a copy that is whole",
+        MountFault::BadRegions =>
+            "{path} is saved, but can't be used: its regions aren't whole tracks within it, or they meet; correct the dump, or take a copy that is whole",
+        MountFault::Short =>
+            "{path} is saved, but can't be used: the dump ends after line {number} of standard input, with fewer sectors than its header says, or than 168; give the whole text that `bureau dump` printed",
+    }
+}
+
+/// The pack that a dump represents.
+fn restored(rt: &HostRuntime, text: &[u8]) -> Result<Vec<u8>, Fault> {
+    let pack = match s3_dump::restore(rt.alloc(), text) {
+        Ok(pack) => pack,
+        Err(fault) => return Err(no_dump(rt, text, fault)),
+    };
+    if beginning_words(&pack).is_empty() {
+        return Ok(pack);
+    }
+    Err(refused(String::from_str(
+        rt.alloc(),
+        "standard input isn't the dump of a pack: its bytes don't begin with S3PACK01 or S3PACK02; give the whole text that `bureau dump` printed",
+    )))
+}
+
+/// Why a pack can't be used, if it can't.
+fn fault_in(alloc: Global, pack: &[u8]) -> Result<Option<MountFault>, Fault> {
+    match mount_slots(alloc, pack) {
+        Ok(_) => Ok(None),
+        Err(ListFault::Mount(fault)) => Ok(Some(fault)),
+        Err(_) => Err(Fault::NoMemory),
+    }
 }
 
 /// The text of standard input.
@@ -140,14 +223,48 @@ fn dump_text(rt: &HostRuntime) -> Result<Vec<u8>, Fault> {
 }
 
 /// The refusal of standard input that is no dump.
-fn no_dump(rt: &HostRuntime, fault: RestoreFault) -> Fault {
+fn no_dump(rt: &HostRuntime, text: &[u8], fault: RestoreFault) -> Fault {
     match fault {
         RestoreFault::NoMemory => Fault::NoMemory,
-        RestoreFault::NoDump(line) => refused(
-            Words::of_path("").with_number(line).fill(
-                rt.alloc(),
-                "line {number} of standard input isn't one of a dump; give the whole text that `bureau dump` printed",
-            ),
-        ),
+        RestoreFault::NoDump(line) => {
+            refused(
+                Words::of_path("")
+                    .with_number(line)
+                    .fill(rt.alloc(), no_dump_words(text, line)),
+            )
+        }
     }
+}
+
+/// What is wrong with a line, and what helps.
+fn no_dump_words(text: &[u8], line: u64) -> &'static str {
+    if has_return(text, line) {
+        "line {number} of standard input has a carriage return, which no dump has; take the carriage returns out first, as by `tr -d '\\r'`"
+    } else {
+        "line {number} of standard input isn't one of a dump; give the whole text that `bureau dump` printed"
+    }
+}
+
+/// Whether a line of a text, from 1, has a carriage return.
+fn has_return(text: &[u8], line: u64) -> bool {
+    let mut number = 1u64;
+    for character in text {
+        match *character {
+            b'\n' => number = number.saturating_add(1),
+            b'\r' if number == line => return true,
+            _ => {}
+        }
+    }
+    false
+}
+
+/// How many lines of a text end.
+fn line_ends(text: &[u8]) -> u64 {
+    let mut count = 0u64;
+    for character in text {
+        if *character == b'\n' {
+            count = count.saturating_add(1);
+        }
+    }
+    count
 }

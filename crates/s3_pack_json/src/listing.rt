@@ -1,17 +1,19 @@
 //! The files of a pack.
+ghost use Rattle.std.specs.Prelude.{◌≡◌, IfOk, count_by};
+ghost use Rattle.s3_json_lines.specs.Inner.Values.{json_of};
+ghost use Rattle.s3_pack_json.specs.Inner.Objects.{area_json, format_number as format_number_spec, is_free as is_free_spec, pack_json};
 
 use crate::checking::reason_of;
-use crate::line::{Line, Value, characters};
-use s3_cards::{LevelId, Name, Retention};
-use s3_labels::{AreaSlots, FileLabel, Format, Header, Organization, Slot};
+use crate::extents::tracks_cell;
+use crate::slots::add_slot;
+use s3_cards::LevelId;
+use s3_json_lines::{Cell, Value, lines_of, object};
+use s3_labels::{AreaSlots, Format, Header, Slot};
 use s3_listing::{FreeRoom, ListFault, free_room, mount_slots};
 use s3_pack_check::{Cause, CheckFault, Wrong, check_pack};
 use s3_store::Stretch;
 use std::alloc::{AllocError, Global};
 use std::io::Write;
-
-/// The sectors of a track.
-const TRACK: u16 = 24;
 
 /// Writes a line for the pack, and for each area a line for its region and one for each used slot. Refused with `Mount`, `NoMemory` or
 /// `File`.
@@ -36,134 +38,124 @@ fn list(alloc: Global, pack: &[u8]) -> Result<Vec<u8>, ListFault> {
         free_room(alloc, pack, 1)?,
         free_room(alloc, pack, 2)?,
     ];
-    let mut text = Vec::new(alloc);
-    push_areas(alloc, &mut text, &areas, &rooms, &wrongs)?;
-    Ok(text)
+    Ok(listed(alloc, &areas, &rooms, &wrongs)?)
 }
 
-fn push_areas(
+/// The lines of a pack.
+fn listed(
     alloc: Global,
-    text: &mut Vec<u8>,
+    areas: &AreaSlots,
+    rooms: &[FreeRoom; 3],
+    wrongs: &[Wrong],
+) -> Result<Vec<u8>, AllocError> {
+    let mut values = Vec::new(alloc);
+    add_areas(alloc, &mut values, areas, rooms, wrongs)?;
+    lines_of(alloc, &values)
+}
+
+/// Adds the objects of the pack, of its areas and of their used slots.
+fn add_areas(
+    alloc: Global,
+    values: &mut Vec<Value>,
     areas: &AreaSlots,
     rooms: &[FreeRoom; 3],
     wrongs: &[Wrong],
 ) -> Result<(), AllocError> {
     let header = areas.header();
-    push_pack(alloc, text, &header)?;
-    push_area(alloc, text, 0, header.masters, rooms[0], areas.masters())?;
-    push_slots(alloc, text, 0, areas.masters(), wrongs)?;
+    values.push(pack_value(alloc, &header)?)?;
+    let slots = areas.masters();
+    let free = count_free(slots);
+    values.push(area_value(alloc, 0, header.masters, rooms[0], free)?)?;
+    add_slots(alloc, values, 0, slots, wrongs)?;
     let slots = areas.slots(LevelId::One);
-    push_area(alloc, text, 1, header.level_one, rooms[1], slots)?;
-    push_slots(alloc, text, 1, slots, wrongs)?;
+    let free = count_free(slots);
+    values.push(area_value(alloc, 1, header.level_one, rooms[1], free)?)?;
+    add_slots(alloc, values, 1, slots, wrongs)?;
     let slots = areas.slots(LevelId::Two);
-    push_area(alloc, text, 2, header.level_two, rooms[2], slots)?;
-    push_slots(alloc, text, 2, slots, wrongs)
+    let free = count_free(slots);
+    values.push(area_value(alloc, 2, header.level_two, rooms[2], free)?)?;
+    add_slots(alloc, values, 2, slots, wrongs)
 }
 
-fn push_pack(alloc: Global, text: &mut Vec<u8>, header: &Header) -> Result<(), AllocError> {
-    let format = match header.format {
-        Format::First => 1,
-        Format::Second => 2,
-    };
-    let mut line = Line::begun(alloc)?;
-    line.members(
+/// The object of the pack.
+fn pack_value(alloc: Global, header: &Header) -> Result<Value, AllocError>
+    ensures { IfOk result (λ value. json_of value ≡ pack_json header.now) }
+{
+    object(
         alloc,
         &[
-            ("kind", Value::Text("pack")),
-            ("format", Value::Number(format)),
-            ("sectors", Value::Number(u64::from(header.total))),
-            ("quota1", Value::Number(u64::from(header.quota_one))),
-            ("quota2", Value::Number(u64::from(header.quota_two))),
+            ("kind", Cell::Text("pack")),
+            ("format", Cell::Number(format_number(header.format))),
+            ("sectors", Cell::Number(u64::from(header.total))),
+            ("quota1", Cell::Number(u64::from(header.quota_one))),
+            ("quota2", Cell::Number(u64::from(header.quota_two))),
         ],
-    )?;
-    line.end(text)
+    )
 }
 
-fn push_area(
+fn format_number(format: Format) -> u64
+    ensures { result ≡ format_number_spec format }
+{
+    match format {
+        Format::First => 1,
+        Format::Second => 2,
+    }
+}
+
+/// The object of an area: its region, its free space and how many of its slots are free.
+fn area_value(
     alloc: Global,
-    text: &mut Vec<u8>,
     area: u64,
     region: Stretch,
     room: FreeRoom,
-    slots: &[Slot],
-) -> Result<(), AllocError> {
-    let free = slots.iter().filter(|slot| is_free(slot)).count();
-    let mut line = Line::begun(alloc)?;
-    line.members(
+    free_slots: u64,
+) -> Result<Value, AllocError>
+    ensures { IfOk result (λ value. json_of value ≡ area_json area region room free_slots) }
+{
+    object(
         alloc,
         &[
-            ("kind", Value::Text("area")),
-            ("area", Value::Number(area)),
-            ("sector", Value::Number(u64::from(region.start))),
-            ("tracks", Value::Number(u64::from(region.sectors / TRACK))),
-            ("free_tracks", Value::Number(u64::from(room.tracks))),
-            ("free_in_a_row", Value::Number(u64::from(room.in_a_row))),
-            ("free_slots", Value::Number(free as u64)),
+            ("kind", Cell::Text("area")),
+            ("area", Cell::Number(area)),
+            ("sector", Cell::Number(u64::from(region.start))),
+            ("tracks", tracks_cell(region)),
+            ("free_tracks", Cell::Number(u64::from(room.tracks))),
+            ("free_in_a_row", Cell::Number(u64::from(room.in_a_row))),
+            ("free_slots", Cell::Number(free_slots)),
         ],
-    )?;
-    line.end(text)
+    )
 }
 
-fn is_free(slot: &Slot) -> bool {
+/// How many slots are free.
+fn count_free(slots: &[Slot]) -> u64
+    ensures { result ≡ count_by is_free_spec slots.now }
+{
+    slots.iter().filter(|slot| is_free(slot)).count() as u64
+}
+
+fn is_free(slot: &Slot) -> bool
+    ensures { result ≡ is_free_spec slot.now }
+{
     match slot {
         Slot::Free => true,
         Slot::Sound(_) | Slot::Damaged(_) => false,
     }
 }
 
-fn push_slots(
+/// Adds the objects of the used slots of an area.
+fn add_slots(
     alloc: Global,
-    text: &mut Vec<u8>,
+    values: &mut Vec<Value>,
     area: u64,
     slots: &[Slot],
     wrongs: &[Wrong],
 ) -> Result<(), AllocError> {
     for (place, slot) in slots.iter().enumerate() {
-        push_slot(alloc, text, area, place as u64, slot, wrongs)?;
+        let place = place as u64;
+        let reason = reason_text(alloc, cause_of(wrongs, area, place))?;
+        add_slot(alloc, values, area, place, slot, reason)?;
     }
     Ok(())
-}
-
-/// Appends the line of a slot; a free one has none.
-fn push_slot(
-    alloc: Global,
-    text: &mut Vec<u8>,
-    area: u64,
-    place: u64,
-    slot: &Slot,
-    wrongs: &[Wrong],
-) -> Result<(), AllocError> {
-    let (kind, name) = match slot {
-        Slot::Free => return Ok(()),
-        Slot::Damaged(name) => ("damaged", *name),
-        Slot::Sound(label) => ("file", Some(label.name)),
-    };
-    let mut line = begun_slot(alloc, kind, area, place, name)?;
-    if let Slot::Sound(label) = slot {
-        push_label(alloc, &mut line, label)?;
-    }
-    push_reason(alloc, &mut line, cause_of(wrongs, area, place))?;
-    line.end(text)
-}
-
-fn begun_slot(
-    alloc: Global,
-    kind: &str,
-    area: u64,
-    place: u64,
-    name: Option<Name>,
-) -> Result<Line, AllocError> {
-    let mut line = Line::begun(alloc)?;
-    line.members(
-        alloc,
-        &[
-            ("kind", Value::Text(kind)),
-            ("area", Value::Number(area)),
-            ("slot", Value::Number(place)),
-            ("label", Value::Label(name)),
-        ],
-    )?;
-    Ok(line)
 }
 
 /// What is wrong with the slot of a number in an area, if anything is.
@@ -176,67 +168,10 @@ fn cause_of(wrongs: &[Wrong], area: u64, place: u64) -> Option<Cause> {
     None
 }
 
-fn push_reason(alloc: Global, line: &mut Line, cause: Option<Cause>) -> Result<(), AllocError> {
-    let Some(cause) = cause else {
-        return line.members(alloc, &[("reason", Value::Nothing)]);
-    };
-    let reason = reason_of(alloc, cause)?;
-    line.members(alloc, &[("reason", Value::Text(reason.as_str()))])
-}
-
-/// Writes what the label of a file says.
-fn push_label(alloc: Global, line: &mut Line, label: &FileLabel) -> Result<(), AllocError> {
-    let organization = match label.organization {
-        Organization::Sequential => "S",
-        Organization::Indexed => "I",
-        Organization::Direct => "D",
-    };
-    let retention = match label.retention {
-        Retention::Temporary => "T",
-        Retention::Scratch => "S",
-        Retention::Permanent => "P",
-    };
-    let date = characters(alloc, &label.date)?;
-    line.members(
-        alloc,
-        &[
-            ("organization", Value::Text(organization)),
-            ("retention", Value::Text(retention)),
-            ("date", Value::Text(date.as_str())),
-            (
-                "record_length",
-                Value::Number(u64::from(label.record_length)),
-            ),
-            ("key_start", some(u64::from(label.key_start))),
-            ("key_length", some(u64::from(label.key_length))),
-            ("capacity", Value::Number(u64::from(label.capacity))),
-            ("records", Value::Number(u64::from(label.count))),
-        ],
-    )?;
-    push_extents(alloc, line, label)
-}
-
-/// A number; nothing for 0.
-fn some<'a>(number: u64) -> Value<'a> {
-    match number {
-        0 => Value::Nothing,
-        _ => Value::Number(number),
+/// Why a slot isn't as it should be, in words, if it isn't.
+fn reason_text(alloc: Global, cause: Option<Cause>) -> Result<Option<String>, AllocError> {
+    match cause {
+        Some(cause) => Ok(Some(reason_of(alloc, cause)?)),
+        None => Ok(None),
     }
-}
-
-fn push_extents(alloc: Global, line: &mut Line, label: &FileLabel) -> Result<(), AllocError> {
-    line.json.key("extents")?;
-    line.json.begin_array()?;
-    for extent in label.extents.as_slice() {
-        line.json.begin_object()?;
-        line.members(
-            alloc,
-            &[
-                ("sector", Value::Number(u64::from(extent.start))),
-                ("tracks", Value::Number(u64::from(extent.sectors / TRACK))),
-            ],
-        )?;
-        line.json.end_object()?;
-    }
-    line.json.end_array()
 }

@@ -4,6 +4,7 @@ ghost use Rattle.std.specs.Prelude.{◌≤◌};
 use crate::deck::{ReadFiles, read_deck};
 use crate::fault::CommandFault;
 use crate::messages::{Report, write_messages};
+use crate::programs::write_programs;
 use crate::status::{DONE, FILE_FAILED, FILE_WRONG, OPTIONS_WRONG, PERSON_NEEDED, REFUSED};
 use crate::typed_files::TypedFiles;
 use crate::unread::words_of_unread;
@@ -46,6 +47,10 @@ pub const COMPILE: CommandWords = CommandWords {
             line: "bureau compile --cross-reference --strict billing.rpg",
             purpose: "Lists also where each name is used, and takes warnings as errors",
         },
+        Example {
+            line: "bureau compile --json billing.rpg | jq '.messages[]'",
+            purpose: "Prints the errors and warnings for other programs",
+        },
     ],
     words: &[
         Word {
@@ -68,8 +73,45 @@ pub const COMPILE: CommandWords = CommandWords {
             takes: Takes::Nothing,
             help: "Prints instead a line for each error and warning, FILE:LINE:COLUMN: TEXT, as editors read them",
         },
+        Word {
+            name: "json",
+            takes: Takes::Nothing,
+            help: "Prints instead a JSON object for each program, a line each: its messages, files, fields, indicators and labels",
+        },
     ],
 };
+
+/// What is printed of a deck.
+#[derive(Clone, Copy)]
+enum Form {
+    /// A listing.
+    Listing,
+    /// A line for each message.
+    Messages,
+    /// An object for each program.
+    Objects,
+}
+
+impl Form {
+    fn of<'a>(matches: &ArgMatches<'_>) -> Result<Form, CommandFault<'a>> {
+        match (matches.get_flag("messages"), matches.get_flag("json")) {
+            (true, true) => Err(CommandFault::Options(
+                "--messages and --json are two forms of a listing; give one of them",
+            )),
+            (true, false) => Ok(Form::Messages),
+            (false, true) => Ok(Form::Objects),
+            (false, false) => Ok(Form::Listing),
+        }
+    }
+
+    /// How the errors of files are reported.
+    fn report(self) -> Report {
+        match self {
+            Form::Messages => Report::Messages,
+            Form::Listing | Form::Objects => Report::Sentences,
+        }
+    }
+}
 
 /// What the options ask for.
 #[derive(Clone, Copy)]
@@ -78,27 +120,23 @@ struct Order {
     has_references: bool,
     /// A source with warnings waits for a person, as one with diagnostics does.
     is_strict: bool,
-    /// What is printed: a listing, or a line a message.
-    report: Report,
+    /// What is printed.
+    form: Form,
 }
 
 impl Order {
-    fn of(matches: &ArgMatches<'_>) -> Order {
-        Order {
+    fn of<'a>(matches: &ArgMatches<'_>) -> Result<Order, CommandFault<'a>> {
+        Ok(Order {
             has_references: matches.get_flag("cross-reference"),
             is_strict: matches.get_flag("strict"),
-            report: if matches.get_flag("messages") {
-                Report::Messages
-            } else {
-                Report::Sentences
-            },
-        }
+            form: Form::of(matches)?,
+        })
     }
 }
 
 /// Does what the options of `bureau compile` ask, and gives the exit status: 0 if every source compiles, 4 if a source has diagnostics or a
-/// job has faulty statements, or with `--strict` if a source has warnings, 3 if a file can't be read or the listing can't be written, 1 if
-/// the files are no deck, one of them is also standard output or error, or memory runs out.
+/// job has faulty statements, or with `--strict` if a source has warnings, 3 if a file can't be read or the listing can't be written, 2 if
+/// two forms of a listing are asked for, 1 if the files are no deck, one of them is also standard output or error, or memory runs out.
 pub fn compile_files<'a>(rt: &'a HostRuntime, matches: &ArgMatches<'a>) -> u8
     ensures { result ≤ 4 }
 {
@@ -110,9 +148,9 @@ pub fn compile_files<'a>(rt: &'a HostRuntime, matches: &ArgMatches<'a>) -> u8
 
 /// Lists a deck on standard output, and gives the exit status.
 fn list_deck<'a>(rt: &'a HostRuntime, matches: &ArgMatches<'a>) -> Result<u8, CommandFault<'a>> {
-    let order = Order::of(matches);
+    let order = Order::of(matches)?;
     let files = matches.get_strs("file").unwrap_or(&[]);
-    match read_deck(rt, files, order.report)? {
+    match read_deck(rt, files, order.form.report())? {
         ReadFiles::Deck(text, typed) => list_text(rt, &text, &typed, order, files.len() == 1),
         ReadFiles::Faulty => Ok(REFUSED),
         ReadFiles::Unread => Ok(FILE_FAILED),
@@ -129,15 +167,16 @@ fn list_text<'a>(
 ) -> Result<u8, CommandFault<'a>> {
     match Deck::read(rt.alloc(), text.text()) {
         Ok(deck) => {
-            let outcome = match order.report {
-                Report::Sentences => write_on_output(rt, text, &deck, order)?,
-                Report::Messages => write_messages(rt, text, typed, &deck)?,
+            let outcome = match order.form {
+                Form::Listing => write_on_output(rt, text, &deck, order)?,
+                Form::Messages => write_messages(rt, text, typed, &deck)?,
+                Form::Objects => write_programs(rt, text, &deck)?,
             };
             Ok(status_of(rt, outcome, order.is_strict))
         }
         Err(DeckFault::NoMemory) => Err(CommandFault::NoMemory),
         Err(DeckFault::At(..)) => {
-            report_unread(rt, text, order.report, is_one_file)?;
+            report_unread(rt, text, order.form.report(), is_one_file)?;
             Ok(REFUSED)
         }
     }

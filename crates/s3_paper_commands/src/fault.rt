@@ -1,7 +1,7 @@
 //! Why a command doesn't do what it is asked.
 ghost use Rattle.std.specs.Prelude.{◌≤◌};
 
-use crate::status::{FILE_FAILED, REFUSED};
+use crate::status::{FILE_FAILED, REFUSED, WRONG_WORDS};
 use s3_host_files::StandardStream;
 use s3_refusals::{Reason, Shown};
 use std::alloc::{AllocError, AllocFailed};
@@ -23,6 +23,8 @@ pub enum CommandFault<'a> {
     Stream(&'a str, StandardStream),
     /// Standard output can't be written.
     Output(io::Error),
+    /// The options don't go together, for this reason.
+    Options(&'static str),
 }
 
 impl<'a> From<AllocError> for CommandFault<'a> {
@@ -65,11 +67,12 @@ impl<'a> CommandFault<'a> {
             | CommandFault::TooLarge(_)
             | CommandFault::Output(_)
             | CommandFault::Stream(_, StandardStream::Error) => FILE_FAILED,
+            CommandFault::Options(_) => WRONG_WORDS,
             CommandFault::NoMemory | CommandFault::Pack(_) | CommandFault::Stream(_, _) => REFUSED,
         }
     }
 
-    /// Writes the line of a refusal, and gives its exit status, 1 or 3.
+    /// Writes the line of a refusal, and gives its exit status, 1 to 3.
     pub fn tell<W: Write>(&self, writer: &mut W) -> u8
         ensures { result ≤ 3 }
     {
@@ -111,6 +114,7 @@ impl<'a> CommandFault<'a> {
                 let reason = Reason(*error);
                 writeln!(writer, "bureau: standard output can't be written: {reason}")
             }
+            CommandFault::Options(reason) => writeln!(writer, "error: {reason}"),
         }
     }
 }

@@ -14,6 +14,7 @@ mod entries;
 mod fault;
 mod input;
 mod messages;
+mod programs;
 mod punch;
 pub mod status;
 mod typed_files;

@@ -48,7 +48,7 @@ fn push_message(
     };
     let column = typed.column_at(alloc, &place, !message.is_statement, columns)?;
     push_spot(text, &place, column)?;
-    text.push_str(message.text.as_str())?;
+    message.push_text(text)?;
     text.push('\n')
 }
 

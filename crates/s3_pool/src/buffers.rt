@@ -47,8 +47,8 @@ impl Buffer {
 #[derive(Drop)]
 pub(crate) struct Buffers {
     slots: Vec<Buffer>,
-    /// For each sector of the store the slot that has it. Where none does, it is one that had it, or the first: the slot itself
-    /// says which sector it has.
+    /// The slot of each sector of the store. If no slot has the sector, this is a slot that had it, or the first one; the slot
+    /// itself says which sector it has.
     places: Vec<u8>,
     /// The slots in the order of their use. It says which one is displaced, and nothing rests on it.
     order: LruCache<u8, (), SlotHash>,
@@ -65,7 +65,7 @@ const ROOM: usize = 16;
 const SPOOL_BLOCKS: Range<u16> = 25..153;
 
 impl Buffers {
-    /// Room for 16 of so many sectors.
+    /// Buffers for 16 of this number of sectors.
     pub(crate) fn new(alloc: Global, sectors: u16) -> Result<Self, AllocError>
         ensures empty { IfOk result (λ buffers. buffers.slots.items ≡ []) }
         ensures places { IfOk result (λ buffers. length buffers.places.items ≡ sectors) }
@@ -200,7 +200,7 @@ impl Buffers {
         self.places[usize::from(n)] = slot;
     }
 
-    /// Sector `n` goes into a slot, or into a new one, with the spare bytes as its own.
+    /// Puts sector `n` into a slot, or into a new one, with the spare bytes as its own.
     fn take_in(&mut self, slot: Option<u8>, n: u16, is_dirty: bool) -> Result<u8, SectorFault>
         requires in_range { n < length self.old.places.items }
         requires slot { MatchOption slot (length self.old.slots.items < 16) (λ slot. slot < length self.old.slots.items) }
@@ -221,7 +221,7 @@ impl Buffers {
     }
 }
 
-/// Has the store hold what a buffer does.
+/// Writes the bytes of a buffer into the store.
 fn write_back<S: PackStore>(store: &mut S, buffer: &Buffer) -> Result<(), StoreFault>
     requires in_range { buffer.now.sector < length (S.contents store.old) }
     requires clean { buffer.now.is_dirty ≡ false → slice_get (S.contents store.old) buffer.now.sector ≡ Some buffer.now.bytes.value }
@@ -248,8 +248,8 @@ fn give_way<S: PackStore>(store: &mut S, buffers: &Buffers) -> Result<u8, StoreF
     Ok(slot)
 }
 
-/// Where the next sector goes: into a new slot while there is room, else into the one that was used before all others, whose
-/// bytes the store has from now on.
+/// The slot for the next sector: a new one while there is space, else the slot that was used longest ago, whose bytes are written
+/// into the store.
 fn make_way<S: PackStore>(store: &mut S, buffers: &Buffers) -> Result<Option<u8>, StoreFault>
     requires { IsSound (S.contents store.old) buffers.now.slots.items }
     ensures keeps { KeepsLaid (S.contents store.old) buffers.now.slots.items (S.contents store.new) buffers.now.slots.items }
@@ -321,7 +321,7 @@ fn fetch<S: PackStore>(store: &mut S, buffers: &mut Buffers, n: u16) -> Result<u
     read_in(store, buffers, Some(slot), n)
 }
 
-/// Has sector `n`, which must be there, in the slot that is given, as the one that was used last.
+/// Answers the slot of sector `n`, which must be there, as the slot that was used last. The sector is read if no slot has it.
 pub(crate) fn load<S: PackStore>(
     store: &mut S,
     buffers: &mut Buffers,
@@ -342,8 +342,7 @@ pub(crate) fn load<S: PackStore>(
     Ok(slot)
 }
 
-/// Has sector `n` in the slot that is given, as the one that was used last. Refused with `NoSector` exactly where there is no
-/// such sector.
+/// Answers the slot of sector `n`, as the slot that was used last. Refused with `NoSector` exactly if there is no such sector.
 pub(crate) fn load_if_there<S: PackStore>(
     store: &mut S,
     buffers: &mut Buffers,
@@ -412,8 +411,8 @@ fn overlay<S: PackStore>(
     Ok(())
 }
 
-/// Has sector `n` have these bytes: in its buffer, or in a new one, or in the store where a spool block would displace another
-/// sector. The sector isn't read.
+/// Sets sector `n` to these bytes: in its buffer, in a new one, or, if a spool block would displace another sector, in the store.
+/// The sector isn't read.
 pub(crate) fn overwrite<S: PackStore>(
     store: &mut S,
     buffers: &mut Buffers,

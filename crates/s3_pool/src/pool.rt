@@ -47,8 +47,8 @@ impl<S: PackStore> Pool<S> {
         }
     }
 
-    /// The bytes of sector `n`, to read. Refused with `NoSector` exactly where `n` isn't below the count of sectors, and
-    /// with `Sectors` where a transfer or a growth failed. No sector changes, refused or not.
+    /// The bytes of sector `n`, to read. Refused with `NoSector` exactly if `n` isn't below the count of sectors, and with
+    /// `Sectors` if a transfer or a growth failed. No sector changes, refused or not.
     pub fn sector(&mut self, n: u16) -> Result<&[u8; 256], PoolFault>
         ensures* keeps { sem 𝓛 (EndsKept S.row S.PackStore self.entry result) }
         ensures value { IfOk result (λ bytes. slice_get self.old.contents n ≡ Some bytes.now) }
@@ -58,9 +58,8 @@ impl<S: PackStore> Pool<S> {
         Ok(self.buffers.buffer(slot).bytes())
     }
 
-    /// The bytes of sector `n`, to write to. Refused with `NoSector` exactly where `n` isn't below the count of sectors, and
-    /// with `Sectors` where a transfer or a growth failed. The other sectors stay as they were, and all of them where it is
-    /// refused.
+    /// The bytes of sector `n`, to write to. Refused with `NoSector` exactly if `n` isn't below the count of sectors, and with
+    /// `Sectors` if a transfer or a growth failed. The other sectors stay as they were; after a refusal all sectors do.
     pub fn sector_mut(&mut self, n: u16) -> Result<&mut [u8; 256], PoolFault>
         ensures* writes_back { sem 𝓛 (LendsSector S.row S.PackStore self.entry n result) }
         ensures value { IfOk result (λ bytes. slice_get self.old.contents n ≡ Some bytes.now) }
@@ -71,7 +70,7 @@ impl<S: PackStore> Pool<S> {
     }
 
     /// Writes every buffer that was written to, so that the store has what the pool shows; afterwards no sector is in memory.
-    /// Refused with `Device` alone, where what the pool shows stays.
+    /// Refused with `Device` alone; then the pool shows what it showed.
     pub fn flush(&mut self) -> Result<(), SectorFault>
         ensures flushed { OnOk result (self.new.stored ≡ self.old.contents) }
         ensures keeps { KeepsContents self.old self.new }
@@ -82,7 +81,7 @@ impl<S: PackStore> Pool<S> {
         Ok(())
     }
 
-    /// The store as it stands: what was not flushed is lost.
+    /// The store as it is. Changes that were not flushed are lost.
     pub fn into_store(self) -> S
         ensures contents { S.contents result ≡ self.stored }
         ensures failures { S.failures result ≡ self.failures }

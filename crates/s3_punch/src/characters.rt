@@ -256,7 +256,7 @@ pub fn is_refused(character: char) -> bool
     character != TAB && plain(character).is_none()
 }
 
-/// What a character that is no tab puts into its column: its card character, or `?` where it becomes none, which is reported.
+/// The card character of a character that is no tab, or `?` if it has none, which is reported.
 pub fn shown(character: char) -> u8
     ensures { result ≡ shown_spec character }
 {

@@ -74,7 +74,7 @@ pub struct Punched {
     pub origins: Vec<usize>,
     /// What was done to each line that was changed or left out.
     pub changes: Vec<LineChange>,
-    /// All that is wrong with the text, by lines. Where anything is, the deck isn't to be used.
+    /// All faults of the text, by lines. If there are any, the deck must not be used.
     pub faults: Vec<PunchFault>,
     /// The part of the deck after the text.
     pub part: Part,
@@ -97,7 +97,7 @@ impl Punched {
         }
     }
 
-    /// How a text begins that goes on after this one.
+    /// How a text begins that continues this one.
     pub fn behind(&self, begun: Begun) -> Begun
         ensures { result.cards ≤ 9999 }
     {
@@ -162,7 +162,7 @@ impl Punched {
         Ok(())
     }
 
-    /// Appends the card of a line, if it has one, and tells what is wrong with it.
+    /// Appends the card of a line, if it has one, and reports what is wrong with it.
     #[tactic(auto, unfolding(crate::specs::Inner::Cards::card_of_line, crate::specs::Inner::Faults::faults_of_line))]
     fn add_line(
         &mut self,

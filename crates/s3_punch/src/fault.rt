@@ -30,7 +30,7 @@ pub enum PunchReason {
 pub struct PunchFault {
     /// The number of the line, from 1.
     pub line: usize,
-    /// The place of the character in its line, from 1; each character counts as one, a tab too. Where a card is too wide it is
+    /// The place of the character in its line, from 1; each character counts as one, a tab too. If a card is too wide it is
     /// the first column that no card has, 97.
     pub column: usize,
     /// What is wrong.

@@ -183,7 +183,7 @@ fn note_open(
     )
 }
 
-/// Tells what is wrong with a card in pieces beside its characters and its width.
+/// Reports what is wrong with a card in pieces, apart from its characters and its width.
 fn note_pieces(
     alloc: Global,
     faults: &mut Vec<PunchFault>,

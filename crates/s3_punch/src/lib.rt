@@ -2,7 +2,7 @@
 //!
 //! What is proved, for any bytes (`punch`):
 //!
-//! - where nothing is reported, what comes out is a deck that `Deck::read` of `s3_cards` takes (`sound`);
+//! - if nothing is reported, the resulting text is a deck that `Deck::read` of `s3_cards` takes (`sound`);
 //! - a deck without carriage returns, and outside of data without blank lines and without lines that begin with `#` or `%`, comes
 //!   out as it was, byte for byte, unless remarks are blanked (`same`);
 //! - the text, the line that each card is of, the list of all that is wrong, and the part of the deck after the text are those of
@@ -11,8 +11,8 @@
 //!
 //! `typed_column` gives the column of a plain line that has a column of its card: the same column if the line has no tabs.
 //!
-//! Only tested: that column in a line in pieces; what is reported of changes, and the texts of faults. Nothing says that the parts of a deck are those that `s3_ocl` reads,
-//! nor that memory is said to run out only if it was refused.
+//! Only tested: that column in a line in pieces; what is reported of changes, and the texts of faults. Not proved: that the parts of a deck are those that `s3_ocl` reads,
+//! or that memory is reported to run out only if it was refused.
 
 #![tactic(auto)]
 

@@ -1,4 +1,4 @@
-//! Where tabs go to: the columns in which the entries of a sheet begin, and elsewhere every eighth column.
+//! The tab stops: the columns in which the entries of a sheet begin, and elsewhere every eighth column.
 ghost use Rattle.std.specs.Prelude.{◌≡◌, ◌+◌, ◌-◌, ◌<◌, ◌^◌, ◌++◌, find, length, nat_lt, option_map, replicate, OnOk, None, if◌then◌else◌};
 ghost use Rattle.s3_punch.specs.Inner.Stops.{starts_of as starts_of_spec, starts_on as starts_on_spec, tabbed, up_to_eighth as up_to_eighth_spec, up_to_start as up_to_start_spec, up_to_stop};
 

@@ -1,4 +1,4 @@
-//! Where columns of a card are in the line that it was punched of.
+//! The places of a card's columns in the line from which it was punched.
 ghost use Rattle.std.specs.Prelude.{◌≡◌, ◌≤◌, ◌<◌, ◌^◌, Some, length, true, false, IfOk};
 ghost use Rattle.bstr.specs.Utf8.{lossy_chars};
 ghost use Rattle.s3_punch.specs.Inner.Cards.{form_of as form_of_spec};

@@ -27,7 +27,7 @@ fn are_digits(columns: &[u8]) -> bool
     columns.iter().all(|code| is_digit(*code))
 }
 
-/// The number that digits spell where they are written behind another number.
+/// The number that digits spell after the digits of another number.
 pub fn number_onto(start: u64, digits: &[u8]) -> u64
     requires all { list_all digit_spec digits.now ≡ true }
     requires fits { (start + 1) * 10 ^ length digits.now ≤ 10 ^ 10 }
@@ -41,8 +41,8 @@ pub fn number_onto(start: u64, digits: &[u8]) -> u64
     number
 }
 
-/// The number in at most four columns, with blanks or zeros in front of it; none where the columns have something else, are blank,
-/// or are more than four.
+/// The number in at most four columns, with leading blanks or zeros. None if the columns have something else, are blank, or are
+/// more than four.
 #[tactic(auto, unfolding(crate::specs::Columns::digits_number))]
 pub fn number(columns: &[u8]) -> Option<u16>
     ensures value { result ≡ number_of columns.now }
@@ -58,8 +58,7 @@ pub fn number(columns: &[u8]) -> Option<u16>
     Some(number_onto(0, digits) as u16)
 }
 
-/// The number in at most four columns, with blanks or zeros in front of it, where it lies between two others or is one of these;
-/// else none.
+/// The number in at most four columns, with leading blanks or zeros, if it is at least `low` and at most `high`; else none.
 #[tactic(auto, unfolding(crate::specs::Columns::number_between))]
 pub fn number_between(columns: &[u8], low: u16, high: u16) -> Option<u16>
     ensures value { result ≡ number_between_spec low high columns.now }
@@ -71,7 +70,7 @@ pub fn number_between(columns: &[u8], low: u16, high: u16) -> Option<u16>
     }
 }
 
-/// The number in at most four columns where it lies between two others, each of which a byte has, or is one of these; else none.
+/// The number in at most four columns, if it is at least `low` and at most `high`; else none.
 pub fn small_between(columns: &[u8], low: u8, high: u8) -> Option<u8>
     ensures { result ≡ number_between_spec low high columns.now }
 {

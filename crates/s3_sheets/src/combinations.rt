@@ -34,7 +34,7 @@ pub fn is_with_index(file: &FileLine) -> bool
     file.is_keyed && file.is_indexed
 }
 
-/// Whether an F card has an entry that stands for other files alone.
+/// Whether an F card has an entry that only other kinds of files may have.
 #[tactic(auto, unfolding(crate::specs::Combinations::has_stray_entry))]
 fn has_stray_entry(card: &Card) -> bool
     ensures { result ≡ stray_spec card.now }
@@ -113,7 +113,7 @@ pub fn has_bad_positions(card: &Card) -> bool
     field.to < field.from || !holds_field(field.form, field.to - field.from + 1)
 }
 
-/// Whether factor 2 of a C card is ill formed.
+/// Whether factor 2 of a C card is malformed.
 #[tactic(auto, unfolding(crate::specs::Combinations::has_bad_factor))]
 pub fn has_bad_factor(card: &Card) -> bool
     ensures { result ≡ bad_factor_spec card.now }
@@ -167,7 +167,7 @@ pub fn is_of_date(name: Name) -> bool
     is_reserved(&name) && name != PAGE
 }
 
-/// Whether a field card has a field and a constant, or an entry that what it puts out can't have.
+/// Whether a field card has both a field and a constant, or an entry that its field or constant can't have.
 #[tactic(auto, unfolding(crate::specs::Combinations::has_bad_content))]
 fn has_bad_content(card: &Card) -> bool
     ensures { result ≡ bad_content_spec card.now }
@@ -181,7 +181,7 @@ fn has_bad_content(card: &Card) -> bool
         || (is_blanked && is_of_date(Name::of(columns(card, 32, 37))))
 }
 
-/// Whether a field card has neither a field nor a constant.
+/// Whether a field card has no field and no constant.
 pub fn has_no_content(card: &Card) -> bool
     ensures { result ≡ no_content_spec card.now }
 {
@@ -207,8 +207,8 @@ pub fn has_early_constant(card: &Card) -> bool
     begins_too_early(number(columns(card, 40, 43)), columns(card, 45, 70))
 }
 
-/// What columns of a card of this kind show to be wrong where they are read together: a record length and its device, a key and its
-/// record, decimals and digits, a field or a constant.
+/// The faults of columns of a card of this kind that are read together: a record length and its device, a key and its record,
+/// decimals and digits, a field or a constant.
 pub fn combined_faults(kind: CardKind, card: &Card) -> Faults
     ensures { result ≡ combined_faults_spec kind card.now }
 {

@@ -48,21 +48,21 @@ fn with_next(text: Constant, ended: bool, code: u8) -> Option<(Constant, bool)>
     }
 }
 
-/// Whether a code stands behind the apostrophe that ends a text.
+/// Whether a code comes after the apostrophe that ends a text.
 fn is_behind(ended: bool, code: u8) -> bool
     ensures { result ≡ is_behind_end ended code }
 {
     ended && code != APOSTROPHE
 }
 
-/// A text behind which all is blank.
+/// A text after which all is blank.
 fn unless_filled(text: Constant, codes: &[u8]) -> Option<Constant>
     ensures { result ≡ (if are_blank_spec codes.now then Some text else None) }
 {
     if are_blank(codes) { Some(text) } else { None }
 }
 
-/// The text up to the apostrophe that ends it, behind which all is blank; an apostrophe of the text is written twice.
+/// The text up to the apostrophe that ends it, after which all is blank; an apostrophe of the text is written twice.
 fn text(codes: &[u8]) -> Option<Constant>
     requires { length codes.now ≤ 25 }
     ensures { result ≡ option_map constant_spec (text_of false codes.now) }
@@ -78,8 +78,8 @@ fn text(codes: &[u8]) -> Option<Constant>
     if ended { Some(text) } else { None }
 }
 
-/// The constant in these columns: in apostrophes, of 1 to 24 characters, with blanks behind it; none where something else stands
-/// there.
+/// The constant in these columns: 1 to 24 characters in apostrophes, with blanks after it. None if the columns have something
+/// else.
 #[tactic(auto, unfolding(crate::specs::Entries::constant_text))]
 pub fn constant(columns: &[u8]) -> Option<Constant>
     requires { length columns.now ≤ 26 }
@@ -120,7 +120,7 @@ fn is_negative(columns: &[u8]) -> bool
     }
 }
 
-/// How many digits stand in front.
+/// The number of leading digits.
 fn digits_in_front(columns: &[u8]) -> usize
     ensures within { result ≤ length columns.now }
     ensures value { result ≡ prefix_len digit_spec columns.now }
@@ -137,7 +137,7 @@ fn signed(is_negative: bool, number: u64) -> i64
     if is_negative { -number } else { number }
 }
 
-/// The literal number in columns: a sign or none, digits with at most one point, and blanks behind.
+/// The literal number in columns: a sign or none, digits with at most one point, and blanks after.
 #[tactic(auto, unfolding(crate::specs::Entries::number_literal_of))]
 fn number_literal(columns: &[u8]) -> Option<NumberLiteral>
     requires { length columns.now ≤ 10 }
@@ -170,7 +170,7 @@ fn text_literal(text: Constant) -> TextLiteral
     }
 }
 
-/// The name of at most so many characters in columns that have blanks behind it.
+/// The name of at most so many characters in columns that have blanks after it.
 fn name_within(longest: usize, columns: &[u8]) -> Option<Name>
     requires few { longest ≤ 8 }
     requires enough { longest ≤ length columns.now }
@@ -184,8 +184,8 @@ fn name_within(longest: usize, columns: &[u8]) -> Option<Name>
     }
 }
 
-/// The factor in these columns: a literal number or text, or a name of at most so many characters; none where they are blank or
-/// have something else.
+/// The factor in these columns: a literal number or text, or a name of at most so many characters; none if they are blank or have
+/// something else.
 #[tactic(auto, unfolding(crate::specs::Entries::factor_of))]
 pub fn factor(longest: usize, columns: &[u8]) -> Option<Factor>
     requires short { longest ≤ 8 }
@@ -215,7 +215,7 @@ pub fn part_of(code: u8) -> Option<CodePart>
     }
 }
 
-/// The record identification code in seven columns; none where they are blank or have something else.
+/// The record identification code in seven columns; none if they are blank or have something else.
 #[tactic(auto, unfolding(crate::specs::Entries::code_of))]
 pub fn record_code(columns: &[u8]) -> Option<RecordCode>
     requires { length columns.now ≡ 7 }
@@ -229,7 +229,7 @@ pub fn record_code(columns: &[u8]) -> Option<RecordCode>
     })
 }
 
-/// When a C line is done, by its columns 7 and 8; none where they have no entry of the list.
+/// When a C line is done, by its columns 7 and 8; none if they have no entry of the list.
 #[tactic(auto, unfolding(crate::specs::Entries::time_of, s3_cards::specs::Codes::ebcdic, s3_cards::specs::Codes::code_page))]
 pub fn time(columns: &[u8]) -> Option<CalculationTime>
     ensures { result ≡ time_of columns.now }
@@ -247,8 +247,7 @@ pub fn time(columns: &[u8]) -> Option<CalculationTime>
     }
 }
 
-/// A constant is read as the text that was written, with its apostrophes twice and blanks behind it, and nothing else is a
-/// constant.
+/// Exactly a text that is written with its apostrophes twice and blanks after it is a constant, and it is read as that text.
 pub fn constants_as_written()
     ensures { (columns text : List ℕ) → (constant_text columns ≡ Some text) ↔ IsConstant columns text }
 {}

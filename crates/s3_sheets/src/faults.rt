@@ -18,9 +18,9 @@ use s3_cards::Card;
 pub enum Fault {
     /// Diagnostic 2: the entry isn't allowed.
     WrongEntry,
-    /// Diagnostic 3: a name or literal is missing or ill formed.
+    /// Diagnostic 3: a name or literal is missing or malformed.
     WrongName,
-    /// Diagnostic 4: a number is missing, ill formed or out of its range.
+    /// Diagnostic 4: a number is missing, malformed or out of its range.
     WrongNumber,
 }
 
@@ -29,9 +29,9 @@ pub enum Fault {
 pub struct Faults {
     /// Whether diagnostic 2 shows: an entry that isn't allowed.
     pub entry: bool,
-    /// Whether diagnostic 3 shows: a name or literal that is missing or ill formed.
+    /// Whether diagnostic 3 shows: a name or literal that is missing or malformed.
     pub name: bool,
-    /// Whether diagnostic 4 shows: a number that is missing, ill formed or out of its range.
+    /// Whether diagnostic 4 shows: a number that is missing, malformed or out of its range.
     pub number: bool,
 }
 
@@ -97,7 +97,7 @@ fn broken(rules: &[Rule], card: &Card) -> Faults
     faults
 }
 
-/// What is wrong with a card by its own columns, positions in its record aside.
+/// The faults of a card by its own columns, without those of positions in its record.
 #[tactic(auto, unfolding(crate::specs::Sheets::faults_of))]
 pub fn faults_of(card: &Card) -> Faults
     ensures { result ≡ faults_of_spec card.now }

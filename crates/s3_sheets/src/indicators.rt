@@ -10,7 +10,7 @@ use s3_cards::ebcdic::{
 use s3_cards::is_digit;
 use s3_lines::indicator::{Condition, Indicator};
 
-/// The lists of indicators that may stand in columns of the sheets.
+/// The lists of indicators that are allowed in columns of the sheets.
 #[derive(Clone, Copy)]
 pub enum IndicatorList {
     /// 01 to 99 and H1 to H9: indicators of a type of records, or of a field.
@@ -36,7 +36,7 @@ fn general(tens: u8, units: u8) -> Option<Indicator>
     }
 }
 
-/// Behind an L: 0 to 9, R.
+/// After an L: 0 to 9, R.
 fn level(code: u8) -> Option<Indicator>
     ensures { result ≡ level_of code }
 {
@@ -49,7 +49,7 @@ fn level(code: u8) -> Option<Indicator>
     }
 }
 
-/// Behind an H: 1 to 9.
+/// After an H: 1 to 9.
 fn halt(code: u8) -> Option<Indicator>
     ensures { result ≡ halt_of code }
 {
@@ -59,7 +59,7 @@ fn halt(code: u8) -> Option<Indicator>
     }
 }
 
-/// Behind an O: A to G, V.
+/// After an O: A to G, V.
 fn overflow(code: u8) -> Option<Indicator>
     ensures { result ≡ overflow_of code }
 {
@@ -70,7 +70,7 @@ fn overflow(code: u8) -> Option<Indicator>
     }
 }
 
-/// Behind a U: 1 to 8.
+/// After a U: 1 to 8.
 fn switch(code: u8) -> Option<Indicator>
     ensures { result ≡ switch_of code }
 {
@@ -148,7 +148,7 @@ pub fn listed(list: IndicatorList, columns: &[u8]) -> Option<Indicator>
     }
 }
 
-/// The level in two columns, 1 to 9 behind this letter, as in L1 to L9 and M1 to M9; none where something else stands there.
+/// The level in two columns, 1 to 9 after this letter, as in L1 to L9 and M1 to M9. None if the columns have something else.
 #[tactic(auto, unfolding(crate::specs::Indicators::level_behind))]
 pub fn level_behind(letter: u8, columns: &[u8]) -> Option<u8>
     ensures { result ≡ level_behind_spec letter columns.now }
@@ -159,7 +159,7 @@ pub fn level_behind(letter: u8, columns: &[u8]) -> Option<u8>
     }
 }
 
-/// The condition in three columns: a blank or N, and then an indicator. None where they are blank or have something else.
+/// The condition in three columns: a blank or N, and then an indicator. None if they are blank or have something else.
 #[tactic(auto, unfolding(crate::specs::Indicators::condition_of))]
 pub fn condition(columns: &[u8]) -> Option<Condition>
     ensures { result ≡ condition_of columns.now }

@@ -41,15 +41,15 @@ impl KnownFiles {
         self.lengths.len()
     }
 
-    /// The length in bytes of the records of the file with this name, where such a file is known.
+    /// The length in bytes of the records of the file with this name, if such a file is known.
     pub fn record_length(&self, name: &Name) -> Option<u16>
         ensures { result ≡ record_length_of self.now name.now }
     {
         self.lengths.get(name).copied()
     }
 
-    /// Puts the file, with the length of its records, behind the others, if there is one and its name isn't known yet. It is
-    /// refused only where memory runs out.
+    /// Puts the file, with the length of its records, after the others, if there is one and its name isn't known yet. It is
+    /// refused only if memory runs out.
     #[tactic(auto, using(crate::proofs::KnownLemmas::known_file, crate::proofs::KnownLemmas::unknown_file))]
     pub fn add(&mut self, file: Option<(Name, u16)>) -> Result<(), AllocError>
         ensures { OnOk result (self.new ≡ self.old ++ option_to_list (new_file self.old file)) }
@@ -97,7 +97,7 @@ impl KnownFields {
         self.names.len()
     }
 
-    /// Puts the field behind the others, if there is one that isn't known yet. It is refused only where memory runs out.
+    /// Puts the field after the others, if there is one that isn't known yet. It is refused only if memory runs out.
     pub fn add(&mut self, field: Option<Name>) -> Result<(), AllocError>
         ensures { OnOk result (self.new ≡ self.old ++ option_to_list (new_field self.old field)) }
     {

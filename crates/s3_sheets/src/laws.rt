@@ -26,14 +26,14 @@ pub fn cards_get_their_numbers()
     ensures put_3 { AreAsWanted put_rows_3 }
 {}
 
-/// Cards that have number 4 have the entries at fault that they must have: of entries that don't go together those that are wrong.
+/// Cards with diagnostic 4 have the entries in error that they must have: if entries contradict each other, the wrong ones.
 pub fn cards_get_their_marks()
     ensures file { AreMarked file_marks }
     ensures field { AreMarked field_marks }
     ensures calculation { AreMarked calculation_marks }
 {}
 
-/// What is wrong with a card decides what is known behind it.
+/// What is wrong with a card decides what is known after it.
 pub fn sources_get_their_pairs()
     ensures measured { map found_in sources ≡ pairs_of_sources }
     ensures files { found_in many_files ≡ (22, 13) ∷ [] }

@@ -1,21 +1,12 @@
 //! The sheets of an RPG II source: typed lines, and the diagnostics of single cards.
 //!
-//! The rules are a table for each kind of card, and conditions on columns together; docs/LANGUAGE.md, "Sheets", has them in words.
-//!
-//! What is proved:
-//! - `read_sheets` gives the typed lines of the cards, in order, or exactly the list of the cards' diagnostics 1 to 4 and 13, by
-//!   card and number; or it says that memory ran out;
-//! - lines that it gives are those of cards without a fault of their own (`are_read` of `s3_lines`): each entry is in its range,
-//!   and each position within its record;
-//! - `faulty_entries` gives exactly the entries at fault by these numbers, by a definition that takes the same rules and conditions
-//!   apart; a card has a number exactly where an entry of it is at fault by that number (`numbers_stand_on_entries`);
-//! - a constant is read as the text that was written, with its apostrophes twice, and nothing else is a constant
-//!   (`constants_as_written`);
-//! - 361 cards and eight sources, worked by hand, have the numbers that they must have, and a source with every entry has its typed
-//!   lines: the definitions are computed on them (`cards_get_their_numbers`, `sources_get_their_pairs`, `every_entry_is_read`);
-//! - of 28 such cards that have 4, the entries at fault by it are those that they must be (`cards_get_their_marks`).
-//!
-//! Only tested: that memory is said to run out only where a growth was refused, which no contract can say; and the texts of faults.
+//! The rules are a table for each kind of card, and conditions on columns together; docs/LANGUAGE.md, "Sheets", has them in
+//! words. `read_sheets` is proved to give the typed lines of the cards, in order, or exactly the list of the cards' diagnostics 1
+//! to 4 and 13; each entry of a line is in its range, and each position within its record. `faulty_entries` is proved to give
+//! exactly the entries that are in error by these numbers (`numbers_stand_on_entries`). Worked examples are computed by the
+//! proofs: 361 cards, eight sources, a source with every entry, and the entries in error on 28 cards (`cards_get_their_numbers`,
+//! `sources_get_their_pairs`, `every_entry_is_read`, `cards_get_their_marks`). Only tested: that memory is reported to run out
+//! only if an allocation was refused, and the texts of faults.
 
 #![tactic(auto)]
 

@@ -28,7 +28,7 @@ fn number_or_zero(columns: &[u8]) -> u16
     number(columns).unwrap_or(0)
 }
 
-/// The name in at most eight columns; none where they are blank.
+/// The name in at most eight columns; none if they are blank.
 pub fn maybe_name(columns: &[u8]) -> Option<Name>
     requires { length columns.now ≤ 8 }
     ensures { result ≡ maybe_name_spec columns.now }
@@ -74,7 +74,7 @@ fn device_of(device: &[u8]) -> Device
     }
 }
 
-/// The key of an indexed file, none where an entry of it is missing or out of its range.
+/// The key of an indexed file, none if an entry of it is missing or out of its range.
 fn key_of(card: &Card) -> Option<KeyField>
     ensures { result ≡ key_of_spec card.now }
 {
@@ -168,7 +168,7 @@ pub fn field_line(card: &Card) -> FieldLine
     }
 }
 
-/// How many characters a name in factor 2 of a C card may have: 8 where the operation is CHAIN, which has a file there, else 6.
+/// The greatest length of a name in factor 2 of a C card, in characters: 8 for CHAIN, which has a file there, else 6.
 #[tactic(auto, unfolding(s3_cards::specs::Codes::ebcdic, s3_cards::specs::Codes::code_page))]
 pub fn longest_name(card: &Card) -> usize
     ensures value { result ≡ longest_name_spec card.now }
@@ -181,8 +181,8 @@ pub fn longest_name(card: &Card) -> usize
     }
 }
 
-/// The shape that the columns of a length and of decimals give a field: a text where the decimals are blank, else a number; none
-/// where both are blank.
+/// The shape that the columns of a length and of decimals give a field: a text if the decimals are blank, else a number; none if
+/// both are blank.
 pub fn definition(length: &[u8], decimals: &[u8]) -> Option<Shape>
     ensures { result ≡ definition_of_spec length.now decimals.now }
 {
@@ -291,7 +291,7 @@ fn output_card(card: &Card) -> OutputCard
     }
 }
 
-/// How a field is put out: packed, or by an edit code if there is one.
+/// How a field is written: packed, or by an edit code if there is one.
 fn output_form(is_packed: bool, code: Option<EditCode>) -> OutputForm
     ensures { result ≡ output_form_spec is_packed code }
 {
@@ -302,7 +302,7 @@ fn output_form(is_packed: bool, code: Option<EditCode>) -> OutputForm
     }
 }
 
-/// A field, or where its columns are blank the constant.
+/// The field, or the constant if the columns of the field are blank.
 fn content_of(card: &Card) -> OutputContent
     ensures { result ≡ content_of_spec card.now }
 {

@@ -12,7 +12,7 @@ use s3_cards::ebcdic::{
 };
 use s3_lines::sheet::Operation;
 
-/// A word and what it stands for.
+/// A word and its operation.
 #[derive(Clone, Copy)]
 struct Row {
     word: [u8; 5],
@@ -108,7 +108,7 @@ fn operations() -> &'static [Row]
     &OPERATIONS
 }
 
-/// What a word stands for in a table, by its first row that has it.
+/// The operation of a word in a table, by the first row with the word.
 fn operation_in(rows: &[Row], word: &[u8]) -> Operation
     ensures { result ≡ operation_in_spec (map row_view rows.now) word.now }
 {
@@ -120,7 +120,7 @@ fn operation_in(rows: &[Row], word: &[u8]) -> Operation
     Operation::Unknown
 }
 
-/// The operation in five columns, `Unknown` for a word that isn't one; none where they are blank.
+/// The operation in five columns, `Unknown` for a word that isn't one; none if they are blank.
 pub fn operation(columns: &[u8]) -> Option<Operation>
     ensures { result ≡ operation_of columns.now }
 {

@@ -1,4 +1,4 @@
-//! The entries that are at fault where a card has a diagnostic: what each condition is made of, entry by entry.
+//! The entries in error of a card with a diagnostic: the parts of each condition, entry by entry.
 
 ghost use Rattle.std.specs.Prelude.{◌≡◌, ◌≤◌, ◌+◌, ◌^◌, [], ◌++◌, length, map, true, OnOk, IfOk, slice_range};
 ghost use Rattle.std.specs.List.{list_all};
@@ -36,11 +36,11 @@ pub struct Part {
     pub from: usize,
     /// Its last column.
     pub to: usize,
-    /// Whether the entry is at fault.
+    /// Whether the entry is in error.
     pub fails: bool,
 }
 
-/// An entry of a card that is at fault by a diagnostic.
+/// An entry of a card that is in error by a diagnostic.
 #[derive(Clone, Copy)]
 pub struct FaultyEntry {
     /// The number of the card in its deck, from 1.
@@ -281,7 +281,7 @@ fn output_parts(card: &Card) -> [Part; 7]
     ]
 }
 
-/// Adds the entries that are at fault by what columns of a card show together.
+/// Adds the entries of a card that are in error by conditions on columns together.
 fn push_combined(
     found: &mut Vec<FaultyEntry>,
     number: u16,
@@ -317,7 +317,7 @@ fn code_parts(card: &Card, length: Option<u16>) -> [Part; 3]
     ]
 }
 
-/// First and last position of a field, each where it lies past its record.
+/// The first and the last position of a field, each in error if it lies past the record.
 fn span_parts(card: &Card, length: Option<u16>) -> [Part; 2]
     ensures { result ≡ spec.span_parts card.now length }
 {
@@ -372,7 +372,7 @@ fn standing_parts(kind: CardKind, standing: Standing) -> [Part; 3]
     ]
 }
 
-/// Adds the entries of a card that are at fault, where it stands and with the record length that its positions go by.
+/// Adds the entries of a card that are in error, given the cards above it and the record length for its positions.
 #[tactic(auto, using(crate::proofs::PartLemmas::all_parts))]
 fn push_card(
     found: &mut Vec<FaultyEntry>,
@@ -390,7 +390,7 @@ fn push_card(
     push_positions(found, number, kind, card, length)
 }
 
-/// Adds the entries of cards that are at fault to an empty list. The caller owns both values, so that no early return here drops
+/// Adds the entries of cards that are in error to an empty list. The caller owns both values, so that no early return here drops
 /// them.
 fn find_entries(
     found: &mut Vec<FaultyEntry>,
@@ -412,7 +412,7 @@ fn find_entries(
     Ok(())
 }
 
-/// The entries of cards that are at fault.
+/// The entries of cards that are in error.
 fn entries_of_cards(
     alloc: Global,
     cards: &[Card],
@@ -429,9 +429,9 @@ fn entries_of_cards(
     Ok(found)
 }
 
-/// The entries that are at fault by the diagnostics 1 to 4 and 13 on cards of a deck from place `from` up to but without place `to`,
-/// card by card. A card has one of these numbers exactly where an entry of it is at fault by that number
-/// (`numbers_stand_on_entries`). It is refused only where memory runs out.
+/// The entries that are in error by the diagnostics 1 to 4 and 13 on cards of a deck from place `from` up to but without place
+/// `to`, card by card. A card has one of these numbers exactly if an entry of it is in error by that number
+/// (`numbers_stand_on_entries`). It is refused only if memory runs out.
 pub fn faulty_entries(
     alloc: Global,
     deck: &Deck,
@@ -445,7 +445,7 @@ pub fn faulty_entries(
     entries_of_cards(alloc, &deck.cards()[from..to], from)
 }
 
-/// A card has each of the numbers 1 to 4 and 13 exactly where an entry of it is at fault by that number.
+/// A card has each of the numbers 1 to 4 and 13 exactly if an entry of it is in error by that number.
 pub fn numbers_stand_on_entries()
     ensures sheet { spec.IsToldByEntries 1 }
     ensures entry { spec.IsToldByEntries 2 }

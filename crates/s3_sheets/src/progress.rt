@@ -42,9 +42,9 @@ pub struct Progress {
     latest_sheet: u8,
     has_output_line: bool,
     files: KnownFiles,
-    /// The record length that field lines go by, where it is known.
+    /// The record length that field lines go by, if it is known.
     input_length: Option<u16>,
-    /// The record length that field cards go by, where it is known.
+    /// The record length that field cards go by, if it is known.
     output_length: Option<u16>,
     fields: KnownFields,
 }
@@ -81,7 +81,7 @@ impl Progress {
         }
     }
 
-    /// Takes one more card, and answers what is wrong with it by its columns and the cards before. It is refused only where memory
+    /// Takes one more card, and answers what is wrong with it by its columns and the cards before. It is refused only if memory
     /// runs out.
     #[tactic(auto, unfolding(crate::specs::Inner::Progress::standing_behind, crate::specs::Inner::Progress::kept_behind, crate::specs::Inner::Progress::is_at_fault_behind, crate::specs::Inner::Progress::files_with, crate::specs::Inner::Progress::fields_with))]
     pub fn enter(&mut self, card: &Card) -> Result<Standing, AllocError>
@@ -137,7 +137,7 @@ impl Progress {
         self.files.record_length(&Name::of(columns(card, 7, 14)))
     }
 
-    /// The record length that the positions on a card go by, where it is known; of a card without such positions any.
+    /// The record length that the positions on a card go by, if it is known. For a card without such positions, any length.
     pub fn position_length(&self, card: &Card) -> Option<u16>
         ensures { result ≡ length_for (kind_of_spec card.now) (length_named self.now card.now) self.now.input_length self.now.output_length }
     {
@@ -204,7 +204,7 @@ fn names_position_past(kind: CardKind, card: &Card, length: Option<u16>) -> bool
     }
 }
 
-/// The file that a card defines, with its record length; a card at fault defines none.
+/// The file that a card defines, with its record length; a card in error defines none.
 fn file_of(kind: CardKind, is_at_fault: bool, card: &Card) -> Option<(Name, u16)>
     ensures { result ≡ file_of_spec kind is_at_fault card.now }
 {
@@ -228,7 +228,7 @@ fn result_defined(card: &Card) -> Option<Name>
     }
 }
 
-/// The field that a card defines; a card at fault defines none.
+/// The field that a card defines; a card in error defines none.
 fn field_of(kind: CardKind, is_at_fault: bool, card: &Card) -> Option<Name>
     ensures { result ≡ field_of_spec kind is_at_fault card.now }
 {
@@ -239,7 +239,7 @@ fn field_of(kind: CardKind, is_at_fault: bool, card: &Card) -> Option<Name>
     }
 }
 
-/// The record length behind a card: a record or line card brings a new one, which isn't known if the card is at fault.
+/// The record length after a card. A record or line card sets a new one, which isn't known if the card is in error.
 fn length_behind(
     is_new: bool,
     is_at_fault: bool,

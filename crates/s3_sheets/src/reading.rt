@@ -70,7 +70,7 @@ fn add_line(lines: &mut Vec<Line>, number: u16, card: &Card) -> Result<(), Alloc
     Ok(())
 }
 
-/// Reads cards that stand from a place of their deck on: adds their lines and their diagnostics to what was empty. The caller owns
+/// Reads the cards of a deck from a place on: adds their lines and their diagnostics to lists that were empty. The caller owns
 /// both, so that no early return here drops them.
 fn enter_cards(
     progress: &mut Progress,
@@ -95,7 +95,7 @@ fn enter_cards(
     Ok(())
 }
 
-/// The lines of cards that stand from a place of their deck on, or their diagnostics; nothing is kept of earlier cards.
+/// The lines of the cards of a deck from a place on, or their diagnostics. Nothing is kept of earlier cards.
 fn read_with(
     alloc: Global,
     progress: &mut Progress,
@@ -117,7 +117,7 @@ fn read_with(
     }
 }
 
-/// The lines of cards that stand from a place of their deck on, or their diagnostics.
+/// The lines of the cards of a deck from a place on, or their diagnostics.
 fn read_cards(alloc: Global, cards: &[Card], from: usize) -> Result<Vec<Line>, SheetFault>
     requires { from + length cards.now ≤ 9_999 }
     ensures { Reads from cards.now result }
@@ -131,8 +131,8 @@ fn read_cards(alloc: Global, cards: &[Card], from: usize) -> Result<Vec<Line>, S
 /// The typed lines of the cards of a deck from place `from` up to but without place `to`, or their diagnostics.
 ///
 /// A diagnostic names its card by its number in the deck, from 1. They are those that show on single cards: 1 no sheet, or out of
-/// order; 2 an entry that isn't allowed; 3 a name or literal that is missing or ill formed; 4 a number that is missing, ill
-/// formed or out of its range, or a position outside its record; 13 more than 20 files or 999 fields.
+/// order; 2 an entry that isn't allowed; 3 a name or literal that is missing or malformed; 4 a number that is missing, malformed
+/// or out of its range, or a position outside its record; 13 more than 20 files or 999 fields.
 ///
 /// The lines are in the order of the sheets and of their cards, each entry is in its range, and each position within its record.
 pub fn read_sheets(

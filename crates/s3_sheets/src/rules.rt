@@ -1,4 +1,4 @@
-//! What may stand in the columns of a card, and what is wrong where something else does.
+//! What is allowed in the columns of a card, and which error anything else is.
 
 ghost use Rattle.std.specs.Prelude.{◌≡◌, map, length, true};
 ghost use Rattle.std.specs.List.{list_all, list_any};
@@ -16,7 +16,7 @@ use s3_cards::ebcdic::{BLANK, LETTER_N};
 use s3_cards::{Card, are_blank, is_letter, is_name};
 use s3_edit::EditCode;
 
-/// What may stand in the columns of a rule.
+/// What is allowed in the columns of a rule.
 #[derive(Clone, Copy)]
 pub enum Entry {
     /// Nothing.
@@ -35,7 +35,7 @@ pub enum Entry {
     MaybeCondition,
     /// A level entry of the C sheet: blank, L0 to L9, LR, SR, AN or OR.
     Time,
-    /// A code of seven columns, in which blank or N and then C, Z or D stand behind the position, or blank.
+    /// A code of seven columns: after the position, blank or N and then C, Z or D; or all of it blank.
     CodeTest,
     /// An edit code, or blank.
     MaybeEditCode,
@@ -55,14 +55,14 @@ pub enum Entry {
     CodePosition,
 }
 
-/// The columns from one to another, counted from 1, and what may stand there.
+/// The columns from one to another, counted from 1, and what is allowed there.
 #[derive(Clone, Copy)]
 pub struct Rule {
     /// The first column, from 1.
     pub from: usize,
     /// The last column, at most 96.
     pub to: usize,
-    /// What may stand there.
+    /// What is allowed there.
     pub entry: Entry,
 }
 
@@ -131,7 +131,7 @@ impl Entry {
         }
     }
 
-    /// What is wrong where something else stands.
+    /// The error of anything else.
     pub fn fault(&self) -> Fault
         ensures { result ≡ fault_of (entry_view self.now) }
     {
@@ -154,7 +154,7 @@ impl Entry {
     }
 }
 
-/// What is wrong with a card by one rule: nothing where its columns have what the rule allows.
+/// What is wrong with a card by one rule: nothing if its columns have what the rule allows.
 #[tactic(auto, unfolding(crate::specs::Rules::rule_faults))]
 pub fn rule_faults(rule: &Rule, card: &Card) -> Faults
     requires { is_on_card (rule_view rule.now) ≡ true }

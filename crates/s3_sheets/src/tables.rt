@@ -1,4 +1,4 @@
-//! The rules of each kind of card, each for some columns alone. Columns that stand in no rule are read together with others, in
+//! The rules of each kind of card, each for some columns alone. Columns without a rule are read together with others, in
 //! `combinations`.
 
 ghost use Rattle.std.specs.Prelude.{◌≡◌, map, true};

@@ -11,7 +11,7 @@ pub const PRINTER: [u8; 7] = punched!(7, b"PRINTER");
 /// The device of files on the pack.
 pub const DISK: [u8; 7] = punched!(7, b"DISK   ");
 
-/// The word of an AND line of the I or O sheet, which goes on with the codes or conditions above.
+/// The word of an AND line of the I or O sheet, which continues with the codes or conditions above.
 pub const AND: [u8; 3] = punched!(3, b"AND");
 /// The word of an OR line of the I or O sheet, which has codes or conditions in place of those above.
 pub const OR: [u8; 3] = punched!(3, b"OR ");
@@ -20,7 +20,7 @@ pub const ADD: [u8; 3] = punched!(3, b"ADD");
 
 /// The level entry of a C line of a subroutine.
 pub const SR: [u8; 2] = punched!(2, b"SR");
-/// The level entry of a C line that goes on with the conditions above.
+/// The level entry of a C line that continues with the conditions above.
 pub const AN: [u8; 2] = punched!(2, b"AN");
 /// The level entry of a C line with conditions in place of those above.
 pub const OR_IN_LEVEL: [u8; 2] = punched!(2, b"OR");

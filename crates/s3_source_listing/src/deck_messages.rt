@@ -11,6 +11,15 @@ use s3_ocl::{FaultyJob, JobCards};
 use s3_reasons::{Reasons, statement_reason};
 use std::alloc::{AllocError, Global};
 
+/// What a message reports.
+#[derive(Clone, Copy)]
+pub enum Severity {
+    /// An error, which must be mended.
+    Error,
+    /// A warning: the source is legal, and probably wrong.
+    Warning,
+}
+
 /// A message about a card of a deck.
 #[derive(Drop)]
 pub struct CardMessage {
@@ -20,8 +29,31 @@ pub struct CardMessage {
     pub columns: Columns,
     /// Whether the card is a statement; else it is of a source.
     pub is_statement: bool,
-    /// What it says, as `error 08: an operation or an edit that doesn't fit: ..`.
-    pub text: String,
+    /// Whether it is an error or a warning.
+    pub severity: Severity,
+    /// Its number among the errors of its kind, or among the warnings.
+    pub number: u8,
+    /// What is wrong.
+    pub words: String,
+    /// Why, if more is known; else empty.
+    pub reason: String,
+}
+
+impl CardMessage {
+    /// Appends its text, as `error 08: an operation or an edit that doesn't fit: ..`.
+    pub fn push_text(&self, text: &mut String) -> Result<(), AllocError> {
+        let number = self.number;
+        match self.severity {
+            Severity::Error => write!(text, "error {number:02}: ")?,
+            Severity::Warning => write!(text, "warning W{number}: ")?,
+        }
+        text.push_str(self.words.as_str())?;
+        if self.reason.is_empty() {
+            return Ok(());
+        }
+        text.push_str(": ")?;
+        text.push_str(self.reason.as_str())
+    }
 }
 
 /// The messages of a deck.
@@ -31,16 +63,6 @@ pub struct DeckMessages {
     pub messages: Vec<CardMessage>,
     /// How many sources, errors and warnings the deck has.
     pub outcome: Outcome,
-}
-
-/// The text of an error: its number, its text, and its reason if there is one.
-fn error_text(alloc: Global, number: u8, words: &str, reason: &str) -> Result<String, AllocError> {
-    let mut text = String::new(alloc);
-    write!(text, "error {number:02}: {words}")?;
-    if !reason.is_empty() {
-        write!(text, ": {reason}")?;
-    }
-    Ok(text)
 }
 
 /// Appends to the reason of a faulty job where a source belongs.
@@ -63,29 +85,33 @@ impl DeckMessages {
         error: &ErrorMessage,
     ) -> Result<(), AllocError> {
         let reason = reasons.of(error.card, error.number);
-        let text = error_text(alloc, error.number, diagnostic_words(error.number), reason)?;
+        let words = String::from_str(alloc, diagnostic_words(error.number))?;
+        let reason = String::from_str(alloc, reason)?;
         self.outcome.faults = self.outcome.faults.saturating_add(1);
         self.messages.push(CardMessage {
             card: usize::from(error.card),
             columns: error.columns,
             is_statement: error.card == run_card,
-            text,
+            severity: Severity::Error,
+            number: error.number,
+            words,
+            reason,
         })?;
         Ok(())
     }
 
     /// Adds the message of a warning.
     fn add_warning(&mut self, alloc: Global, warning: &WarningMessage) -> Result<(), AllocError> {
-        let number = warning.kind.number();
-        let words = warning.kind.words();
-        let mut text = String::new(alloc);
-        write!(text, "warning W{number}: {words}")?;
+        let words = String::from_str(alloc, warning.kind.words())?;
         self.outcome.warnings = self.outcome.warnings.saturating_add(1);
         self.messages.push(CardMessage {
             card: usize::from(warning.card),
             columns: warning.columns,
             is_statement: false,
-            text,
+            severity: Severity::Warning,
+            number: warning.kind.number(),
+            words,
+            reason: String::new(alloc),
         })?;
         Ok(())
     }
@@ -156,13 +182,15 @@ impl DeckMessages {
             }
             None => Columns { from: 1, to: 1 },
         };
-        let text = error_text(alloc, fault.number(), words.as_str(), reason.as_str())?;
         self.outcome.faults = self.outcome.faults.saturating_add(1);
         self.messages.push(CardMessage {
             card,
             columns,
             is_statement: true,
-            text,
+            severity: Severity::Error,
+            number: fault.number(),
+            words,
+            reason,
         })?;
         Ok(())
     }
@@ -187,13 +215,30 @@ fn keyword_at(deck: &Deck, card: u16) -> Columns {
     }
 }
 
+/// No messages.
+fn no_messages(alloc: Global) -> DeckMessages {
+    DeckMessages {
+        messages: Vec::new(alloc),
+        outcome: Outcome::NONE,
+    }
+}
+
+/// The messages of a job of a deck: the messages of its source, or the message of its faulty statements. It is refused only if memory runs
+/// out.
+pub fn messages_of_job(
+    alloc: Global,
+    deck: &Deck,
+    job: &JobEntry,
+) -> Result<DeckMessages, AllocError> {
+    let mut found = no_messages(alloc);
+    found.add_job(alloc, deck, job)?;
+    Ok(found)
+}
+
 /// The messages of a deck: of each source those of its diagnostics or of its warnings, and one for each job with faulty statements. It is
 /// refused only if memory runs out.
 pub fn messages_of_deck(alloc: Global, deck: &Deck) -> Result<DeckMessages, AllocError> {
-    let mut found = DeckMessages {
-        messages: Vec::new(alloc),
-        outcome: Outcome::NONE,
-    };
+    let mut found = no_messages(alloc);
     for job in &jobs_of(alloc, deck)? {
         found.add_job(alloc, deck, job)?;
     }

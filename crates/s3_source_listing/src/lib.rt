@@ -23,8 +23,13 @@ mod source;
 mod tables;
 mod warned;
 
-pub use deck_messages::{CardMessage, DeckMessages, messages_of_deck};
+pub use cards::Cards;
+pub use deck_messages::{CardMessage, DeckMessages, Severity, messages_of_deck, messages_of_job};
+pub use files::words_of_use;
+pub use index::{Indicators, Names, indicators_of, names_of};
+pub use indicators::push_indicator;
 pub use listing::{Outcome, write_listing};
 pub use messages::{ErrorMessage, RunCard, SourceMessages, WarningMessage, messages_of};
+pub use names::Sort;
 pub use notes::{CardNotes, Note, notes_of_cards, notes_under};
 pub use source::SourceRange;

@@ -24,13 +24,15 @@ pub struct Outcome {
 }
 
 impl Outcome {
-    pub(crate) const NONE: Outcome = Outcome {
+    /// No source, error or warning.
+    pub const NONE: Outcome = Outcome {
         sources: 0,
         faults: 0,
         warnings: 0,
     };
 
-    fn with(self, other: Outcome) -> Outcome {
+    /// The sums of two outcomes.
+    pub fn with(self, other: Outcome) -> Outcome {
         Outcome {
             sources: self.sources.saturating_add(other.sources),
             faults: self.faults.saturating_add(other.faults),

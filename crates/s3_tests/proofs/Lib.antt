@@ -1,1 +1,2 @@
+mod SmallFile
 mod FirstTurns

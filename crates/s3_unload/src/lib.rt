@@ -2,7 +2,7 @@
 //!
 //! What is proved, for every pack, layout and writer:
 //!
-//! - `unload` writes exactly the heading and a row for each chosen record of the file, in the order of the keys where it has an
+//! - `unload` writes exactly the heading and a row for each chosen record of the file, in the order of the keys if it has an
 //!   index: the cells that show the values of the layout's fields, each of which can be shown. It returns how many records aren't
 //!   chosen (`wrote`);
 //! - it is refused only by the pack's header, its labels and the index, if a value can't be shown, or if memory or the
@@ -15,7 +15,7 @@
 //!
 //! A chosen record that has a value that can't be shown is reported by its number in the file; that it is the first one of the table, that
 //! the reported field and position are the ones in error, and that the rows before it are written and nothing after other
-//! refusals, is only tested. So is what is written with another delimiter than the comma, as what it reads, and the words of
+//! refusals, is only tested. So is what is written with another delimiter than the comma, as what it reads, and the texts of
 //! refusals.
 #![tactic(auto)]
 

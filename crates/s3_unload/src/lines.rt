@@ -22,15 +22,15 @@ use std::io::Write;
 /// How a record is written as a line.
 #[derive(Clone, Copy)]
 pub enum LineForm {
-    /// As its characters.
+    /// A byte as its character.
     Text,
-    /// As two hexadecimal digits for each byte.
+    /// A byte as two hexadecimal digits.
     Hexadecimal,
 }
 
 /// Writes a line for each record of a file of an area, in the order of the file, whatever its index says.
 ///
-/// Refused as `unload` is; with `NoCharacter` at the first byte that has none, where the lines before it are written.
+/// Refused as `unload` is, and with `NoCharacter` at the first byte without a character; then the lines before it are written.
 pub fn unload_lines<W: Write>(
     alloc: Global,
     pack: &[u8],

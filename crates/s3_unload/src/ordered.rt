@@ -1,4 +1,4 @@
-//! The records of a file, in the order of their keys where it has an index.
+//! The records of a file, in the order of their keys if it has an index.
 ghost use Rattle.std.specs.Prelude.{◌≡◌, Some, true, length, slice_get, OnOk, IfOk, IfErr};
 ghost use Rattle.s3_slots.specs.Inner.Kept.{IsOfPack};
 ghost use Rattle.s3_slots.specs.Labels.{is_indexed as is_indexed_spec};

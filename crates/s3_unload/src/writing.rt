@@ -27,10 +27,10 @@ use std::alloc::Global;
 use std::io::Write;
 
 /// Writes a file of an area as a table: the names of the layout's fields, and a row for each record that is chosen, in the order of
-/// the keys where the file has an index. Returns how many records aren't chosen, and so have no row.
+/// the keys if the file has an index. Returns how many records aren't chosen, and so have no row.
 ///
 /// Refused with `Mount`, `NotFound`, `DamagedLabel`, `OtherLength`, `BadIndex` and `NoMemory`, and then nothing is written; with
-/// `Hidden` at the first chosen record with a value that can't be shown, by its number in the file, where the rows before it are
+/// `Hidden` at the first chosen record with a value that can't be shown, by its number in the file; then the rows before it are
 /// written; and with `File`.
 pub fn unload<W: Write>(
     alloc: Global,
@@ -124,7 +124,7 @@ fn write_row(row: &ByteRecord, writer: &mut Writer<Vec<u8>>) -> Result<(), Unloa
     }
 }
 
-/// Writes a row for each chosen record, and returns how many records aren't chosen. Where one has a value that can't be shown, it is
+/// Writes a row for each chosen record, and returns how many records aren't chosen. If one has a value that can't be shown, it is
 /// reported by its number in the file.
 #[tactic(auto, using(crate::proofs::Opening::place_counted, crate::proofs::RowLemmas::row_refused))]
 fn write_rows(

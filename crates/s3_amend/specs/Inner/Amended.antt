@@ -13,21 +13,24 @@ use Rattle.s3_record_types.specs.Inner.Chosen.{is_chosen}
 use Rattle.s3_unload.specs.Inner.Ordered.{in_order}
 use Rattle.s3_load.specs.Inner.Columns.{LieApart}
 use Rattle.s3_load.specs.Inner.Records.{HasTaken}
+use Rattle.s3_amend.specs.Inner.Meant.{IsMeant}
 use Rattle.s3_amend.specs.Inner.Settings.{AreNamed, values_of}
 use Rattle.s3_amend.specs.declared.amending.AmendedRecord.{AmendedRecord}
 use Rattle.s3_amend.specs.declared.amendment.Amendment.{Amendment}
 
--- a record in which the fields that settings name have got their values, and no other byte has changed
+-- a record in which the fields that settings name have got their values, and no other byte has changed; it was of the chosen type, and is
 pub record AmendsRecord (amendment : Amendment) (label : FileLabel) (before after : List ℕ) : Type 0 where
   pub fields : List Field
   pub named : AreNamed amendment.layout.now.fields.items label amendment.settings.now (length amendment.settings.now) fields
   pub apart : LieApart fields
   pub taken : HasTaken fields (values_of amendment.settings.now) before (length fields) after
-  pub is_meant : is_chosen amendment.chosen.now after ≡ true
+  pub was_chosen : is_chosen amendment.chosen.now before ≡ true
+  pub chosen : is_chosen amendment.chosen.now after ≡ true
 
--- The file of a label has the same records, except for one: that one is amended. No other byte of the file has changed.
+-- The file of a label has the same records, except for the one that is meant: that one is amended. No other byte of the file has changed.
 pub record AmendsFile (amendment : Amendment) (label : FileLabel) (amended : AmendedRecord) (old new : List (List ℕ)) : Type 0 where
   pub fits : label.record_length ≡ amendment.layout.now.record_length
+  pub is_meant : IsMeant amendment.which amendment.layout.now.fields.items label (in_order label old) amended.place
   pub there : slice_get (in_order label old) amended.place ≡ Some amended.before.items
   pub record_is : AmendsRecord amendment label amended.before.items amended.after.items
   pub records : in_order label new ≡ slice_set (in_order label old) amended.place amended.after.items

@@ -1,5 +1,6 @@
 -- What is done at a desk.
 use Rattle.std.specs.Prelude.{◌≡◌, ◌≢◌, ◌⊎◌, ◌+◌, ◌*◌, ◌-◌, ◌≤◌, ◌<◌, ℕ, Bool, true, false, List, [], ◌∷◌, ◌++◌, length, filter, Option, Some, None, Result, Ok, Err}
+use Rattle.std.specs.List.{list_all}
 use Rattle.s3_cards.specs.Inner.Levels.{other}
 use Rattle.s3_cards.specs.Printed.{Printed}
 use Rattle.s3_cards.specs.declared.levels.LevelId.{LevelId}
@@ -58,13 +59,22 @@ turns_in level entries = length (filter is_turn (own level entries))
 abbrev pub lines_in : LevelId → List Entry → ℕ
 lines_in level entries = length (filter is_drain (own level entries))
 
--- how many replies a level takes by entries
-abbrev pub replies_taken : LevelId → List Entry → ℕ
-replies_taken level entries = length (filter is_reply (own level entries))
+-- The last entries of a level are so many replies, after all that it had taken at first: with no turn and no line between them.
+pub record RepliesLast (level : LevelId) (first is : List Entry) (count : ℕ) : Type 0 where
+  pub before : List Action
+  pub replies : List Action
+  pub whole : own level is ≡ own level first ++ (before ++ replies)
+  pub are_replies : list_all is_reply replies ≡ true
+  pub many : count ≤ length replies
 
--- no more replies are counted than were taken
+-- if so many replies were the last entries of a level, so many are now
 abbrev pub Counts : (level : LevelId) (was is : List Entry) (old new : ℕ) → Type 0
-Counts level was is old new = replies_taken level was + new ≤ replies_taken level is + old
+Counts level was is old new = (first : List Entry) → RepliesLast level first was old → RepliesLast level first is new
+
+-- a reply more, if one was taken
+abbrev pub with_reply : (is_taken : Bool) → ℕ → ℕ
+with_reply true answers = answers + 1
+with_reply false answers = answers
 
 -- a level has no turn left, or no line
 abbrev pub IsSpent : Bounds → Type 0
@@ -90,9 +100,9 @@ pub record Uses (level : LevelId) (was is : List Entry) (old new : Bounds) (went
 abbrev pub HasReached : LevelId → (was is : List Entry) → Bounds → Type 0
 HasReached level was is bounds = (turns_in level is ≡ turns_in level was + bounds.turns) ⊎ (lines_in level is ≡ lines_in level was + bounds.lines)
 
--- a level has taken so many replies that the operator isn't asked again
+-- a level has taken so many replies, with no turn and no line between them, that the operator isn't asked again
 abbrev pub HasReplied : LevelId → (was is : List Entry) → Type 0
-HasReplied level was is = replies_taken level was + 65535 ≤ replies_taken level is
+HasReplied level was is = RepliesLast level was is 65535
 
 -- how many replies may still be taken before the level goes on
 abbrev pub replies_left : Seat → ℕ

@@ -3,7 +3,7 @@
 use Rattle.std.specs.Prelude.{ℕ, ◌≡◌, List, [], ◌∷◌, Bool, true, false, not, ◌&&◌, ◌||◌, if◌then◌else◌}
 use Rattle.std.specs.List.{list_any}
 use Rattle.std.specs.Str.{bytes_eq as same}
-use Rattle.s3_journal.specs.Inner.Posted.{Posted, OfDecks, OfTable, OfNothing, Line, has_pack, same_posted, start_of}
+use Rattle.s3_journal.specs.Inner.Posted.{Posted, OfDecks, OfTable, OfNothing, Line, is_known, same_posted, start_of}
 use Rattle.s3_journal.specs.declared.standing.Start.{Start}
 use Rattle.s3_journal.specs.declared.standing.Start.TheVariants.{Do, IsPosted, IsOld, IsUnknown}
 
@@ -94,7 +94,7 @@ pub data Event : Type 0 where
   Starts : Attempt → Event
   -- `journal --restore` puts back the pack of a line
   Restores : (pack : List ℕ) → Reached → Event
-  -- somebody puts a copy of a line's pack in its place
+  -- somebody puts a copy of a pack in its place
   Copies : (pack : List ℕ) → Event
   -- something else changes it into a pack that no line has
   Changes : (pack : List ℕ) → Event
@@ -115,14 +115,6 @@ abbrev pub has_posted : Posted → List Entry → Bool
 has_posted posted entries = list_any (λ entry. same_posted entry.posted posted) entries
 
 -- ---- which events are meant
-abbrev pub is_known : (pack : List ℕ) → List Line → Bool
-is_known pack lines = list_any (has_pack pack) lines
-
--- the last line left the pack, or began on it and put no other one back; or no line has the pack
-abbrev pub is_continued : (pack : List ℕ) → List Line → Bool
-is_continued pack [] = true
-is_continued pack (last ∷ older) = same last.after pack || ((not last.restores && same last.before pack) || not (is_known pack (last ∷ older)))
-
 -- a pack that was there before has no more posted to it than these entries: the pack shows what was posted to it
 abbrev pub Shows : (pack : List ℕ) → List Entry → Shop → Type 0
 Shows pack entries shop = (posted : Posted) → has_posted posted (entries_of pack shop.past) ≡ true → has_posted posted entries ≡ true
@@ -130,8 +122,8 @@ Shows pack entries shop = (posted : Posted) → has_posted posted (entries_of pa
 abbrev pub IsMeant : Event → Shop → Type 0
 IsMeant (Starts day) shop = Shows day.after (entries_after day shop) shop
 IsMeant (Restores pack reached) shop = is_known pack shop.lines ≡ true
-IsMeant (Copies pack) shop = is_known pack shop.lines ≡ true
-IsMeant (Changes pack) shop = (is_known pack shop.lines ≡ false) × (is_continued shop.pack shop.lines ≡ true) × Shows pack (entries_here shop) shop
+IsMeant (Copies pack) shop = Unit {0}
+IsMeant (Changes pack) shop = (is_known pack shop.lines ≡ false) × Shows pack (entries_here shop) shop
 
 abbrev pub AreMeant : List Event → Shop → Type 0
 AreMeant [] shop = Unit {0}

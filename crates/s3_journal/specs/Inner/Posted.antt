@@ -77,18 +77,23 @@ made pack line = not line.restores && same line.after pack
 abbrev pub has_pack : (pack : List ℕ) → Line → Bool
 has_pack pack line = same line.after pack || same line.before pack
 
--- the pack itself if a line has it; else the one that the last line left, which something else changed into this pack
-abbrev pub known_as : (pack : List ℕ) → List Line → List ℕ
-known_as pack [] = pack
-known_as pack (last ∷ older) = if list_any (has_pack pack) (last ∷ older) then pack else last.after
+-- some line has the pack
+abbrev pub is_known : (pack : List ℕ) → List Line → Bool
+is_known pack lines = list_any (has_pack pack) lines
 
 -- the lines of the commands that made a pack: the last one that left it, and those that made the pack on which that one began. A pack
--- that no line has continues what the last line left
+-- that no line has was made by something else, from the pack of any line: each of the lines counts
 abbrev pub history : (pack : List ℕ) → List Line → List Line
 history pack [] = []
 history pack (line ∷ older) =
-    if made (known_as pack (line ∷ older)) line then line ∷ history line.before older
-    else history (known_as pack (line ∷ older)) older
+    if not (is_known pack (line ∷ older)) then line ∷ older
+    else if made pack line then line ∷ history line.before older
+    else history pack older
+
+-- the lines from the last one that has the pack
+abbrev pub from_pack : (pack : List ℕ) → List Line → List Line
+from_pack pack [] = []
+from_pack pack (line ∷ older) = if has_pack pack line then line ∷ older else from_pack pack older
 
 -- the last line that posted the same, among those of the commands that made the pack
 abbrev pub posted_in : Posted → (pack : List ℕ) → List Line → Option Line

@@ -14,6 +14,7 @@ use Rattle.s3_ocl.specs.Jobs.{Job}
 use Rattle.s3_level.specs.declared.job.OpenJob.{OpenJob}
 use Rattle.s3_level.specs.declared.level.Level.{Level}
 use Rattle.s3_level.specs.Inner.Holds.{Around, IsJobReady, IsReady, IsUntouched, Spares, Stays}
+use Rattle.s3_level.specs.Inner.Library.{IsOfLibrary}
 use Rattle.s3_level.specs.Inner.Turning.{HasFile, KeepsPlace, ServesFile}
 
 -- ---- the job at work
@@ -53,6 +54,7 @@ pub record MayBegin (level : Level) (pack : Seen) : Type 0 where
 pub record KeepsJob (old new : Level) : Type 0 where
   pub stays : Stays old new
   pub job : new.job ≡ old.job
+  pub of_library : IsOfLibrary old.library old.job → IsOfLibrary new.library new.job
 
 -- it stays what it is, and as ready as it was
 pub record KeepsReady (old new : Level) : Type 0 where

@@ -32,6 +32,7 @@ use Rattle.s3_solo.specs.World.{World, JobAtWork}
 use Rattle.s3_level.specs.declared.job.OpenJob.{OpenJob}
 use Rattle.s3_level.specs.declared.level.Level.{Level}
 use Rattle.s3_level.specs.declared.taken.Taken.{Taken}
+use Rattle.s3_level.specs.Inner.Library.{IsOfLibrary}
 
 -- ---- what a level is shown
 -- the slots and sectors of the pack, its queue of printed lines, and how many may be queued
@@ -141,6 +142,8 @@ IsAtWorkReady level (Some job) = IsJobReady level job
 pub record IsReady (level : Level) (pack : Seen) : Type 0 where
   pub files : AreFilesReady level.id (open_files level.job) pack
   pub job : IsAtWorkReady level.id level.job
+  -- and the cycle of the job at work can be given back
+  pub of_library : IsOfLibrary level.library level.job
 
 -- ---- what is said of calls
 -- What is said of an entry is said of two conditions on worlds, what was held before it and what is held after it, whatever

@@ -4,7 +4,8 @@ use Rattle.std.specs.Prelude.{◌≡◌, ◌<◌, ℕ, length, Bool, List, ◌�
 use Rattle.s3_operator.specs.declared.halt_code.HaltCode.{HaltCode}
 use Rattle.s3_operator.specs.Replies.{is_allowed}
 use Rattle.s3_meaning.specs.Requests.{Request, Ask, End, Jump, Done}
-use Rattle.s3_cycle.specs.Inner.Following.{Resumes, asked, waits, is_fit}
+use Rattle.s3_cycle.specs.Inner.Following.{Resumes, StandsFor, asked, waits, is_fit}
+use Rattle.s3_meaning.specs.Source.{Source}
 use Rattle.s3_cycle.specs.declared.request.FileCall.{FileCall}
 use Rattle.s3_cycle.specs.declared.request.Request.{Request as ProgramRequest}
 use Rattle.s3_cycle.specs.declared.request.Request.TheVariants as asks
@@ -119,12 +120,14 @@ abbrev pub SuitsSought : Sought → OpenFile → Type 0
 SuitsSought (sought.Key key) file = (is_indexed file.label.organization ≡ true) × (length key.items ≡ file.label.key_length)
 SuitsSought (sought.RecordNumber number) file = Unit {0}
 
--- which job it is, and the places of its cards
+-- which job it is, the places of its cards, and what its cycle stands for
 pub record KeepsPlace (old new : OpenJob) : Type 0 where
   pub number : new.number ≡ old.number
+  pub program : new.program ≡ old.program
   pub next : new.next ≡ old.next
   pub end : new.end ≡ old.end
   pub level : new.files.level ≡ old.files.level
+  pub stands : (source : Source) → StandsFor old.cycle source → StandsFor new.cycle source
 
 -- each world that was held with a job at work has its request served by the files of the job and the answer put last, or it names none of
 -- them and the world stays

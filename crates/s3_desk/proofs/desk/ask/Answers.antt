@@ -23,10 +23,10 @@ returns-clause-asks g c =
     c.args.operator.now c.reply.new.self c.give.result c.reply.ensures c.in-Some-reply.is (λ w held. record { last = c.in-Some.ensures.last w held; unanswered = c.in-Some.ensures.unanswered }) c.give.ensures.goes c.give.ensures.allowed
 
 pub returns-in_default-clause-counts : goal.returns-in_default-clause-counts
-returns-in_default-clause-counts g c = counts_same c.args.level c.args.performed.now c.args.performed.now 0 refl
+returns-in_default-clause-counts g c = λ answers. counts_same c.args.level c.args.performed.now c.args.performed.now answers refl
 
 pub returns-in_default-reply-clause-counts : goal.returns-in_default-reply-clause-counts
-returns-in_default-reply-clause-counts g c = counts_same c.args.level c.args.performed.now c.args.performed.now 0 refl
+returns-in_default-reply-clause-counts g c = λ answers. counts_same c.args.level c.args.performed.now c.args.performed.now answers refl
 
 pub returns-clause-counts : goal.returns-clause-counts
 returns-clause-counts g c =

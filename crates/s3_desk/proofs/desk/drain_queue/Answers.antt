@@ -2,7 +2,7 @@ use Rattle.std.proofs.Common.{refl, arith}
 use Rattle.s3_cards.specs.declared.levels.LevelId.{LevelId}
 use Rattle.s3_solo.specs.declared.action.Action.TheVariants.{Drain}
 use Rattle.s3_bureau.specs.declared.entry.Entry.{Entry}
-use Rattle.s3_desk.proofs.Sittings.{acts_alone, after_acts, does_nothing, idle_not, on_not_cut, once, one_more, queue_ends, refused_not, so_far_goes, uses_line, uses_no_more}
+use Rattle.s3_desk.proofs.Sittings.{acts_alone, after_acts, does_nothing, idle_not, lines_end, none_drained, on_not_cut, once, one_more, queue_ends, refused_not, uses_ends, uses_line}
 use Rattle.s3_desk.proofs.desk.drain_queue.Goals as goal
 
 abbrev drain : LevelId → Entry
@@ -46,7 +46,17 @@ pub returns-in-Refused-clause-after : goal.returns-in-Refused-clause-after
 returns-in-Refused-clause-after g c = λ first before. c.in_ok-step.ensures.quiet (refused_not c.in_ok-step.field-0 _ c.in-Refused.is) c.loop-left.performed first (c.loop-left.invariant.1.1.1.0 first before)
 
 pub returns-clause-goes : goal.returns-clause-goes
-returns-clause-goes g c = so_far_goes g.M.Machine.holds c.args.level c.args.performed.now c.loop-left.performed c.args.bureau.now c.loop-left.bureau c.loop-left.went c.loop-left.invariant.0
+returns-clause-goes g c = lines_end g.M.Machine.holds c.args.level c.args.performed.now c.loop-left.performed c.args.bureau.now c.loop-left.bureau c.loop-left.went c.cut_unless_on.result c.loop-left.invariant.0 c.cut_unless_on.ensures.on c.cut_unless_on.ensures.cut
 
 pub returns-clause-uses : goal.returns-clause-uses
-returns-clause-uses g c = uses_no_more c.args.level c.args.performed.now c.loop-left.performed c.args.left.now c.loop-left.left c.loop-left.went c.loop-left.invariant.1.0 (omega (arith, c.loop-left-test.false))
+returns-clause-uses g c = uses_ends c.args.level c.args.performed.now c.loop-left.performed c.args.left.now c.loop-left.left c.loop-left.went c.cut_unless_on.result c.loop-left.invariant.1.0 (omega (arith, c.loop-left-test.false)) c.cut_unless_on.ensures.on c.cut_unless_on.ensures.cut
+
+pub returns-in-Idle-clause-idle : goal.returns-in-Idle-clause-idle
+returns-in-Idle-clause-idle g c = none_drained g.M.Machine.holds c.args.level c.args.performed.now c.loop-left.performed c.args.bureau.now c.loop-left.bureau c.loop-left.went c.loop-left.invariant.0 c.loop-left.invariant.1.1.0
+
+pub returns-in-Refused-clause-idle : goal.returns-in-Refused-clause-idle
+returns-in-Refused-clause-idle g c = none_drained g.M.Machine.holds c.args.level c.args.performed.now c.loop-left.performed c.args.bureau.now c.loop-left.bureau c.loop-left.went c.loop-left.invariant.0 c.loop-left.invariant.1.1.0
+
+pub returns-clause-idle : goal.returns-clause-idle
+returns-clause-idle g c = λ not_on.
+    none_drained g.M.Machine.holds c.args.level c.args.performed.now c.loop-left.performed c.args.bureau.now c.loop-left.bureau c.loop-left.went c.loop-left.invariant.0 c.loop-left.invariant.1.1.0 (λ on. not_on (c.cut_unless_on.ensures.on on))

@@ -4,7 +4,7 @@ use Rattle.s3_desk.specs.declared.ends.End.TheVariants.{Cut as CutOff, OutOfRepl
 use Rattle.s3_desk.specs.declared.ends.Ends.{Ends}
 use Rattle.s3_desk.specs.Inner.Desk.{GoesOn, HasReached, IsSpent, RoundEnds, Spends}
 use Rattle.s3_desk.proofs.Rounds.{sits_at_first, sits_on_and_on, sits_to_end}
-use Rattle.s3_desk.proofs.Sittings.{both_then, counts_then, has_reached, has_replied, none_taken, spends_then}
+use Rattle.s3_desk.proofs.Sittings.{both_then, counts_none, counts_then, has_reached, has_replied, none_taken, spends_then}
 use Rattle.s3_desk.proofs.desk.operate.Goals as goal
 
 pub loop-ends-init : goal.loop-ends-init
@@ -17,7 +17,7 @@ loop-ends-init g c = (
       subst (Spends One c.args.performed.now c.args.performed.now c.args.bounds) (sym c.new-seat_one.ensures.left) (none_taken One c.args.performed.now c.args.performed.now c.args.bounds refl),
       (
         subst (Spends Two c.args.performed.now c.args.performed.now c.args.bounds) (sym c.new-seat_two.ensures.left) (none_taken Two c.args.performed.now c.args.performed.now c.args.bounds refl),
-        (λ first before. before, (λ first kept. kept, (refl, (omega (arith, c.new-seat_one.ensures.none), omega (arith, c.new-seat_two.ensures.none))))),
+        (λ first before. before, (λ first kept. kept, (refl, (counts_none One c.args.performed.now c.new-seat_one.result.answers c.new-seat_one.ensures.none, counts_none Two c.args.performed.now c.new-seat_two.result.answers c.new-seat_two.ensures.none)))),
       ),
     ),
   ),

@@ -1,6 +1,6 @@
-use Rattle.std.proofs.Common.{arith, subst}
+use Rattle.std.proofs.Common.{◌∙◌, arith, subst}
 use Rattle.s3_desk.specs.Inner.Rounds.{ShowsHalt}
-use Rattle.s3_desk.proofs.Sittings.{counts_fewer, level_goes, level_kept}
+use Rattle.s3_desk.proofs.Sittings.{counts_went, level_goes, level_kept}
 use Rattle.s3_desk.proofs.desk.serve.Goals as goal
 
 pub returns-clause-goes : goal.returns-clause-goes
@@ -22,4 +22,4 @@ returns-clause-serves g c =
 pub returns-clause-counts : goal.returns-clause-counts
 returns-clause-counts g c =
     let goes = level_goes g.M.Machine.holds c.args.level c.args.performed.now c.go_on.new.performed c.args.bureau.now c.go_on.new.bureau c.in_ok-went.went c.in_ok-went.ensures.goes in
-    counts_fewer c.args.level c.args.performed.now c.go_on.new.performed goes.more c.args.seat.now.answers c.show.new.seat.answers goes.whole (omega (arith, c.show.ensures.same_answers, c.follow.ensures.fewer))
+    counts_went c.args.level c.args.performed.now c.go_on.new.performed goes.more c.args.seat.now.answers c.show.new.seat.answers c.in_ok-went.went goes.whole (λ on. c.show.ensures.same_answers ∙ c.follow.ensures.none on) c.in_ok-went.ensures.idle (omega (arith, c.show.ensures.same_answers, c.follow.ensures.fewer))

@@ -38,3 +38,6 @@ pub returns-in_ok-note-in-Acted-clause-uses : goal.returns-in_ok-note-in-Acted-c
 returns-in_ok-note-in-Acted-clause-uses g c =
     uses_turns c.args.level c.from-times.result c.args.performed.now c.note.new.self c.args.left.now _ c.in_ok-note-in-Acted.ensures.noted (omega (arith, c.from-times.ensures, c.in_ok-taken.ensures.times.some))
     (omega (arith, c.from-times.ensures, c.in_ok-taken.ensures.times.few, c.in-Some.ensures, c.min.ensures)) refl
+
+pub returns-in_ok-note-in-Acted-clause-idle : goal.returns-in_ok-note-in-Acted-clause-idle
+returns-in_ok-note-in-Acted-clause-idle g c = λ not_on. absurd (not_on refl)

@@ -1,5 +1,5 @@
 use Rattle.std.proofs.Common.{take}
-use Rattle.s3_dump.proofs.DumpLemmas.{reads}
+use Rattle.s3_dump.specs.Inner.Writing.{reads}
 use Rattle.s3_dump.proofs.reading.restore.Given as goal
 
 abbrev pub invariant-loop-place : goal.invariant-loop-place

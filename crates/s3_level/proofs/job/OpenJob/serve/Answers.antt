@@ -31,7 +31,7 @@ read_next-requires-clause-long g c =
 
 pub returns-in_err-found-in-Read : goal.returns-in_err-found-in-Read
 returns-in_err-found-in-Read g c =
-    file_failed {T = Bool} c.from_residual.result c.from_residual.ensures.1 (called c.requires.can.job c.pending.ensures.request c.pending.ensures.file c.in-File.is c.in-Read.is (c.index.result.now, c.index.ensures, c.in-Some.is)) c.requires.can (record { number = refl; next = refl; end = refl; level = c.read_next.ensures.level })
+    file_failed {T = Bool} c.from_residual.result c.from_residual.ensures.1 (called c.requires.can.job c.pending.ensures.request c.pending.ensures.file c.in-File.is c.in-Read.is (c.index.result.now, c.index.ensures, c.in-Some.is)) c.requires.can (record { number = refl; program = refl; next = refl; end = refl; level = c.read_next.ensures.level; stands = λ source stands. stands })
     (pack_read c.requires.can.files.pack c.read_next.ensures.areas (record { keeps = c.read_next.ensures.keeps; failures = c.in_err-found-in-Read.ensures.failures }))
 
 pub resume-requires : goal.resume-requires
@@ -42,7 +42,7 @@ resume-requires g c =
 pub returns-in_ok-found-in-Read : goal.returns-in_ok-found-in-Read
 returns-in_ok-found-in-Read g c =
     file_served record_read (found_answer c.in_ok-found-in-Read.found c.read_next.new.bytes) (called c.requires.can.job c.pending.ensures.request c.pending.ensures.file c.in-File.is c.in-Read.is (c.index.result.now, c.index.ensures, c.in-Some.is)) refl c.requires.can c.in_ok-found-in-Read.ensures.serves c.read_next.ensures.ready (record { level = c.read_next.ensures.level; opened = c.read_next.ensures.opened }) refl
-    (resumes_meant c.args.self.now.cycle c.resume.new.self c.record_answer.result (found_answer c.in_ok-found-in-Read.found c.read_next.new.bytes) c.record_answer.ensures c.resume.ensures) (record { number = refl; next = refl; end = refl; level = c.read_next.ensures.level })
+    (resumes_meant c.args.self.now.cycle c.resume.new.self c.record_answer.result (found_answer c.in_ok-found-in-Read.found c.read_next.new.bytes) c.record_answer.ensures c.resume.ensures) (record { number = refl; program = refl; next = refl; end = refl; level = c.read_next.ensures.level; stands = λ source stands. (c.resume.ensures source stands).0 })
     (pack_read {result = Ok c.in_ok-found-in-Read.found} c.requires.can.files.pack c.read_next.ensures.areas (record { keeps = c.read_next.ensures.keeps; failures = c.in_ok-found-in-Read.ensures.failures }))
 
 pub chain-requires-clause-there : goal.chain-requires-clause-there
@@ -63,7 +63,7 @@ chain-requires-clause-long g c =
 
 pub returns-in_err-found-in-Chain : goal.returns-in_err-found-in-Chain
 returns-in_err-found-in-Chain g c =
-    file_failed {T = Bool} c.from_residual-in_err-found-in-Chain.result c.from_residual-in_err-found-in-Chain.ensures.1 (called c.requires.can.job c.pending.ensures.request c.pending.ensures.file c.in-File.is c.in-Chain.is (c.index.result.now, c.index.ensures, c.in-Some.is)) c.requires.can (record { number = refl; next = refl; end = refl; level = c.chain.ensures.opened.level })
+    file_failed {T = Bool} c.from_residual-in_err-found-in-Chain.result c.from_residual-in_err-found-in-Chain.ensures.1 (called c.requires.can.job c.pending.ensures.request c.pending.ensures.file c.in-File.is c.in-Chain.is (c.index.result.now, c.index.ensures, c.in-Some.is)) c.requires.can (record { number = refl; program = refl; next = refl; end = refl; level = c.chain.ensures.opened.level; stands = λ source stands. stands })
     c.in_err-found-in-Chain.ensures.pack
 
 pub resume-requires-in-Chain : goal.resume-requires-in-Chain
@@ -74,7 +74,7 @@ resume-requires-in-Chain g c =
 pub returns-in_ok-found-in-Chain : goal.returns-in_ok-found-in-Chain
 returns-in_ok-found-in-Chain g c =
     file_served (record_chained (sought_of c.in-Chain.sought)) (found_answer c.in_ok-found-in-Chain.found c.chain.new.bytes) (called c.requires.can.job c.pending.ensures.request c.pending.ensures.file c.in-File.is c.in-Chain.is (c.index.result.now, c.index.ensures, c.in-Some.is)) refl c.requires.can c.in_ok-found-in-Chain.ensures.serves c.chain.ensures.ready c.chain.ensures.opened refl
-    (resumes_meant c.args.self.now.cycle c.resume-in-Chain.new.self c.record_answer-in-Chain.result (found_answer c.in_ok-found-in-Chain.found c.chain.new.bytes) c.record_answer-in-Chain.ensures c.resume-in-Chain.ensures) (record { number = refl; next = refl; end = refl; level = c.chain.ensures.opened.level })
+    (resumes_meant c.args.self.now.cycle c.resume-in-Chain.new.self c.record_answer-in-Chain.result (found_answer c.in_ok-found-in-Chain.found c.chain.new.bytes) c.record_answer-in-Chain.ensures c.resume-in-Chain.ensures) (record { number = refl; program = refl; next = refl; end = refl; level = c.chain.ensures.opened.level; stands = λ source stands. (c.resume-in-Chain.ensures source stands).0 })
     c.in_ok-found-in-Chain.ensures.pack
 
 pub append-requires-clause-there : goal.append-requires-clause-there
@@ -87,7 +87,7 @@ append-requires-clause-takes g c =
 
 pub returns-in_err-put-in-Append : goal.returns-in_err-put-in-Append
 returns-in_err-put-in-Append g c =
-    file_failed {T = Put} c.from_residual-in_err-put-in-Append.result c.from_residual-in_err-put-in-Append.ensures.1 (called c.requires.can.job c.pending.ensures.request c.pending.ensures.file c.in-File.is c.in-Append.is (c.index.result.now, c.index.ensures, c.in-Some.is)) c.requires.can (record { number = refl; next = refl; end = refl; level = c.append.ensures.level })
+    file_failed {T = Put} c.from_residual-in_err-put-in-Append.result c.from_residual-in_err-put-in-Append.ensures.1 (called c.requires.can.job c.pending.ensures.request c.pending.ensures.file c.in-File.is c.in-Append.is (c.index.result.now, c.index.ensures, c.in-Some.is)) c.requires.can (record { number = refl; program = refl; next = refl; end = refl; level = c.append.ensures.level; stands = λ source stands. stands })
     (pack_changed _ c.append.ensures.pack c.append.ensures.areas c.append.ensures.spares c.append.ensures.says c.in_err-put-in-Append.ensures.failures)
 
 pub resume-requires-in-Append : goal.resume-requires-in-Append
@@ -97,7 +97,7 @@ resume-requires-in-Append g c =
 pub returns-in_ok-put-in-Append : goal.returns-in_ok-put-in-Append
 returns-in_ok-put-in-Append g c =
     file_served (record_appended c.record.result.now) (put_answer c.in_ok-put-in-Append.put) (called c.requires.can.job c.pending.ensures.request c.pending.ensures.file c.in-File.is c.in-Append.is (c.index.result.now, c.index.ensures, c.in-Some.is)) (ap record_appended c.record.ensures.value) c.requires.can c.in_ok-put-in-Append.ensures.serves c.in_ok-put-in-Append.ensures.ready (record { level = c.append.ensures.level; opened = c.append.ensures.opened }) refl
-    (resumes_meant c.args.self.now.cycle c.resume-in-Append.new.self c.answer_of_put.result (put_answer c.in_ok-put-in-Append.put) c.answer_of_put.ensures c.resume-in-Append.ensures) (record { number = refl; next = refl; end = refl; level = c.append.ensures.level })
+    (resumes_meant c.args.self.now.cycle c.resume-in-Append.new.self c.answer_of_put.result (put_answer c.in_ok-put-in-Append.put) c.answer_of_put.ensures c.resume-in-Append.ensures) (record { number = refl; program = refl; next = refl; end = refl; level = c.append.ensures.level; stands = λ source stands. (c.resume-in-Append.ensures source stands).0 })
     (pack_changed (Ok c.in_ok-put-in-Append.put) c.append.ensures.pack c.append.ensures.areas c.append.ensures.spares c.append.ensures.says c.in_ok-put-in-Append.ensures.failures)
 
 pub add-requires-clause-there : goal.add-requires-clause-there
@@ -114,7 +114,7 @@ add-requires-clause-takes g c =
 
 pub returns-in_err-put-in-Add : goal.returns-in_err-put-in-Add
 returns-in_err-put-in-Add g c =
-    file_failed {T = Put} c.from_residual-in_err-put-in-Add.result c.from_residual-in_err-put-in-Add.ensures.1 (called c.requires.can.job c.pending.ensures.request c.pending.ensures.file c.in-File.is c.in-Add.is (c.index.result.now, c.index.ensures, c.in-Some.is)) c.requires.can (record { number = refl; next = refl; end = refl; level = c.add.ensures.level })
+    file_failed {T = Put} c.from_residual-in_err-put-in-Add.result c.from_residual-in_err-put-in-Add.ensures.1 (called c.requires.can.job c.pending.ensures.request c.pending.ensures.file c.in-File.is c.in-Add.is (c.index.result.now, c.index.ensures, c.in-Some.is)) c.requires.can (record { number = refl; program = refl; next = refl; end = refl; level = c.add.ensures.level; stands = λ source stands. stands })
     (pack_changed _ c.add.ensures.pack c.add.ensures.areas c.add.ensures.spares c.add.ensures.says c.in_err-put-in-Add.ensures.failures)
 
 pub resume-requires-in-Add : goal.resume-requires-in-Add
@@ -124,7 +124,7 @@ resume-requires-in-Add g c =
 pub returns-in_ok-put-in-Add : goal.returns-in_ok-put-in-Add
 returns-in_ok-put-in-Add g c =
     file_served (record_added c.record-in-Add.result.now) (put_answer c.in_ok-put-in-Add.put) (called c.requires.can.job c.pending.ensures.request c.pending.ensures.file c.in-File.is c.in-Add.is (c.index.result.now, c.index.ensures, c.in-Some.is)) (ap record_added c.record-in-Add.ensures.value) c.requires.can c.in_ok-put-in-Add.ensures.serves c.in_ok-put-in-Add.ensures.ready (record { level = c.add.ensures.level; opened = c.add.ensures.opened }) refl
-    (resumes_meant c.args.self.now.cycle c.resume-in-Add.new.self c.answer_of_put-in-Add.result (put_answer c.in_ok-put-in-Add.put) c.answer_of_put-in-Add.ensures c.resume-in-Add.ensures) (record { number = refl; next = refl; end = refl; level = c.add.ensures.level })
+    (resumes_meant c.args.self.now.cycle c.resume-in-Add.new.self c.answer_of_put-in-Add.result (put_answer c.in_ok-put-in-Add.put) c.answer_of_put-in-Add.ensures c.resume-in-Add.ensures) (record { number = refl; program = refl; next = refl; end = refl; level = c.add.ensures.level; stands = λ source stands. (c.resume-in-Add.ensures source stands).0 })
     (pack_changed (Ok c.in_ok-put-in-Add.put) c.add.ensures.pack c.add.ensures.areas c.add.ensures.spares c.add.ensures.says c.in_ok-put-in-Add.ensures.failures)
 
 pub change-requires-clause-there : goal.change-requires-clause-there
@@ -137,7 +137,7 @@ change-requires-clause-own g c =
 
 pub returns-in_err-put-in-Update : goal.returns-in_err-put-in-Update
 returns-in_err-put-in-Update g c =
-    file_failed {T = Put} c.from_residual-in_err-put-in-Update.result c.from_residual-in_err-put-in-Update.ensures.1 (called c.requires.can.job c.pending.ensures.request c.pending.ensures.file c.in-File.is c.in-Update.is (c.index.result.now, c.index.ensures, c.in-Some.is)) c.requires.can (record { number = refl; next = refl; end = refl; level = c.change.ensures.opened.level })
+    file_failed {T = Put} c.from_residual-in_err-put-in-Update.result c.from_residual-in_err-put-in-Update.ensures.1 (called c.requires.can.job c.pending.ensures.request c.pending.ensures.file c.in-File.is c.in-Update.is (c.index.result.now, c.index.ensures, c.in-Some.is)) c.requires.can (record { number = refl; program = refl; next = refl; end = refl; level = c.change.ensures.opened.level; stands = λ source stands. stands })
     c.in_err-put-in-Update.ensures.pack
 
 pub resume-requires-in-Update : goal.resume-requires-in-Update
@@ -147,5 +147,5 @@ resume-requires-in-Update g c =
 pub returns-in_ok-put-in-Update : goal.returns-in_ok-put-in-Update
 returns-in_ok-put-in-Update g c =
     file_served (record_updated c.in-Update.current c.changes.result.now) (put_answer c.in_ok-put-in-Update.put) (called c.requires.can.job c.pending.ensures.request c.pending.ensures.file c.in-File.is c.in-Update.is (c.index.result.now, c.index.ensures, c.in-Some.is)) (ap (record_updated c.in-Update.current) c.changes.ensures) c.requires.can c.in_ok-put-in-Update.ensures.serves c.in_ok-put-in-Update.ensures.ready c.change.ensures.opened refl
-    (resumes_meant c.args.self.now.cycle c.resume-in-Update.new.self c.answer_of_put-in-Update.result (put_answer c.in_ok-put-in-Update.put) c.answer_of_put-in-Update.ensures c.resume-in-Update.ensures) (record { number = refl; next = refl; end = refl; level = c.change.ensures.opened.level })
+    (resumes_meant c.args.self.now.cycle c.resume-in-Update.new.self c.answer_of_put-in-Update.result (put_answer c.in_ok-put-in-Update.put) c.answer_of_put-in-Update.ensures c.resume-in-Update.ensures) (record { number = refl; program = refl; next = refl; end = refl; level = c.change.ensures.opened.level; stands = λ source stands. (c.resume-in-Update.ensures source stands).0 })
     c.in_ok-put-in-Update.ensures.pack

@@ -2,6 +2,7 @@ use Rattle.std.proofs.Common.{ℕ, List, Ok, ap, subst, sym, ◌∙◌}
 use Rattle.std.specs.Prelude.{OnOk}
 use Rattle.s3_level.specs.declared.level.Level.{Level}
 use Rattle.s3_level.specs.Inner.Calls.{IsJobOf, KeepsJob}
+use Rattle.s3_level.specs.Inner.Library.{IsOfLibrary}
 use Rattle.s3_level.specs.Inner.Turning.{Starts}
 use Rattle.s3_level.proofs.Starting.{set_then_performed}
 use Rattle.s3_ocl.specs.Streams.{jobs_from}
@@ -21,7 +22,7 @@ returns-clause-leaves g c = leaves_behind c.take_job-number.ensures.keeps.stays 
 
 pub perform-requires : goal.perform-requires
 perform-requires g c =
-    let keeps : KeepsJob c.args.self.now c.set.new.self = keeps_then c.take_job-number.ensures.keeps (record { stays = c.set.ensures.stays; job = ap (λ (level : Level). level.job) c.set.ensures.value }) in
+    let keeps : KeepsJob c.args.self.now c.set.new.self = keeps_then c.take_job-number.ensures.keeps (record { stays = c.set.ensures.stays; job = ap (λ (level : Level). level.job) c.set.ensures.value; of_library = subst (λ (level : Level). IsOfLibrary level.library level.job) (sym c.set.ensures.value) }) in
     record {
       sound = subst (λ (deck : List (List ℕ)). IsJobOf deck c.args.job.now) (sym keeps.stays.deck) c.requires.sound;
       free = record { ready = ready_kept keeps c.requires.free.ready; rests = keeps.job ∙ c.requires.free.rests };
