@@ -1,12 +1,15 @@
 """What the benchmarks share that count whole runs: cards, sessions, plain programs, and instructions counted by valgrind."""
 
 import argparse
+import contextlib
 import os
 import re
 import shutil
+import statistics
 import subprocess
 import sys
 import tempfile
+import time
 from typing import NamedTuple
 
 import packs
@@ -60,6 +63,21 @@ def run(command, given, folder=None):
     if done.returncode != 0:
         sys.exit("bench: %s: status %d: %s" % (command[0], done.returncode, done.stderr[-300:]))
     return done
+
+
+def timed(command, given, folder=None):
+    """The seconds of a run, and the most memory that it had, in megabytes."""
+    with tempfile.TemporaryFile("w+") as source:
+        source.write(given)
+        source.seek(0)
+        start = time.monotonic()
+        process = subprocess.Popen(command, stdin=source, stdout=subprocess.DEVNULL, stderr=subprocess.DEVNULL, cwd=folder)
+        _, status, used = os.wait4(process.pid, 0)
+        seconds = time.monotonic() - start
+        process.returncode = os.waitstatus_to_exitcode(status)
+    if process.returncode != 0:
+        sys.exit("bench: %s: status %d" % (command[0], process.returncode))
+    return seconds, used.ru_maxrss / 1024
 
 
 def instructions(command, given, folder=None):
@@ -156,21 +174,46 @@ class Work(NamedTuple):
             packs.expect(os.path.join(folder, "after.pack"), self.wanted, name)
         return count
 
+    def rust_command(self, program):
+        return [program] + ([] if self.pack is None else ["before.pack"]) + ([] if self.wanted is None else ["after.pack"])
+
+    def bureau_command(self, exe):
+        return [exe, "run"] + ([] if self.pack is None else ["--pack", "before.pack"]) + ([] if self.wanted is None else ["--save", "after.pack"])
+
     def in_rust(self, program, folder):
-        names = ([] if self.pack is None else ["before.pack"]) + ([] if self.wanted is None else ["after.pack"])
-        return self.count("plain Rust", [program] + names, self.cards, self.report, folder)
+        return self.count("plain Rust", self.rust_command(program), self.cards, self.report, folder)
 
     def by_bureau(self, exe, folder):
-        options = ([] if self.pack is None else ["--pack", "before.pack"]) + ([] if self.wanted is None else ["--save", "after.pack"])
-        return self.count("bureau", [exe, "run"] + options, self.session, output((self.report, "")), folder)
+        return self.count("bureau", self.bureau_command(exe), self.session, output((self.report, "")), folder)
 
-    def in_cobol(self, program, loader):
-        """In a folder of its own, because GnuCOBOL's files are there."""
+    @contextlib.contextmanager
+    def folder_for_cobol(self, loader):
+        """A folder with GnuCOBOL's files."""
         with tempfile.TemporaryDirectory() as folder:
             keep(folder, self.for_cobol)
             if loader:
                 run([loader], "", folder)
+            yield folder
+
+    def in_cobol(self, program, loader):
+        with self.folder_for_cobol(loader) as folder:
             return instructions_for(self.report, "GnuCOBOL", [program], self.cards, folder)
+
+    def tell_times(self, rounds, exe, in_rust, in_cobol, loader, folder):
+        """Runs the programs by turns, and prints of each the median of its times, and the most memory that it had."""
+        runs = {"bureau": [], "plain Rust": [], "GnuCOBOL": []}
+        for _ in range(rounds):
+            runs["bureau"].append(timed(self.bureau_command(exe), self.session, folder))
+            runs["plain Rust"].append(timed(self.rust_command(in_rust), self.cards, folder))
+            if in_cobol:
+                with self.folder_for_cobol(loader) as own:
+                    runs["GnuCOBOL"].append(timed([in_cobol], self.cards, own))
+        whole = statistics.median(seconds for seconds, _ in runs["bureau"])
+        for name, found in runs.items():
+            if found:
+                median = statistics.median(seconds for seconds, _ in found)
+                print("%s: %.1f milliseconds, of which bureau takes %.2f times as many; at most %.1f MB" % (
+                    name, 1000 * median, whole / median, max(memory for _, memory in found)), flush=True)
 
 
 def arguments(what, size):
@@ -179,6 +222,7 @@ def arguments(what, size):
     parser.add_argument("--exe", default=BUILT)
     parser.add_argument("--" + what, dest="size", type=int, default=size)
     parser.add_argument("--keep")
+    parser.add_argument("--times", type=int, default=0)
     return parser.parse_args()
 
 
@@ -188,7 +232,9 @@ def compared(here, what, size, made, each, bounds):
     `valgrind --tool=callgrind` counts the instructions of the built program, which `./prove` makes, of `plain.rs` (`rustc -O`) and of
     `plain.cob` (`cobc -x -O2`). The reports must be those that `made` works out, byte for byte. So must the packs of the built
     program and of plain Rust, except for the spool's blocks. The status is 1 if they aren't, or if a limit is passed: those of
-    `bounds`, and 2.1 times the instructions for twice the work. Without `cobc` the status is 3 if all else is as wanted."""
+    `bounds`, and 2.1 times the instructions for twice the work. Without `cobc` the status is 3 if all else is as wanted.
+
+    `--times N` also runs each program N times, by turns, and prints times and memory."""
     options = arguments(what, size)
     exe = os.path.abspath(options.exe)
     rust, cobol, bureau = Counted("plain Rust", []), Counted("GnuCOBOL", []), Counted("bureau", [])
@@ -204,6 +250,8 @@ def compared(here, what, size, made, each, bounds):
             if in_cobol:
                 cobol.counts.append(work.in_cobol(in_cobol, loader))
             bureau.counts.append(work.by_bureau(exe, folder))
+            if options.times and count == options.size:
+                work.tell_times(options.times, exe, in_rust, in_cobol, loader, folder)
     cobol = cobol if cobol.counts else None
     for counted in filter(None, (rust, cobol, bureau)):
         counted.tell(options.size, each)

@@ -186,6 +186,26 @@ const FORMS: &'static [Choice] = &[
         name: "pdf",
         help: "PDF documents of forms with bars",
     },
+    Choice {
+        name: "html",
+        help: "A book of HTML pages, with index.html for the day",
+    },
+];
+
+/// The sizes of the pages of documents.
+const PAPER_SIZES: &'static [Choice] = &[
+    Choice {
+        name: "form",
+        help: "The form itself, 14 7/8 by 11 inches",
+    },
+    Choice {
+        name: "a4",
+        help: "A4 on its side, with the form scaled",
+    },
+    Choice {
+        name: "letter",
+        help: "US Letter on its side, with the form scaled",
+    },
 ];
 
 /// `bureau operate` and its options.
@@ -258,12 +278,12 @@ const OPERATE: CommandWords = CommandWords {
         },
         Word {
             name: "turns",
-            takes: Takes::U32("N"),
+            takes: Takes::Number("N", 0, u32::MAX),
             help: "Stops a level after N turns; 1000000000 by default",
         },
         Word {
             name: "lines",
-            takes: Takes::U32("N"),
+            takes: Takes::Number("N", 0, u32::MAX),
             help: "Stops a level after N of its lines are printed; its queued lines, up to 127, are printed too; 1000000 by default",
         },
         Word {
@@ -317,6 +337,11 @@ const OPERATE: CommandWords = CommandWords {
             help: "Leaves out the bars of forms in pdf",
         },
         Word {
+            name: "paper-size",
+            takes: Takes::OneOf("SIZE", PAPER_SIZES),
+            help: "The size of pages in pdf; form by default",
+        },
+        Word {
             name: "jobs",
             takes: Takes::Nothing,
             help: "Lists the jobs of the decks, and runs none; needs --deck1, --deck2 or both",
@@ -348,7 +373,7 @@ const OPERATE: CommandWords = CommandWords {
         },
         Word {
             name: "keep",
-            takes: Takes::U16("N"),
+            takes: Takes::Number("N", 1, 999),
             help: "Keeps the last N packs that --save replaces, as FILE.1, the newest, to FILE.N; needs --save",
         },
         Word {
@@ -419,7 +444,7 @@ const JOURNAL: CommandWords = CommandWords {
         },
         Word {
             name: "restore",
-            takes: Takes::U32("DAY"),
+            takes: Takes::Number("DAY", 0, u32::MAX),
             help: "Puts the kept pack back that this day left, 0 the one before day 1; needs --save",
         },
         Word {

@@ -44,7 +44,7 @@ pub const DELETE: CommandWords = CommandWords {
         },
         Word {
             name: "slot",
-            takes: Takes::U16("N"),
+            takes: Takes::Number("N", 0, 31),
             help: "The slot, 0 to 31, in place of a label; `list --table` shows the numbers",
         },
         Word {

@@ -8,7 +8,8 @@ use s3_journal::{Posting, Work, checksum_of};
 use s3_journal_files::{GivenPack, JournalFile, NewLine, keep_journal_apart};
 
 /// What to do if a table is added to its file already.
-const AGAIN: &str = "to add it once more, give --again";
+const AGAIN: &str =
+    "to add it once more, or if that file was deleted or replaced since, give --again";
 
 /// A journal that gets a line of a command.
 #[derive(Drop)]

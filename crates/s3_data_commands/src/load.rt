@@ -1,19 +1,26 @@
-//! `bureau load`: a table in CSV from standard input, into a file of a pack.
+//! `bureau load`: a table in CSV or records of a fixed length from standard input, into a file of a pack.
 ghost use Rattle.std.specs.Prelude.{◌≤◌};
 
 use crate::cells::{Reading, with_cells};
 use crate::fault::Fault;
 use crate::filled::{Words, push_shown_name};
+use crate::fixed::{
+    AS_ASCII, AS_EBCDIC, LINE_FEEDS, RECORD_LENGTH, fixed_form, fixed_load_sentence,
+    layout_of_length, record_sentence, refuse_loaded_cells, test_length,
+};
 use crate::inputs::{delimiter_of, layout_of};
 use crate::journaling::{OpenJournal, journal_for, unmade_if_refused};
-use crate::load_sentences::{heading_sentence, load_sentence, value_sentence};
+use crate::load_sentences::{
+    TOO_LONG, heading_sentence, load_sentence, utf16_words, value_sentence,
+};
 use crate::pack_words::{
     Save, keep_input, label_of, level_of, no_room_sentence, number_of, pack_to_change, refused,
     room_in, saved, tell_done, wrong_words,
 };
+use crate::standard_input::{InputFault, read_input};
 use crate::words::{
     AGAIN, DATE_FIELDS, DECIMAL, DELIMITER, JOURNAL, LABEL, LAYOUT, LAYOUT_FILE, LAYOUT_TYPE,
-    LEVEL_ALIAS, LEVEL_AREA, OVERWRITE, PACK, SAFE_CELLS, SAVE,
+    LEVEL_ALIAS, LEVEL_AREA, MOST_RECORDS, OVERWRITE, PACK, SAFE_CELLS, SAVE,
 };
 use clap::ArgMatches;
 use s3_cards::ebcdic::DIGIT_0;
@@ -26,9 +33,9 @@ use s3_load::{HeadingFault, LoadFault, Order, Room, ValueFault};
 use s3_paper_commands::status::{DONE, FILE_WRONG, OPTIONS_WRONG, PACK_SAVED, REFUSED};
 use s3_paper_commands::words::{Choice, CommandWords, Example, Status, Takes, Word, value_of};
 use s3_refusals::Shown;
-use s3_unload::{Area, find_file};
+use s3_unload::{Area, FixedForm, find_file};
 use std::alloc::{AllocError, Global};
-use std::io::{ErrorKind, IsTerminal, Read, Write};
+use std::io::{IsTerminal, Write};
 
 /// How many faults of a table are reported.
 const MOST_TOLD: usize = 20;
@@ -49,16 +56,26 @@ const RETENTIONS: &'static [Choice] = &[
     },
 ];
 
+/// The forms in which records are read.
+const FORMS: &'static [Choice] = &[
+    Choice {
+        name: "csv",
+        help: "A table in CSV; needs --layout",
+    },
+    AS_EBCDIC,
+    AS_ASCII,
+];
+
 /// `bureau load` and its options.
 pub const LOAD: CommandWords = CommandWords {
     name: "load",
-    about: "Loads the table in CSV of standard input into a file of a level",
+    about: "Loads the table in CSV or the records of standard input into a file of a level",
     aliases: &[LEVEL_ALIAS],
     statuses: &[
         PACK_SAVED,
         Status {
             number: REFUSED,
-            meaning: "the table, the layout or the pack is refused, or memory ran out; nothing is saved",
+            meaning: "the input, the layout or the pack is refused, or memory ran out; nothing is saved",
         },
         OPTIONS_WRONG,
         FILE_WRONG,
@@ -72,26 +89,34 @@ pub const LOAD: CommandWords = CommandWords {
             line: "bureau load --pack shop.pack --save shop.pack --area 1 --label CUSTOM --layout customers.rpg --append < new.csv",
             purpose: "Adds the records of a table to a file",
         },
+        Example {
+            line: "bureau load --pack shop.pack --save shop.pack --area 1 --label CUSTOM --as ebcdic --record-length 32 < customers.dat",
+            purpose: "Makes a file of the records of another program",
+        },
     ],
     words: &[
         PACK,
         SAVE,
         LEVEL_AREA,
         LABEL,
-        Word {
-            takes: Takes::Needed("FILE"),
-            ..LAYOUT
-        },
+        LAYOUT,
         LAYOUT_FILE,
         LAYOUT_TYPE,
         Word {
+            name: "as",
+            takes: Takes::OneOf("FORM", FORMS),
+            help: "What standard input has; a table in csv by default",
+        },
+        LINE_FEEDS,
+        RECORD_LENGTH,
+        Word {
             name: "records",
-            takes: Takes::U32("N"),
+            takes: Takes::Number("N", 1, MOST_RECORDS),
             help: "Space for so many records; as many as the table has by default",
         },
         Word {
             name: "tracks",
-            takes: Takes::U16("N"),
+            takes: Takes::Number("N", 1, 999),
             help: "So many tracks instead",
         },
         Word {
@@ -156,8 +181,10 @@ struct LoadWords<'a> {
     level: LevelId,
     label: &'a str,
     name: Name,
-    /// The deck that has the layout.
-    source: &'a str,
+    /// The deck that has the layout, if one is named.
+    source: Option<&'a str>,
+    /// The form of records of a fixed length; none for a table.
+    form: Option<FixedForm>,
     room: Room,
     retention: Retention,
     date: [u8; 6],
@@ -175,13 +202,19 @@ impl<'a> LoadWords<'a> {
         let label = value_of(matches, "label");
         let name = label_of(rt, label)?;
         test_words(rt, matches)?;
+        let form = fixed_form(rt, matches)?;
+        test_length(rt, matches, form)?;
+        if form.is_some() {
+            refuse_loaded_cells(rt, matches)?;
+        }
         Ok(LoadWords {
             path: value_of(matches, "pack"),
             save: value_of(matches, "save"),
             level,
             label,
             name,
-            source: value_of(matches, "layout"),
+            source: matches.get_str("layout"),
+            form,
             room: room_of(rt, matches)?,
             retention: retention_of(rt, matches)?,
             date: date_of(rt, matches)?,
@@ -195,14 +228,11 @@ impl<'a> LoadWords<'a> {
 
 fn load_table(rt: &HostRuntime, matches: &ArgMatches<'_>) -> Result<(), Fault> {
     let words = LoadWords::read(rt, matches)?;
-    let reading = Reading {
-        capitals: matches.get_flag("capitals"),
-        thousands: matches.get_str("thousands"),
-    };
-    let layout = layout_of(rt, matches, words.source)?;
-    let layout = with_cells(rt, matches, words.source, layout, reading)?;
+    let layout = layout_by(rt, matches, words.source)?;
     let (pack, locked) = pack_to_change(rt, matches, words.path, words.save)?;
-    keep_input(rt, words.save, words.source)?;
+    if let Some(source) = words.source {
+        keep_input(rt, words.save, source)?;
+    }
     let replaced = replaced_file(rt.alloc(), &words, &pack);
     let (loaded, journal, work) = load_journaled(rt, matches, &words, &layout, &pack)?;
     let save = Save {
@@ -218,7 +248,25 @@ fn load_table(rt: &HostRuntime, matches: &ArgMatches<'_>) -> Result<(), Fault> {
     )
 }
 
-/// A pack with the table of standard input in the file that the options name, its journal, if one is named, and what its line has.
+/// The layout of the source in a deck, with the cells that the options ask for; if no deck is named, one of the record length that
+/// they give.
+fn layout_by(
+    rt: &HostRuntime,
+    matches: &ArgMatches<'_>,
+    source: Option<&str>,
+) -> Result<SourceLayout, Fault> {
+    let Some(source) = source else {
+        return layout_of_length(rt, matches);
+    };
+    let reading = Reading {
+        capitals: matches.get_flag("capitals"),
+        thousands: matches.get_str("thousands"),
+    };
+    let layout = layout_of(rt, matches, source)?;
+    with_cells(rt, matches, source, layout, reading)
+}
+
+/// A pack with the table of standard input in the file that the options name; its journal, if one is named; and what its line has.
 fn load_journaled<'a>(
     rt: &HostRuntime,
     matches: &ArgMatches<'a>,
@@ -226,44 +274,49 @@ fn load_journaled<'a>(
     layout: &SourceLayout,
     pack: &[u8],
 ) -> Result<(Vec<u8>, Option<OpenJournal<'a>>, Work), Fault> {
-    tell_waiting(rt);
+    tell_waiting(rt, words);
+    let table = table_of(rt, words)?;
     if words.appends && matches.get_str("journal").is_some() {
-        return append_once(rt, matches, words, layout, pack);
+        return append_once(rt, matches, words, layout, pack, &table);
     }
     let journal = journal_for(rt, matches, words.path, pack, Posting::Nothing)?;
-    let done = loaded(rt, words, layout, pack, rt.stdin());
+    let done = loaded(rt, words, layout, pack, &table);
     let loaded = unmade_if_refused(rt, &journal, done)?;
     Ok((loaded, journal, Work::Load))
 }
 
-/// A pack with the table of standard input after the records of the file that the options name. A table that the journal has for this
-/// file is refused, unless `--again` is given.
+/// A pack with a table after the records of the file that the options name. A table that the journal has for this file is refused,
+/// unless `--again` is given.
 fn append_once<'a>(
     rt: &HostRuntime,
     matches: &ArgMatches<'a>,
     words: &LoadWords<'a>,
     layout: &SourceLayout,
     pack: &[u8],
+    table: &[u8],
 ) -> Result<(Vec<u8>, Option<OpenJournal<'a>>, Work), Fault> {
-    let table = table_of(rt, words)?;
-    let added = appended(rt.alloc(), words, &table)?;
+    let added = appended(rt.alloc(), words, table)?;
     let posting = Posting::Table {
         table: added.table.as_str(),
         file: added.file.as_str(),
     };
     let journal = journal_for(rt, matches, words.path, pack, posting)?;
-    let done = loaded(rt, words, layout, pack, table.as_slice());
+    let done = loaded(rt, words, layout, pack, table);
     let loaded = unmade_if_refused(rt, &journal, done)?;
     Ok((loaded, journal, Work::Append(added)))
 }
 
-/// The table of standard input.
+/// The table of standard input, or its records of a fixed length. Too long an input is refused, and so is a table in UTF-16.
 fn table_of(rt: &HostRuntime, words: &LoadWords<'_>) -> Result<Vec<u8>, Fault> {
-    let mut table = Vec::new(rt.alloc());
-    match rt.stdin().read_to_end(&mut table) {
-        Ok(_) => Ok(table),
-        Err(error) if error.kind() == ErrorKind::OutOfMemory => Err(Fault::NoMemory),
-        Err(_) => Err(fault_of(rt, words, &LoadFault::File)),
+    match read_input(rt.alloc(), rt.stdin()) {
+        Ok(records) if words.form.is_some() => Ok(records),
+        Ok(table) => match utf16_words(&table) {
+            None => Ok(table),
+            Some(sentence) => Err(refused(String::from_str(rt.alloc(), sentence))),
+        },
+        Err(InputFault::TooLong) => Err(refused(String::from_str(rt.alloc(), TOO_LONG))),
+        Err(InputFault::Failed) => Err(fault_of(rt, words, &LoadFault::File)),
+        Err(InputFault::NoMemory) => Err(Fault::NoMemory),
     }
 }
 
@@ -277,13 +330,13 @@ fn appended(alloc: Global, words: &LoadWords<'_>, table: &[u8]) -> Result<Append
     })
 }
 
-/// A pack with a table in the file that the options name.
-fn loaded<R: Read + Drop>(
+/// A pack with a table, or records of a fixed length, in the file that the options name.
+fn loaded(
     rt: &HostRuntime,
     words: &LoadWords<'_>,
     layout: &SourceLayout,
     pack: &[u8],
-    table: R,
+    table: &[u8],
 ) -> Result<Vec<u8>, Fault> {
     let order = Order {
         level: words.level,
@@ -298,18 +351,37 @@ fn loaded<R: Read + Drop>(
         fills: words.fills,
         delimiter: words.delimiter,
     };
-    match s3_load::load(rt.alloc(), pack, &order, table) {
+    match load_by(rt.alloc(), pack, &order, words.form, table) {
         Ok(loaded) => Ok(loaded),
         Err(fault) => Err(fault_of(rt, words, &fault)),
     }
 }
 
+/// A pack with the records of a text in a form of a fixed length, or of a table.
+fn load_by(
+    alloc: Global,
+    pack: &[u8],
+    order: &Order<'_>,
+    form: Option<FixedForm>,
+    text: &[u8],
+) -> Result<Vec<u8>, LoadFault> {
+    match form {
+        Some(form) => s3_load::load_fixed(alloc, pack, order, form, text),
+        None => s3_load::load(alloc, pack, order, text),
+    }
+}
+
 /// Tells what is waited for, where standard input is a terminal.
-fn tell_waiting(rt: &HostRuntime) {
+fn tell_waiting(rt: &HostRuntime, words: &LoadWords<'_>) {
     if rt.stdin().is_terminal() {
+        let awaited = if words.form.is_some() {
+            "records"
+        } else {
+            "table in CSV"
+        };
         let _ = writeln!(
             rt.stderr(),
-            "load waits for the table in CSV on standard input: type it, and Control-D at its end"
+            "load waits for the {awaited} on standard input: type it, and Control-D at its end"
         );
     }
 }
@@ -539,14 +611,11 @@ fn sentence_of(
     words: &LoadWords<'_>,
     fault: &LoadFault,
 ) -> Result<String, AllocError> {
-    load_sentence(
-        alloc,
-        words.path,
-        number_of(words.level),
-        words.label,
-        words.appends,
-        fault,
-    )
+    let level = number_of(words.level);
+    if words.form.is_some() {
+        return fixed_load_sentence(alloc, words.path, level, words.label, words.appends, fault);
+    }
+    load_sentence(alloc, words.path, level, words.label, words.appends, fault)
 }
 
 /// The refusal of a file for which a level has no space.
@@ -590,11 +659,24 @@ fn tell_values(
     count: u64,
 ) -> Result<(), AllocError> {
     for place in 0..faults.len().min(MOST_TOLD) {
-        let sentence = value_sentence(rt.alloc(), &faults[place], words.has_comma)?;
+        let sentence = fault_sentence(rt.alloc(), &faults[place], words)?;
         let _ = writeln!(rt.stderr(), "{sentence}");
     }
     tell_others(rt, count);
     Ok(())
+}
+
+/// What is wrong with a row of a table, or with a record of a fixed length.
+fn fault_sentence(
+    alloc: Global,
+    fault: &ValueFault,
+    words: &LoadWords<'_>,
+) -> Result<String, AllocError> {
+    if words.form.is_some() {
+        record_sentence(alloc, fault)
+    } else {
+        value_sentence(alloc, fault, words.has_comma)
+    }
 }
 
 /// Reports how many of so many faults aren't reported.

@@ -1,6 +1,7 @@
 //! Sentences of refusals of `load`: what is wrong, where, and what mends it.
 
 use crate::filled::{Words, push_name};
+use crate::fixed::push_fixed;
 use crate::pack_words::{DAMAGED, NO_LABEL, label_words, mount_words};
 use s3_cards::{Name, host_byte};
 use s3_cells::{CellFault, place_without_character};
@@ -22,8 +23,32 @@ const DELIMITER_CURES: [(u8, &str); 3] = [
     (b'|', "if | is between the cells, give --delimiter '|'"),
 ];
 
+/// The refusal of a table that is too long.
+pub const TOO_LONG: &str =
+    "standard input has more than 268,435,456 bytes, and a pack can't hold so large a table; see what the < or the pipe gives, or load the table in parts, the further ones by --append";
+
+/// The refusal of a table in UTF-16 that has the low byte of each character first.
+const UTF16_LOW_FIRST: &str =
+    "the table is in UTF-16; save it as CSV in UTF-8, or convert it by `iconv -f UTF-16LE -t UTF-8 TABLE > NEW`";
+
+/// The refusal of a table in UTF-16 that has the high byte of each character first.
+const UTF16_HIGH_FIRST: &str =
+    "the table is in UTF-16; save it as CSV in UTF-8, or convert it by `iconv -f UTF-16BE -t UTF-8 TABLE > NEW`";
+
 /// How many characters of a cell are shown.
 const MOST_SHOWN: usize = 40;
+
+/// Why a table in UTF-16 isn't loaded, and how to convert it; `None` for any other table. UTF-16 has a byte order mark, or a NUL as one
+/// of its first two bytes.
+pub fn utf16_words(table: &[u8]) -> Option<&'static str> {
+    match table {
+        [0xff, 0xfe, ..] => Some(UTF16_LOW_FIRST),
+        [0xfe, 0xff, ..] => Some(UTF16_HIGH_FIRST),
+        [high, low, ..] if *high != 0 && *low == 0 => Some(UTF16_LOW_FIRST),
+        [high, low, ..] if *high == 0 && *low != 0 => Some(UTF16_HIGH_FIRST),
+        _ => None,
+    }
+}
 
 /// Why a label can't be used by a load.
 fn load_label_words(fault: LabelFault) -> &'static str {
@@ -223,6 +248,9 @@ fn push_reason(text: &mut String, reason: &Reason, has_comma: bool) -> Result<()
             text.push_str(" already; leave the row out")
         }
         Reason::OtherType(fault) => push_other_type(text, *fault),
+        Reason::Short(..) | Reason::Long(..) | Reason::NoLineFeed(..) | Reason::NoCode(..) => {
+            push_fixed(text, reason)
+        }
     }
 }
 
@@ -317,7 +345,7 @@ fn first_line(cell: &[u8]) -> &[u8] {
 }
 
 /// Appends the characters of a key in quotes.
-fn push_key(text: &mut String, key: &[u8]) -> Result<(), AllocError> {
+pub fn push_key(text: &mut String, key: &[u8]) -> Result<(), AllocError> {
     text.push('"')?;
     for code in key {
         text.push(char::from(host_byte(*code)))?;

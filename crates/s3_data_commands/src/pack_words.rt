@@ -14,7 +14,7 @@ use s3_journal::Work;
 use s3_labels::{LabelFault, MountFault};
 use s3_listing::{FreeRoom, file_size, free_room};
 use s3_pack_care::CareFault;
-use s3_refusals::{Shown, beginning_words};
+use s3_refusals::{Shown, beginning_words, is_closed};
 use std::alloc::{AllocError, Global};
 use std::fs;
 use std::io::Write;
@@ -168,12 +168,24 @@ pub fn refuse_file_there(rt: &HostRuntime, save: &str) -> Result<(), Fault> {
 
 /// Why a pack isn't saved over an existing file, and the cure: `--overwrite` writes only over packs and empty files.
 fn there_words(rt: &HostRuntime, save: &str) -> &'static str {
-    if is_pack_at(rt, Path::new(save)) {
+    if is_folder(rt, save) {
+        "{path} is a folder; give the name of a file"
+    } else if is_closed(rt, save) {
+        "{path} is there already, and permission to read it is denied, so it may be a pack; give another name"
+    } else if is_pack_at(rt, Path::new(save)) {
         "{path} is there already; give another name, or --overwrite to write over it"
     } else if is_empty_at(rt, Path::new(save)) {
         "{path} is there already, and is empty; give another name, or --overwrite to write over it"
     } else {
         "{path} is there already and is no pack; give another name, or remove that file"
+    }
+}
+
+/// Whether a folder is at a path.
+fn is_folder(rt: &HostRuntime, path: &str) -> bool {
+    match fs::metadata(rt, path) {
+        Ok(found) => found.is_dir(),
+        Err(_) => false,
     }
 }
 
@@ -298,9 +310,9 @@ pub struct Save<'j> {
     pub work: Work,
 }
 
-/// Saves a pack, whole or not at all, once its journal has the line of the command; the line is removed again if the save fails. Without `--overwrite` a file that has
-/// appeared by now isn't overwritten. A new file has no more permissions than the pack that was read. The packs that were read
-/// aren't taken for leftovers of a save.
+/// Saves a pack, whole or not at all, once its journal has the line of the command; the line is removed again if the save fails. Without
+/// `--overwrite` a file that has appeared by now isn't overwritten. A new file has no more permissions than the pack that was read. The
+/// packs that were read aren't taken for leftovers of a save.
 pub fn saved<'a>(
     rt: &HostRuntime,
     matches: &ArgMatches<'_>,

@@ -3,6 +3,9 @@ ghost use Rattle.std.specs.Prelude.{◌≤◌};
 
 use crate::cells::{Reading, with_cells};
 use crate::fault::Fault;
+use crate::fixed::{
+    AS_ASCII, AS_EBCDIC, LINE_FEEDS, fixed_form, hidden_place, hidden_sentence, refuse_cells,
+};
 use crate::inputs::{delimiter_of, layout_of};
 use crate::pack_words::{area_number, label_of, pack_of, tell, wrong_words};
 use crate::sentences::{others_sentence, unload_sentence};
@@ -15,7 +18,7 @@ use s3_cards::{LevelId, Name};
 use s3_host_files::StandardOutput;
 use s3_paper_commands::status::{DONE, FILE_WRONG, OPTIONS_WRONG, PERSON_NEEDED, REFUSED};
 use s3_paper_commands::words::{Choice, CommandWords, Example, Status, Takes, Word, value_of};
-use s3_unload::{Area, LineForm, UnloadFault};
+use s3_unload::{Area, FixedForm, LineForm, UnloadFault};
 use std::alloc::Global;
 
 /// The forms in which records are written.
@@ -32,12 +35,14 @@ const FORMS: &'static [Choice] = &[
         name: "hex",
         help: "A line of hexadecimal digits for each record",
     },
+    AS_EBCDIC,
+    AS_ASCII,
 ];
 
 /// `bureau unload` and its options.
 pub const UNLOAD: CommandWords = CommandWords {
     name: "unload",
-    about: "Writes the records of a file as a table in CSV, as texts or in hexadecimal digits",
+    about: "Writes the records of a file as a table in CSV, as texts, in hexadecimal digits or as records of a fixed length",
     aliases: &[],
     statuses: &[
         Status {
@@ -64,6 +69,10 @@ pub const UNLOAD: CommandWords = CommandWords {
             line: "bureau unload --pack shop.pack --area 1 --label CUSTOM --as hex",
             purpose: "Shows the bytes of each record",
         },
+        Example {
+            line: "bureau unload --pack shop.pack --area 1 --label CUSTOM --as ebcdic > customers.dat",
+            purpose: "Writes the records end to end, for another program",
+        },
     ],
     words: &[
         PACK,
@@ -77,6 +86,7 @@ pub const UNLOAD: CommandWords = CommandWords {
             takes: Takes::OneOf("FORM", FORMS),
             help: "How the records are written; by default csv with a layout, else text",
         },
+        LINE_FEEDS,
         DELIMITER,
         SAFE_CELLS,
         DECIMAL,
@@ -101,6 +111,10 @@ fn unload_file(rt: &HostRuntime, matches: &ArgMatches<'_>) -> Result<(), Fault> 
     let label = value_of(matches, "label");
     let name = label_of(rt, label)?;
     let path = value_of(matches, "pack");
+    if let Some(form) = fixed_form(rt, matches)? {
+        refuse_cells(rt, matches)?;
+        return unload_fixed(rt, path, number, label, name, form);
+    }
     let form = form_of(rt, matches)?;
     test_words(rt, matches, form)?;
     let done = match (form, matches.get_str("layout")) {
@@ -117,6 +131,40 @@ fn unload_file(rt: &HostRuntime, matches: &ArgMatches<'_>) -> Result<(), Fault> 
         Ok(0) => Ok(()),
         Ok(others) => tell(rt, others_sentence(rt.alloc(), path, number, label, others)),
         Err(fault) => Err(fault_of(rt.alloc(), path, number, label, &fault)),
+    }
+}
+
+/// Writes the records of a file in a form of a fixed length.
+fn unload_fixed(
+    rt: &HostRuntime,
+    path: &str,
+    area: u16,
+    label: &str,
+    name: Name,
+    form: FixedForm,
+) -> Result<(), Fault> {
+    let pack = pack_of(rt, path)?;
+    match s3_unload::unload_fixed(
+        rt.alloc(),
+        &pack,
+        area_of(area),
+        name,
+        form,
+        &mut StandardOutput::new(rt),
+    ) {
+        Ok(()) => Ok(()),
+        Err(fault) => Err(fixed_fault(rt.alloc(), path, area, label, &fault)),
+    }
+}
+
+/// What a refusal is to the command, if records of a fixed length were to be written.
+fn fixed_fault(alloc: Global, path: &str, area: u16, label: &str, fault: &UnloadFault) -> Fault {
+    let Some((record, position)) = hidden_place(fault) else {
+        return fault_of(alloc, path, area, label, fault);
+    };
+    match hidden_sentence(alloc, label, record, position) {
+        Ok(sentence) => Fault::Waits(sentence),
+        Err(_) => Fault::NoMemory,
     }
 }
 

@@ -2,6 +2,9 @@
 
 use s3_paper_commands::words::{Alias, Choice, Takes, Word};
 
+/// The most records that a file has.
+pub const MOST_RECORDS: u32 = 999_999;
+
 /// The pack that is read.
 pub const PACK: Word = Word {
     name: "pack",

@@ -38,6 +38,10 @@ const EXISTS: &str = "is there already; give another name, or --overwrite to wri
 const OTHER_PACK: &str =
     "is there already and isn't the pack that is read; name it after --pack, too, or give another name after --save; --overwrite would lose its files";
 
+/// The refusal of a file of `--save` that this user may not read.
+const CLOSED: &str =
+    "is there already, and permission to read it is denied, so it may be a pack; give another name after --save";
+
 /// The refusal of a pack that a new one would replace.
 const NEW_OVER_PACK: &str =
     "is a pack, and the day begins with a new one, as no --pack is given: add --pack with its name, or name another file after --save";
@@ -52,6 +56,8 @@ pub enum DayFault<'a> {
     Cli(CliFault),
     /// The options name no day; this is why.
     Usage(&'static str),
+    /// A call on standard output failed.
+    Output(io::Error),
     /// This file isn't written whole.
     File(&'a str),
     /// A call on this file failed.
@@ -84,6 +90,8 @@ pub enum DayFault<'a> {
     Deck(LevelId),
     /// This output would overwrite a file.
     Exists(&'a str),
+    /// The pack would be saved over this file, which this user may not read.
+    Closed(&'a str),
     /// The pack would be saved over this file, which isn't the pack that was read.
     OtherPack(&'a str),
     /// This output is the same file as another output, or as a file that is read.
@@ -137,6 +145,15 @@ impl<'a> DayFault<'a> {
         }
     }
 
+    /// The fault of a failed call on standard output.
+    pub fn of_output(error: &io::Error) -> DayFault<'a> {
+        if error.kind() == io::ErrorKind::OutOfMemory {
+            DayFault::Cli(OUT_OF_MEMORY)
+        } else {
+            DayFault::Output(*error)
+        }
+    }
+
     /// Why the file of a pack can't be read or saved, or an output can't be opened.
     pub fn of_pack(fault: &FileFault, name: &'a str) -> DayFault<'a> {
         match fault {
@@ -158,7 +175,8 @@ impl<'a> DayFault<'a> {
     {
         match self {
             DayFault::Usage(_) => WRONG_WORDS,
-            DayFault::File(_)
+            DayFault::Output(_)
+            | DayFault::File(_)
             | DayFault::Call(_, _)
             | DayFault::TooLarge(_)
             | DayFault::NoPack(_)
@@ -197,6 +215,7 @@ impl<'a> DayFault<'a> {
             DayFault::Redo => writeln!(writer, "bureau: redo"),
             DayFault::Keep(name) => write_pack(writer, "keep", *name),
             DayFault::Restore(name) => write_pack(writer, "restore", *name),
+            DayFault::Output(error) => write_output(writer, *error),
             DayFault::Call(name, error) => write_call(writer, *name, *error),
             DayFault::Hindered(name, hindrance) => write_file(writer, *name, hindrance.words()),
             // A line would get into the file.
@@ -227,6 +246,7 @@ impl<'a> DayFault<'a> {
                 Some((*name, "is a pack, not a deck; name it after --pack"))
             }
             DayFault::Exists(name) => Some((*name, EXISTS)),
+            DayFault::Closed(name) => Some((*name, CLOSED)),
             DayFault::OtherPack(name) => Some((*name, OTHER_PACK)),
             DayFault::Same(name) => Some((*name, SAME)),
             DayFault::Within(name) => Some((
@@ -262,6 +282,12 @@ fn write_file<W: Write>(writer: &mut W, name: &str, sentence: &str) -> io::Resul
 fn write_call<W: Write>(writer: &mut W, name: &str, error: io::Error) -> io::Result<()> {
     let (name, reason) = (Shown(name), Reason(error));
     writeln!(writer, "bureau: {name} can't be read or written: {reason}")
+}
+
+/// Writes why standard output can't be written.
+fn write_output<W: Write>(writer: &mut W, error: io::Error) -> io::Result<()> {
+    let reason = Reason(error);
+    writeln!(writer, "bureau: standard output can't be written: {reason}")
 }
 
 /// Writes that a file is also a standard stream.

@@ -4,7 +4,7 @@ use crate::begun::{named_file, words_kept};
 use crate::fault::DayFault;
 use crate::level_deck::LevelDeck;
 use crate::order::Order;
-use crate::strays::{Looked, look_for_strays};
+use crate::strays::{ReadDecks, look_for_strays};
 use crate::taking_up::take_up;
 use s3_cards::LevelId;
 use s3_command_line::new_pack;
@@ -149,9 +149,12 @@ impl<'a> Decks<'a> {
         take_up(rt, order, LevelId::Two, &mut self.two)
     }
 
-    /// Reports jobs that continue over statements of later jobs. Whether the day is begun all the same, and whether level 1's deck can
-    /// be read.
-    pub fn look(&self, rt: &HostRuntime, order: &Order<'a>) -> Result<Looked, DayFault<'a>> {
+    /// Reads both decks, and reports jobs that continue over statements of later jobs. `None` if the day isn't begun for them.
+    pub fn look(
+        &self,
+        rt: &HostRuntime,
+        order: &Order<'a>,
+    ) -> Result<Option<ReadDecks>, DayFault<'a>> {
         look_for_strays(rt, order, &self.one, &self.two)
     }
 }
@@ -226,10 +229,42 @@ pub fn read_log<'a>(rt: &HostRuntime, path: &'a str) -> Result<DayLog, DayFault<
     match DayLog::read(rt.alloc(), text) {
         Ok(log) => Ok(log),
         Err(LogFault::NoMemory) => Err(DayFault::from(AllocError)),
-        Err(fault) => {
-            let path = Shown(path);
-            let _ = writeln!(rt.stderr(), "{path}: {fault}");
+        Err(LogFault::Line(line)) => {
+            let (path, words) = (Shown(path), line_words(rt, text, line));
+            let _ = writeln!(rt.stderr(), "{path}: line {line} {words}");
             Err(DayFault::Redo)
         }
     }
+}
+
+/// Why a text is no log, by its first line that is refused: the end of a sentence that begins with the line.
+fn line_words(rt: &HostRuntime, text: &str, line: usize) -> &'static str {
+    if line <= 1 {
+        "isn't the first line of a log; give the whole file that --log wrote"
+    } else if begins_log(rt, text, line) {
+        "begins a second log; give each log in a file of its own"
+    } else {
+        "is no line of a log"
+    }
+}
+
+/// Whether a line of a text, from 1, begins a log.
+fn begins_log(rt: &HostRuntime, text: &str, line: usize) -> bool {
+    match DayLog::read(rt.alloc(), text_from(text, line)) {
+        Ok(_) => true,
+        Err(LogFault::Line(refused)) => refused > 1,
+        Err(LogFault::NoMemory) => false,
+    }
+}
+
+/// A text from a line on, from 1.
+fn text_from(text: &str, line: usize) -> &str {
+    let mut rest = text;
+    for _line in 1..line {
+        match rest.split_once('\n') {
+            Some((_line, after)) => rest = after,
+            None => return "",
+        }
+    }
+    rest
 }

@@ -8,7 +8,6 @@ use crate::kept_packs::{KeptPack, kept_packs, kept_with, pack_itself};
 use crate::restoring::{Restoring, restore};
 use clap::ArgMatches;
 use s3_cards::LevelId;
-use s3_command_line::FILE;
 use s3_host_files::{StandardOutput, WRITTEN, stream_at};
 use s3_journal::{LevelCount, PostedDay, Saved, Work, saved_of};
 use s3_journal_files::read_journal;
@@ -104,10 +103,10 @@ fn list_journal<'a>(
         return Err(DayFault::Stream(name, stream));
     }
     let text = journal_text(rt, name, form, kept)?;
-    if StandardOutput::new(rt).write_all(text.as_bytes()).is_err() {
-        return Err(DayFault::Cli(FILE));
+    match StandardOutput::new(rt).write_all(text.as_bytes()) {
+        Ok(()) => Ok(()),
+        Err(error) => Err(DayFault::of_output(&error)),
     }
-    Ok(())
 }
 
 /// Reports that the last line of a journal isn't complete.
@@ -115,7 +114,7 @@ fn report_cut(rt: &HostRuntime, name: &str) {
     let name = Shown(name);
     let _ = writeln!(
         rt.stderr(),
-        "{name}: its last line isn't complete, because its command was killed before its pack was saved; the next command with this journal removes it"
+        "{name}: its last line isn't complete, as after a kill or on a full disk; the next command with this journal removes it"
     );
 }
 
@@ -188,7 +187,11 @@ fn push_days(text: &mut String, days: &[PostedDay], kept: &[KeptPack]) -> Result
         if let Some(day) = days.get(place) {
             push_day(text, day)?;
             let saved = saved_of(day, pack_after(days, place, kept));
-            text.push_str(pack_words(saved, place == 0))?;
+            text.push_str(if place == 0 {
+                last_words(saved, !kept.is_empty())
+            } else {
+                pack_words(saved)
+            })?;
             push_kept(text, day, kept)?;
             text.push('\n')?;
         }
@@ -196,13 +199,22 @@ fn push_days(text: &mut String, days: &[PostedDay], kept: &[KeptPack]) -> Result
     Ok(())
 }
 
-/// What a line says of the pack that its command left, given whether it is the last line.
-fn pack_words(saved: Saved, is_last: bool) -> &'static str {
+/// What a line before the last one says of the pack that its command left.
+fn pack_words(saved: Saved) -> &'static str {
     match saved {
         Saved::IsSaved => "",
-        Saved::NotSaved => "; not saved",
-        Saved::NotKnown if is_last => "",
+        Saved::NotSaved => "; the next day began on the pack before it",
         Saved::NotKnown => "; the next day began on another pack",
+    }
+}
+
+/// What the last line says of the pack that its command left, given whether the options name the pack that is there.
+fn last_words(saved: Saved, is_named: bool) -> &'static str {
+    match saved {
+        Saved::IsSaved => "",
+        Saved::NotSaved => "; the pack that is there is the one before it",
+        Saved::NotKnown if is_named => "; the pack that is there is another one",
+        Saved::NotKnown => "",
     }
 }
 

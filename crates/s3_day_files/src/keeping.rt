@@ -272,16 +272,15 @@ fn free_number(rt: &HostRuntime, place: Path<'_>, last: u16) -> io::Result<u16> 
 
 /// The number of the oldest of the packs that are kept from a number on, without a gap; that number if none is.
 fn oldest_number(rt: &HostRuntime, place: Path<'_>, first: u16) -> io::Result<u16> {
-    for number in first..MOST_KEPT {
-        let next = kept_name(rt.alloc(), place, number.saturating_add(1))?;
+    let mut oldest = first;
+    for number in first..MOST_KEPT + 1 {
         let kept = kept_name(rt.alloc(), place, number)?;
-        if at_name(rt, kept.as_str())? != AtName::Pack
-            || at_name(rt, next.as_str())? != AtName::Pack
-        {
-            return Ok(number);
+        if at_name(rt, kept.as_str())? != AtName::Pack {
+            break;
         }
+        oldest = number;
     }
-    Ok(MOST_KEPT)
+    Ok(oldest)
 }
 
 /// Renumbers the packs that are kept, if the new pack has its name; else the pack that was set aside loses its second name.

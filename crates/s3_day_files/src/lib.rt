@@ -37,6 +37,6 @@ pub use outputs::{
     KeptOutputs, Output, Outputs, remove_made, test_decks, test_journal, test_outputs, write_deck,
 };
 pub use paper::{Form, Paper};
-pub use strays::Looked;
+pub use strays::ReadDecks;
 pub use taking_up::list_jobs;
 pub use watch::Watch;

@@ -1,7 +1,6 @@
 //! What the options of `operate` ask for.
 
 use crate::exit_zero::ExitZero;
-use crate::keeping::MOST_KEPT;
 use crate::paper::Paper;
 use clap::ArgMatches;
 use s3_cards::LevelId;
@@ -88,12 +87,11 @@ impl<'a> Order<'a> {
         let from1 = position(words, "from1")?;
         let from2 = position(words, "from2")?;
         let paper = Paper::read(words)?;
-        let keep = keep_of(words)?;
         let exit_zero = ExitZero::read(words.get_str("exit-zero"))?;
         Ok(Order {
             pack: words.get_str("pack"),
             save: words.get_str("save"),
-            keep,
+            keep: words.get_one::<u16>("keep").unwrap_or(0),
             deck1,
             deck2,
             rules,
@@ -161,15 +159,6 @@ pub fn replies_of<'a>(words: &ArgMatches<'a>) -> Result<(Option<&'a str>, bool),
         }
     }
     Ok((rules, has_lines))
-}
-
-/// How many packs are kept; 0 if the options don't say it.
-fn keep_of(words: &ArgMatches<'_>) -> Result<u16, &'static str> {
-    match words.get_one::<u16>("keep") {
-        Some(keep) if keep == 0 || keep > MOST_KEPT => Err("--keep takes a number from 1 to 999"),
-        Some(keep) => Ok(keep),
-        None => Ok(0),
-    }
 }
 
 /// Who is asked if no rule answers.

@@ -9,6 +9,7 @@ use s3_host_files::{
     FileFault, Kept, Limit, LockedFolder, LockedPack, STREAMS, StandardStream, Target, WRITTEN,
     is_empty_at, is_pack_at, prepare_save,
 };
+use s3_refusals::is_closed;
 use std::alloc::Global;
 use std::fs::Metadata;
 use std::io::{ErrorKind, Write};
@@ -290,7 +291,9 @@ impl<'a> Files<'a> {
 /// Why a pack isn't saved over a file without `--overwrite`.
 fn there_already<'a>(rt: &HostRuntime, name: &'a str) -> DayFault<'a> {
     let place = Path::new(name);
-    if is_pack_at(rt, place) {
+    if is_closed(rt, name) {
+        DayFault::Closed(name)
+    } else if is_pack_at(rt, place) {
         DayFault::OtherPack(name)
     } else if is_empty_at(rt, place) {
         DayFault::Exists(name)

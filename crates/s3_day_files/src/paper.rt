@@ -6,6 +6,7 @@ use clap::ArgMatches;
 use s3_host_files::{
     Limit, LockedFolder, is_empty_folder, is_pack_at, make_folder, stream_in, test_folder,
 };
+use s3_pages::PaperSize;
 use std::io::ErrorKind;
 use std::{fs, io};
 
@@ -18,7 +19,18 @@ pub enum Form {
     Document {
         /// The forms have bars.
         has_bars: bool,
+        /// The paper on which they are drawn.
+        size: PaperSize,
     },
+    /// As a book of HTML pages: one for each job, and one for the day.
+    Book,
+}
+
+impl Form {
+    /// Whether it is a book.
+    pub fn is_book(self) -> bool {
+        matches!(self, Form::Book)
+    }
 }
 
 /// Where each job's pages are written, and how.
@@ -34,7 +46,7 @@ impl<'a> Paper<'a> {
     /// What the options ask for, if they ask for pages, or why they can't.
     pub fn read(words: &ArgMatches<'a>) -> Result<Option<Paper<'a>>, &'static str> {
         let named = words.get_str("form");
-        let form = form_of(named, words.get_flag("plain"))?;
+        let form = form_of(named, words.get_flag("plain"), words.get_str("paper-size"))?;
         match words.get_str("paper") {
             Some(folder) => Ok(Some(Paper { folder, form })),
             None if named.is_some() => Err("--form goes with --paper"),
@@ -126,14 +138,27 @@ fn has_pack(rt: &HostRuntime, folder: &str) -> io::Result<bool> {
     Ok(false)
 }
 
-/// How pages are written, given the form that is named, and whether the bars are left out.
-fn form_of(named: Option<&str>, is_plain: bool) -> Result<Form, &'static str> {
+/// How pages are written, given the form and the size that are named, and whether the bars are left out.
+fn form_of(named: Option<&str>, is_plain: bool, size: Option<&str>) -> Result<Form, &'static str> {
     match named.unwrap_or("text") {
-        "text" if is_plain => Err("--plain goes with --form pdf"),
+        "text" | "html" if is_plain => Err("--plain goes with --form pdf"),
+        "text" | "html" if size.is_some() => Err("--paper-size goes with --form pdf"),
         "text" => Ok(Form::Text),
+        "html" => Ok(Form::Book),
         "pdf" => Ok(Form::Document {
             has_bars: !is_plain,
+            size: size_of(size)?,
         }),
-        _ => Err("--form takes text or pdf"),
+        _ => Err("--form takes text, pdf or html"),
+    }
+}
+
+/// The size of the pages of a document, given the one that is named.
+fn size_of(named: Option<&str>) -> Result<PaperSize, &'static str> {
+    match named.unwrap_or("form") {
+        "form" => Ok(PaperSize::Form),
+        "a4" => Ok(PaperSize::A4),
+        "letter" => Ok(PaperSize::Letter),
+        _ => Err("--paper-size takes form, a4 or letter"),
     }
 }

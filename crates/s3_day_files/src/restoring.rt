@@ -206,10 +206,17 @@ fn report_not_kept(rt: &HostRuntime, asked: Restoring<'_>) {
     let (journal, save) = (Shown(asked.journal), Shown(asked.save));
     let _ = write!(rt.stderr(), "no pack that is kept beside {save} is ");
     write_day(rt, asked.day);
-    let _ = writeln!(
-        rt.stderr(),
-        "; `bureau journal {journal} --pack {save}` lists those that are"
-    );
+    let _ = if is_missing(rt, asked.save) {
+        writeln!(
+            rt.stderr(),
+            ", and no file {save} is there; name the pack after --save whose saves kept it"
+        )
+    } else {
+        writeln!(
+            rt.stderr(),
+            "; `bureau journal {journal} --pack {save}` lists those that are"
+        )
+    };
 }
 
 /// Reports that nothing is to be done.

@@ -2,10 +2,10 @@
 
 use crate::fault::DayFault;
 use crate::order::Order;
-use crate::taking_up::cards_of;
 use crate::watch::Watch;
 use s3_cards::{Deck, LevelId};
 use s3_decks::{JobEntry, jobs_of, push_strays, strays_of};
+use s3_desk::ReadDeck;
 use s3_operating::{Clock, DayDeck, Questioned};
 use s3_replies::{Typed, read_typed};
 use std::alloc::AllocError;
@@ -25,28 +25,41 @@ const TOO_SOON: u64 = 200;
 /// The most bytes of an answer that are kept.
 const LONGEST: usize = 80;
 
-/// What is known of the decks before the first turn.
-#[derive(Clone, Copy)]
-pub struct Looked {
-    /// The day is begun.
-    pub is_begun: bool,
-    /// Level 1's deck can be read.
-    pub is_one_read: bool,
+/// The decks of a day, each read once, before its first turn.
+#[derive(Drop)]
+pub struct ReadDecks {
+    /// Level 1's deck.
+    pub one: ReadDeck,
+    /// Level 2's deck.
+    pub two: ReadDeck,
 }
 
-/// Reports the jobs of both decks that continue over statements of later jobs, one a line. Whether the day is begun: if there are such
-/// jobs, a person at a terminal is asked, unless rules are given or the day of a log is done again.
+/// Reads both decks.
+pub fn read_decks<'a>(
+    rt: &HostRuntime,
+    one: &DayDeck<'a>,
+    two: &DayDeck<'a>,
+) -> Result<ReadDecks, AllocError> {
+    let one = ReadDeck::read(rt.alloc(), one.text())?;
+    let two = ReadDeck::read(rt.alloc(), two.text())?;
+    Ok(ReadDecks { one, two })
+}
+
+/// Reads both decks, and reports their jobs that continue over statements of later jobs, one a line. `None` if the day isn't begun: if
+/// there are such jobs, a person at a terminal is asked, unless rules are given or the day of a log is done again.
 pub fn look_for_strays<'a>(
     rt: &HostRuntime,
     order: &Order<'a>,
     one: &DayDeck<'a>,
     two: &DayDeck<'a>,
-) -> Result<Looked, DayFault<'a>> {
-    let found = report_strays(rt, one, two)?;
-    Ok(Looked {
-        is_begun: is_begun(rt, order, found.count)?,
-        is_one_read: found.is_one_read,
-    })
+) -> Result<Option<ReadDecks>, DayFault<'a>> {
+    let decks = read_decks(rt, one, two)?;
+    let count = report_strays(rt, one, two, &decks)?;
+    if is_begun(rt, order, count)? {
+        Ok(Some(decks))
+    } else {
+        Ok(None)
+    }
 }
 
 /// Whether a day with so many strays is begun.
@@ -61,47 +74,24 @@ fn is_begun(rt: &HostRuntime, order: &Order<'_>, count: usize) -> Result<bool, A
     Ok(is_begun)
 }
 
-/// The strays of both decks.
-#[derive(Clone, Copy)]
-pub struct Strays {
-    /// How many there are.
-    count: usize,
-    /// Level 1's deck can be read.
-    is_one_read: bool,
-}
-
 /// Whether a person is asked before the first turn.
 fn is_person_asked(order: &Order<'_>) -> bool {
     matches!(order.questioned, Questioned::Person) && order.rules.is_none() && order.redo.is_none()
 }
 
-/// Reports the jobs of both decks that continue over statements of later jobs.
+/// Reports the jobs of both decks that continue over statements of later jobs. How many they are.
 pub fn report_strays<'a>(
     rt: &HostRuntime,
     one: &DayDeck<'a>,
     two: &DayDeck<'a>,
-) -> Result<Strays, AllocError> {
-    let of_one = report_level(rt, LevelId::One, one)?;
-    let of_two = report_level(rt, LevelId::Two, two)?;
-    Ok(Strays {
-        count: of_one.unwrap_or(0).saturating_add(of_two.unwrap_or(0)),
-        is_one_read: of_one.is_some(),
-    })
+    decks: &ReadDecks,
+) -> Result<usize, AllocError> {
+    let of_one = report_cards(rt, LevelId::One, one, &decks.one.cards)?;
+    let of_two = report_cards(rt, LevelId::Two, two, &decks.two.cards)?;
+    Ok(of_one.saturating_add(of_two))
 }
 
-/// Reports these jobs of the deck of a level. How many they are; `None` if the deck can't be read.
-fn report_level<'a>(
-    rt: &HostRuntime,
-    level: LevelId,
-    deck: &DayDeck<'a>,
-) -> Result<Option<usize>, AllocError> {
-    match cards_of(rt, deck.text())? {
-        Some(cards) => Ok(Some(report_cards(rt, level, deck, &cards)?)),
-        None => Ok(None),
-    }
-}
-
-/// Reports these jobs of the cards of a deck. How many they are.
+/// Reports these jobs of the deck of a level, given its cards. How many they are.
 fn report_cards<'a>(
     rt: &HostRuntime,
     level: LevelId,

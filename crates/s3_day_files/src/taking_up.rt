@@ -2,9 +2,8 @@
 
 use crate::fault::DayFault;
 use crate::order::Order;
-use crate::strays::report_strays;
+use crate::strays::{read_decks, report_strays};
 use s3_cards::{CardFault, Deck, DeckFault, LevelId};
-use s3_command_line::FILE;
 use s3_deck_json::push_jobs_of_deck;
 use s3_decks::{
     DeckText, JobEntry, Position, job_cut_at, jobs_of, left_out_from, lost_settings, push_cut,
@@ -65,7 +64,7 @@ fn tell_no_line(rt: &HostRuntime, level: LevelId) {
 }
 
 /// The cards of a deck's text; `None` if it can't be read.
-pub fn cards_of(rt: &HostRuntime, text: &[u8]) -> Result<Option<Deck>, AllocError> {
+fn cards_of(rt: &HostRuntime, text: &[u8]) -> Result<Option<Deck>, AllocError> {
     match Deck::read(rt.alloc(), text) {
         Ok(deck) => Ok(Some(deck)),
         Err(DeckFault::At(..)) => Ok(None),
@@ -123,10 +122,11 @@ pub fn list_jobs<'a>(
     } else {
         jobs_in_words(rt, one, two)?.into_bytes()
     };
-    if StandardOutput::new(rt).write_all(text.as_slice()).is_err() {
-        return Err(DayFault::Cli(FILE));
+    if let Err(error) = StandardOutput::new(rt).write_all(text.as_slice()) {
+        return Err(DayFault::of_output(&error));
     }
-    report_strays(rt, one, two)?;
+    let decks = read_decks(rt, one, two)?;
+    report_strays(rt, one, two, &decks)?;
     Ok(())
 }
 

@@ -1,9 +1,9 @@
 -- The endings of the jobs that were begun.
-use Rattle.std.proofs.Common.{◌≡◌, ℕ, ◌+◌, Bool, true, false, List, [], ◌∷◌, ◌++◌, append_assoc, get_or, replicate, set, Option, None, sym, ap, ◌∙◌}
+use Rattle.std.proofs.Common.{◌≡◌, ℕ, ◌+◌, List, [], ◌∷◌, ◌++◌, append_assoc, get_or, replicate, set, Option, None, sym, ap, ◌∙◌}
 use Rattle.std.proofs.lemmas.List.{append-nil, replicate-append-replicate}
 use Rattle.std.proofs.Math.Seq.{map-set_same}
 use Rattle.s3_day_log.specs.declared.ledger.BegunJob.{BegunJob}
-use Rattle.s3_day_log.specs.Inner.Endings.{Begins, begins_one, endings}
+use Rattle.s3_day_log.specs.Inner.Endings.{Begins, endings}
 use Rattle.s3_operator.specs.declared.halt_code.HaltCode.{HaltCode}
 
 abbrev none_yet : Option (HaltCode × ℕ)
@@ -25,9 +25,8 @@ begins_then old middle new first next = record {
       ∙ ap (λ xs. endings old ++ xs) (replicate-append-replicate first.count next.count none_yet)));
 }
 
-pub begins_more : (first old new : List BegunJob) (has_begun : Bool) → Begins first old → endings new ≡ begins_one has_begun (endings old) → Begins first new
-begins_more first old new true begun one = begins_then first old new begun (begins_job old new one)
-begins_more first old new false begun one = begins_then first old new begun (begins_none old new one)
+pub begins_more : (first old new : List BegunJob) → Begins first old → endings new ≡ endings old ++ none_yet ∷ [] → Begins first new
+begins_more first old new begun one = begins_then first old new begun (begins_job old new one)
 
 -- jobs begin, and their lines are counted before and after
 pub begins_around : (first counted begun last : List BegunJob) → endings counted ≡ endings first → Begins counted begun → endings last ≡ endings begun → Begins first last

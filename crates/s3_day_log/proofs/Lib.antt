@@ -3,6 +3,8 @@ pub mod ListLemmas
 pub mod LogLemmas
 pub mod WritingLemmas
 pub mod TextLemmas
+pub mod TimesBack
 pub mod RoundTrip
 pub mod DeckLemmas
 pub mod EndingLemmas
+pub mod BegunLemmas

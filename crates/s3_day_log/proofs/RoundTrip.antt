@@ -237,21 +237,21 @@ members_fine : (ps : Pairs) → AreFine ps → MembersHaveDecimals (members_of p
 members_fine [] all = (tt, omega arith)
 members_fine (p ∷ ps) all = let more = members_fine ps all.1 in ((all.0.0, more.0), omega (arith, all.0.1, more.1))
 
-tree_fine : (at : List ℕ) (said : Said) → fits said ≡ true → HasDecimals (tree_of at said) × (depth (tree_of at said) ≤ 4)
+pub tree_fine : (at : List ℕ) (said : Said) → fits said ≡ true → HasDecimals (tree_of at said) × (depth (tree_of at said) ≤ 4)
 unfolding tree_of
 tree_fine at said fit =
     let more = members_fine ((codes "at", string at) ∷ pairs_of said) (text_fine, pairs_fine said fit) in
     (more.0, omega (arith, more.1))
 
 -- ---- a line, and a log
-line_back : (at : List ℕ) (said : Said) → is_time at ≡ true → fits said ≡ true → said_on (print (json_tokens (tree_of at said))) ≡ Some said
+pub line_back : (at : List ℕ) (said : Said) → is_time at ≡ true → fits said ≡ true → said_on (print (json_tokens (tree_of at said))) ≡ Some said
 unfolding said_on tree_of
 line_back at said timed fit =
     let fine = tree_fine at said fit in
     ap (λ j. option_and_then said_in (option_and_then as_object j)) (document-print (tree_of at said) (numbers_of_decimals (tree_of at said) fine.0) (omega (arith, fine.1)))
     ∙ read_back at said timed fit
 
-lines_back : (at : List ℕ) (said : Said) (rest begun : List ℕ) → fits said ≡ true
+pub lines_back : (at : List ℕ) (said : Said) (rest begun : List ℕ) → fits said ≡ true
     → lines_ended ((line_of at said ++ rest) ++ begun) ≡ print (json_tokens (tree_of at said)) ∷ lines_ended (rest ++ begun)
 unfolding line_of
 lines_back at said rest begun fit =

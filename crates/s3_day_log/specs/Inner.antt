@@ -5,5 +5,6 @@ pub mod Lines
 pub mod Logged
 pub mod Members
 pub mod Tested
+pub mod Times
 pub mod Views
 pub mod Written

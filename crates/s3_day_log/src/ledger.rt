@@ -1,6 +1,10 @@
 //! The jobs of a level's deck, as they begin and end.
-ghost use Rattle.std.specs.Prelude.{◌≡◌, None, IfOk, IfSome, OnOk};
-ghost use Rattle.s3_day_log.specs.Inner.Endings.{Begins, begins_one, behind_reply, endings, has_passed, is_open_behind};
+ghost use Rattle.std.specs.Prelude.{◌≡◌, ◌<◌, ◌-◌, [], ◌∷◌, ◌++◌, length, drop, map, true, false, None, if◌then◌else◌, OnOk};
+ghost use Rattle.s3_ocl.specs.Streams.{jobs_from};
+ghost use Rattle.s3_decks.specs.Inner.Days.{said};
+ghost use Rattle.s3_solo.specs.World.{World};
+ghost use Rattle.s3_level.specs.Inner.Holds.{Around, Holds};
+ghost use Rattle.s3_day_log.specs.Inner.Endings.{Begins, begins_next, begun_by, behind_reply, closed, endings, has_open_job, has_passed, is_open_behind, overs, overs_behind, stands_still};
 
 use s3_cards::{Deck, Name};
 use s3_decks::{JobEntry, Statements, jobs_of, program_of};
@@ -59,7 +63,10 @@ pub struct Ledger {
 
 impl Ledger {
     /// A ledger without jobs.
-    pub fn new(alloc: Global) -> Ledger {
+    pub fn new(alloc: Global) -> Ledger
+        ensures jobs { result.jobs.items ≡ [] }
+        ensures begun { result.begun.items ≡ [] }
+    {
         Ledger {
             jobs: Vec::new(alloc),
             begun: Vec::new(alloc),
@@ -70,18 +77,25 @@ impl Ledger {
     }
 
     /// Takes the jobs of a deck, before the first one is begun.
-    pub fn read(&mut self, alloc: Global, deck: &Deck) -> Result<(), AllocError> {
+    pub fn read(&mut self, alloc: Global, deck: &Deck) -> Result<(), AllocError>
+        ensures jobs { OnOk result (map (λ entry. said entry.statements) self.new.jobs.items ≡ jobs_from deck.now 0) }
+        ensures begun { self.new.begun.items ≡ self.old.begun.items }
+    {
         self.jobs = jobs_of(alloc, deck)?;
         Ok(())
     }
 
     /// The jobs that were begun, in order. The first one is job 1.
-    pub fn begun(&self) -> &[BegunJob] {
+    pub fn begun(&self) -> &[BegunJob]
+        ensures { result.now ≡ self.now.begun.items }
+    {
         &self.begun
     }
 
     /// How many jobs are left that weren't begun.
-    pub fn jobs_left(&self) -> usize {
+    pub fn jobs_left(&self) -> usize
+        ensures { result ≡ length self.now.jobs.items - length self.now.begun.items }
+    {
         self.jobs.len().saturating_sub(self.begun.len())
     }
 
@@ -113,7 +127,9 @@ impl Ledger {
     }
 
     /// Whether the last job that was begun isn't over.
-    pub fn is_open(&self) -> bool {
+    pub fn is_open(&self) -> bool
+        ensures { result ≡ self.now.is_open }
+    {
         self.is_open
     }
 
@@ -123,30 +139,47 @@ impl Ledger {
     }
 
     /// How many jobs are over: these, from the first one on.
-    pub fn jobs_over(&self) -> usize {
+    pub fn jobs_over(&self) -> usize
+        ensures { result ≡ length self.now.begun.items - (if self.now.is_open then 1 else 0) }
+    {
         self.begun.len().saturating_sub(usize::from(self.is_open))
     }
 
-    /// Looks at a level that has gone on, with how many lines it has printed, those that are queued among them.
-    #[tactic(auto, using(crate::proofs::EndingLemmas::begins_none, crate::proofs::EndingLemmas::begins_around))]
+    /// Looks at a level that has gone on, with how many lines it has printed, those that are queued among them. Afterwards each job has
+    /// begun that the level has passed, and each is over except for the last one of a level that has a job at work or halted.
+    #[tactic(auto, using(crate::proofs::EndingLemmas::begins_none, crate::proofs::EndingLemmas::begins_around, crate::proofs::BegunLemmas::stays_place, crate::proofs::BegunLemmas::stays_open))]
     pub fn follow(&mut self, level: &Level, lines: usize) -> Result<(), AllocError>
-        ensures { OnOk result (Begins self.old.begun.items self.new.begun.items) }
+        ensures begun { OnOk result (Begins self.old.begun.items self.new.begun.items) }
+        ensures overs { OnOk result (overs self.new.begun.items ≡ overs_behind self.old.place self.new.place self.old.is_open self.new.is_open self.old.jobs.items (overs self.old.begun.items)) }
+        ensures jobs { OnOk result (self.new.jobs ≡ self.old.jobs) }
+        ensures place { OnOk result ((beside : Around) (w : World) → Holds level.now beside w → w.deck.jobs ≡ jobs_from w.deck.cards self.new.place) }
+        ensures open { OnOk result ((beside : Around) (w : World) → Holds level.now beside w → self.new.is_open ≡ has_open_job w) }
     {
         let is_open = level.is_at_work() || level.waits().is_some();
-        if level.place() == self.place && is_open == self.is_open {
+        let place = level.place();
+        if self.stands_still(place, is_open) {
             return Ok(());
         }
         self.count_open(lines);
-        self.place = level.place();
+        self.place = place;
         self.is_open = is_open;
         self.begin_all(level.deck())?;
         self.count_begun(lines);
         Ok(())
     }
 
+    /// Whether a level is at the place at which it was seen last, and has a job at work or halted if it had one then.
+    fn stands_still(&self, place: usize, is_open: bool) -> bool
+        ensures { result ≡ stands_still self.now.place place self.now.is_open is_open }
+    {
+        self.place == place && (if self.is_open { is_open } else { !is_open })
+    }
+
     /// Counts the lines of the last job that was begun, unless it is over.
     fn count_open(&mut self, lines: usize)
-        ensures { endings self.new.begun.items ≡ endings self.old.begun.items }
+        ensures endings { endings self.new.begun.items ≡ endings self.old.begun.items }
+        ensures overs { overs self.new.begun.items ≡ overs self.old.begun.items }
+        ensures jobs { self.new.jobs ≡ self.old.jobs }
     {
         if self.is_open {
             self.count_lines(lines);
@@ -155,7 +188,11 @@ impl Ledger {
 
     /// Counts the lines of the job that was begun last, which is over unless it is at work or its halt waits.
     fn count_begun(&mut self, lines: usize)
-        ensures { endings self.new.begun.items ≡ endings self.old.begun.items }
+        ensures endings { endings self.new.begun.items ≡ endings self.old.begun.items }
+        ensures overs { overs self.new.begun.items ≡ (if self.old.is_open then overs self.old.begun.items else closed (overs self.old.begun.items)) }
+        ensures jobs { self.new.jobs ≡ self.old.jobs }
+        ensures place { self.new.place ≡ self.old.place }
+        ensures open { self.new.is_open ≡ self.old.is_open }
     {
         if !self.is_open {
             self.mark_last_over();
@@ -164,22 +201,29 @@ impl Ledger {
     }
 
     /// Takes note of each further job that has begun.
+    #[tactic(auto, using(crate::proofs::EndingLemmas::begins_none, crate::proofs::EndingLemmas::begins_more, crate::proofs::BegunLemmas::has_job, crate::proofs::BegunLemmas::fewer_left, crate::proofs::BegunLemmas::one_begins, crate::proofs::BegunLemmas::all_begun))]
     fn begin_all(&mut self, deck: &Deck) -> Result<(), AllocError>
-        ensures { OnOk result (Begins self.old.begun.items self.new.begun.items) }
+        ensures begun { OnOk result (Begins self.old.begun.items self.new.begun.items) }
+        ensures overs { OnOk result (overs self.new.begun.items ≡ begun_by self.old.place (drop (length (overs self.old.begun.items)) self.old.jobs.items) (overs self.old.begun.items)) }
+        ensures jobs { OnOk result (self.new.jobs ≡ self.old.jobs) }
+        ensures place { OnOk result (self.new.place ≡ self.old.place) }
+        ensures open { OnOk result (self.new.is_open ≡ self.old.is_open) }
     {
-        for _job in 0..self.jobs.len() {
-            if !self.begin_next(deck)? {
-                return Ok(());
-            }
+        while self.has_next_begun() {
+            self.begin_next(deck)?;
         }
         Ok(())
     }
 
     /// Counts the lines that were printed since the last count for the job that was begun last.
-    #[tactic(auto, using(crate::proofs::EndingLemmas::endings_set))]
+    #[tactic(auto, using(crate::proofs::EndingLemmas::endings_set, crate::proofs::BegunLemmas::overs_set))]
     fn count_lines(&mut self, lines: usize)
         ensures endings { endings self.new.begun.items ≡ endings self.old.begun.items }
+        ensures overs { overs self.new.begun.items ≡ overs self.old.begun.items }
         ensures counted { self.new.counted ≡ lines }
+        ensures jobs { self.new.jobs ≡ self.old.jobs }
+        ensures place { self.new.place ≡ self.old.place }
+        ensures open { self.new.is_open ≡ self.old.is_open }
     {
         let new = lines.saturating_sub(self.counted);
         if let Some(job) = self.begun.last_mut() {
@@ -188,39 +232,40 @@ impl Ledger {
         self.counted = lines;
     }
 
-    /// Takes note of the next job, if it has begun. Whether it has.
-    fn begin_next(&mut self, deck: &Deck) -> Result<bool, AllocError>
-        ensures { IfOk result (λ has_begun. endings self.new.begun.items ≡ begins_one has_begun (endings self.old.begun.items)) }
+    /// Whether the next job has begun: the level has come to its end.
+    fn has_next_begun(&self) -> bool
+        ensures { result ≡ begins_next self.now.place self.now.jobs.items (length self.now.begun.items) }
     {
-        let Some(job) = self.next_begun(deck) else {
-            return Ok(false);
-        };
-        self.mark_last_over();
-        self.begun.push(job)?;
-        Ok(true)
+        match self.jobs.get(self.begun.len()) {
+            Some(entry) => entry.after() <= self.place,
+            None => false,
+        }
     }
 
-    /// The next job, if it has begun.
-    fn next_begun(&self, deck: &Deck) -> Option<BegunJob>
-        ensures { IfSome result (λ job. job.ending ≡ None) }
+    /// Takes note that the next job has begun.
+    #[tactic(auto, using(crate::proofs::BegunLemmas::endings_more, crate::proofs::BegunLemmas::overs_more))]
+    fn begin_next(&mut self, deck: &Deck) -> Result<(), AllocError>
+        requires { length self.old.begun.items < length self.old.jobs.items }
+        ensures endings { OnOk result (endings self.new.begun.items ≡ endings self.old.begun.items ++ None ∷ []) }
+        ensures overs { OnOk result (overs self.new.begun.items ≡ closed (overs self.old.begun.items) ++ false ∷ []) }
+        ensures jobs { self.new.jobs ≡ self.old.jobs }
+        ensures place { self.new.place ≡ self.old.place }
+        ensures open { self.new.is_open ≡ self.old.is_open }
     {
-        let entry = self.jobs.get(self.begun.len())?;
-        if entry.after() > self.place {
-            return None;
-        }
-        Some(BegunJob {
-            purpose: purpose_of(entry, deck),
-            card: entry.first_card(),
-            lines: 0,
-            ending: None,
-            is_over: false,
-        })
+        let job = begun_of(&self.jobs[self.begun.len()], deck);
+        self.mark_last_over();
+        self.begun.push(job)?;
+        Ok(())
     }
 
     /// Marks the last job that was begun as over.
-    #[tactic(auto, using(crate::proofs::EndingLemmas::endings_set))]
+    #[tactic(auto, using(crate::proofs::EndingLemmas::endings_set, crate::proofs::BegunLemmas::overs_closed, crate::proofs::BegunLemmas::none_closed))]
     fn mark_last_over(&mut self)
-        ensures { endings self.new.begun.items ≡ endings self.old.begun.items }
+        ensures endings { endings self.new.begun.items ≡ endings self.old.begun.items }
+        ensures overs { overs self.new.begun.items ≡ closed (overs self.old.begun.items) }
+        ensures jobs { self.new.jobs ≡ self.old.jobs }
+        ensures place { self.new.place ≡ self.old.place }
+        ensures open { self.new.is_open ≡ self.old.is_open }
     {
         if let Some(job) = self.begun.last_mut() {
             job.is_over = true;
@@ -254,7 +299,8 @@ impl Ledger {
 
     /// The last job that was begun is over.
     fn close_last(&mut self)
-        ensures { endings self.new.begun.items ≡ endings self.old.begun.items }
+        ensures endings { endings self.new.begun.items ≡ endings self.old.begun.items }
+        ensures overs { overs self.new.begun.items ≡ closed (overs self.old.begun.items) }
     {
         self.is_open = false;
         self.mark_last_over();
@@ -262,12 +308,27 @@ impl Ledger {
 
     /// Ends the job accounting of a level that has printed so many lines in all, and has no job at work if it is done.
     pub fn close(&mut self, lines: usize, is_done: bool)
-        ensures { endings self.new.begun.items ≡ endings self.old.begun.items }
+        ensures endings { endings self.new.begun.items ≡ endings self.old.begun.items }
+        ensures overs { overs self.new.begun.items ≡ (if is_done then closed (overs self.old.begun.items) else overs self.old.begun.items) }
     {
         self.count_open(lines);
         if is_done {
             self.close_last();
         }
+    }
+}
+
+/// A job that begins.
+fn begun_of(entry: &JobEntry, deck: &Deck) -> BegunJob
+    ensures ending { result.ending ≡ None }
+    ensures over { result.is_over ≡ false }
+{
+    BegunJob {
+        purpose: purpose_of(entry, deck),
+        card: entry.first_card(),
+        lines: 0,
+        ending: None,
+        is_over: false,
     }
 }
 

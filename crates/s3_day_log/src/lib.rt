@@ -10,14 +10,17 @@
 //! - `DayLog::test` compares the pack and the files of both decks with those of the log by their checksums, and reports the first that
 //!   differs;
 //! - what became of a day, by how its levels ended, and which pack of a logged day a pack is;
-//! - `line_of` writes exactly the line of an event at its time: one JSON object, and a line feed;
+//! - `line_at` writes exactly the line of an event at a second: one JSON object with a text that `jiff` reads as that second, and a
+//!   line feed;
 //! - `DayLog::read` reads exactly the log of the events that a text's lines say, or refuses the first line that is refused, or memory runs
 //!   out; `DayLog::reply` gives the reply to a level's halt after so many;
 //! - the lines that are written of events are read as these events, also if a further line was begun (`laws::a_log_reads_back`). The text of
 //!   a line and its tokens are the kit's `json`, whose own round trip the proof uses. The premises: each time is one that `jiff` reads, and
-//!   each halt is one that a level can show.
+//!   each halt is one that a level can show. The times of `line_at` are such times, and are read back (`laws::times_read_back`);
+//! - after `Ledger::follow`, those jobs have begun that end before the place from which the level's world has its remaining jobs, and
+//!   each is over except for the last one of a level whose job is at work or halted.
 //!
-//! Tested: that the times of `utc_text` are such times, which jobs have begun, and to which job a line belongs.
+//! Tested: to which job a printed line belongs, and the card and the program of a job.
 
 #![tactic(auto)]
 
@@ -43,4 +46,4 @@ pub use event::{
 };
 pub use ledger::{BegunJob, Ledger, Purpose};
 pub use which_pack::{Standing, standing_of};
-pub use writing::line_of;
+pub use writing::line_at;

@@ -7,8 +7,10 @@ ghost use Rattle.json.specs.Print.{print};
 ghost use Rattle.json.specs.Tree.{json_tokens};
 ghost use Rattle.s3_day_log.specs.Inner.Events.{begins, day_of, file_of, halts, job_ends, replies, said_of};
 ghost use Rattle.s3_day_log.specs.Inner.Lines.{day_pairs, file_or_null as file_or_null_spec, file_tree, files_tree, line_of as line_of_spec, members_of, pack_pair, pairs_of, text_or_null as text_or_null_spec, texts_tree, tree_of, whole_or_null};
+ghost use Rattle.s3_day_log.specs.Inner.Times.{IsLineAt};
 ghost use Rattle.s3_day_log.specs.Inner.Written.{Appends, json_of, pairs_in, pairs_tokens};
 
+use crate::clock_text::utc_text;
 use crate::event::{Begun, DayOver, Event, JobBegun, JobOver, LoggedHalt, LoggedReply, NamedFile};
 use json::Writer;
 use s3_cards::LevelId;
@@ -16,8 +18,16 @@ use s3_operator::{HaltCode, letters};
 use std::alloc::{AllocError, Global};
 use std::str;
 
+/// The line of an event at a second since 1970, with its line feed. It is refused only if memory runs out.
+pub fn line_at(alloc: Global, seconds: u64, event: Event) -> Result<String, AllocError>
+    ensures { IfOk result (λ line. IsLineAt (record { second = seconds; said = said_of event }) (string_bytes line)) }
+{
+    let at = utc_text(alloc, seconds)?;
+    line_of(alloc, at, event)
+}
+
 /// The line of an event at a time, with its line feed. The time is text, as `utc_text` gives it. It is refused only if memory runs out.
-pub fn line_of(alloc: Global, at: String, event: Event) -> Result<String, AllocError>
+fn line_of(alloc: Global, at: String, event: Event) -> Result<String, AllocError>
     ensures { IfOk result (λ line. string_bytes line ≡ line_of_spec (string_bytes at) (said_of event)) }
 {
     let mut line = Line {

@@ -19,7 +19,7 @@ use Rattle.s3_bureau.specs.Inner.Held.{HoldsFor, State, header_of, held_by, is_o
 use Rattle.s3_bureau.specs.declared.outcome.RunLines.{RunLines}
 use Rattle.s3_bureau.specs.Texts.{halt_text_of}
 use Rattle.s3_bureau.proofs.Running.{drained_at}
-use Rattle.s3_bureau.specs.Inner.Underway.{LeavesSectors, Performs, ReadsDeck}
+use Rattle.s3_bureau.specs.Inner.Underway.{LeavesSectors, Performs}
 use Rattle.s3_desk.specs.declared.ends.Bounds.{Bounds}
 use Rattle.s3_desk.specs.declared.ends.Ends.{Ends}
 use Rattle.s3_desk.specs.Inner.Days.{EndSo, HasPrinted, IsAnswered, LeavesLines, starts_in}
@@ -71,52 +71,50 @@ common_left first middle last kept closed =
     (subst (λ (h : Header). KeepsInStep (IsCommon h) middle.beside.state last.beside.state) kept.header closed)
 
 -- ---- both levels from their start
-pub starts_held : (level : LevelId) (bureau : State) (contents : List (List ℕ)) (deck1 deck2 : List ℕ) (cards1 cards2 : List (List ℕ)) (refusal1 refusal2 : Option (ℕ × ℕ))
-    → ReadsDeck deck1 cards1 refusal1 → ReadsDeck deck2 cards2 refusal2
-    → HoldsFor One bureau (at_start One (header_of bureau) contents cards1) → HoldsFor Two bureau (at_start Two (header_of bureau) contents cards2)
-    → HoldsFor level bureau (starts_in (header_of bureau) contents deck1 deck2 level)
-starts_held One bureau contents deck1 deck2 cards1 cards2 refusal1 refusal2 reads1 reads2 one two = subst (λ cards. HoldsFor One bureau (at_start One (header_of bureau) contents cards)) reads1.read one
-starts_held Two bureau contents deck1 deck2 cards1 cards2 refusal1 refusal2 reads1 reads2 one two = subst (λ cards. HoldsFor Two bureau (at_start Two (header_of bureau) contents cards)) reads2.read two
+pub starts_held : (level : LevelId) (bureau : State) (contents cards1 cards2 : List (List ℕ)) → HoldsFor One bureau (at_start One (header_of bureau) contents cards1) → HoldsFor Two bureau (at_start Two (header_of bureau) contents cards2)
+    → HoldsFor level bureau (starts_in (header_of bureau) contents cards1 cards2 level)
+starts_held One bureau contents cards1 cards2 one two = one
+starts_held Two bureau contents cards1 cards2 one two = two
 
 same_header : (one two : Header) (mount : Result Header MountFault) → mount ≡ Ok one → mount ≡ Ok two → one ≡ two
 same_header one two mount first second = cc
 
-abbrev pub HoldsStarts : State → Header → (contents : List (List ℕ)) → (deck1 deck2 : List ℕ) → Type 0
-HoldsStarts bureau header contents deck1 deck2 = (level : LevelId) → HoldsFor level bureau (starts_in header contents deck1 deck2 level)
+abbrev pub HoldsStarts : State → Header → (contents cards1 cards2 : List (List ℕ)) → Type 0
+HoldsStarts bureau header contents cards1 cards2 = (level : LevelId) → HoldsFor level bureau (starts_in header contents cards1 cards2 level)
 
-pub starts_of : (bureau : State) (header : Header) (contents : List (List ℕ)) (deck1 deck2 : List ℕ) → mounted contents ≡ Ok (header_of bureau) → mounted contents ≡ Ok header
-    → HoldsStarts bureau (header_of bureau) contents deck1 deck2 → HoldsStarts bureau header contents deck1 deck2
-starts_of bureau header contents deck1 deck2 mount is held = subst (λ (h : Header). HoldsStarts bureau h contents deck1 deck2) (same_header (header_of bureau) header (mounted contents) mount is) held
+pub starts_of : (bureau : State) (header : Header) (contents cards1 cards2 : List (List ℕ)) → mounted contents ≡ Ok (header_of bureau) → mounted contents ≡ Ok header
+    → HoldsStarts bureau (header_of bureau) contents cards1 cards2 → HoldsStarts bureau header contents cards1 cards2
+starts_of bureau header contents cards1 cards2 mount is held = subst (λ (h : Header). HoldsStarts bureau h contents cards1 cards2) (same_header (header_of bureau) header (mounted contents) mount is) held
 
-no_halts : (level : LevelId) (header : Header) (contents : List (List ℕ)) (deck1 deck2 : List ℕ) → (starts_in header contents deck1 deck2 level).halts ≡ []
-no_halts One header contents deck1 deck2 = refl
-no_halts Two header contents deck1 deck2 = refl
+no_halts : (level : LevelId) (header : Header) (contents cards1 cards2 : List (List ℕ)) → (starts_in header contents cards1 cards2 level).halts ≡ []
+no_halts One header contents cards1 cards2 = refl
+no_halts Two header contents cards1 cards2 = refl
 
 -- before a day there is no halt, and none was shown
 nothing_shown : (halts : List ShownHalt) → halts ≡ [] → Shows halts [] false
 nothing_shown halts none = subst (λ (hs : List ShownHalt). Shows hs [] false) (sym none) (inl (record { all = refl; mark = refl }))
 
-pub answered_in : {O : Type 0} (meets : O → Event → O → Type 0) (header : Header) (contents : List (List ℕ)) (deck1 deck2 : List ℕ) (bounds : Bounds) (entries : List Entry) (bureau : State) (ends : Ends) (from to : O)
-    → HoldsStarts bureau header contents deck1 deck2
+pub answered_in : {O : Type 0} (meets : O → Event → O → Type 0) (header : Header) (contents cards1 cards2 : List (List ℕ)) (bounds : Bounds) (entries : List Entry) (bureau : State) (ends : Ends) (from to : O)
+    → HoldsStarts bureau header contents cards1 cards2
     → SitsFrom (λ (b : State) (level : LevelId) (w : World). HoldsFor level b w) meets (λ level es. HasReached level [] es bounds) [] entries bureau from to false false false false (Some ends)
-    → IsAnswered meets (starts_in header contents deck1 deck2) bounds entries ends from to
-answered_in meets header contents deck1 deck2 bounds entries bureau ends from to held sits =
-    let starts : LevelId → World = starts_in header contents deck1 deck2 in
+    → IsAnswered meets (starts_in header contents cards1 cards2) bounds entries ends from to
+answered_in meets header contents cards1 cards2 bounds entries bureau ends from to held sits =
+    let starts : LevelId → World = starts_in header contents cards1 cards2 in
     let is : Sits meets starts (λ level es. HasReached level [] es bounds) [] entries from to false false (Some ends) =
-    sits bureau starts [] (record { held = held; performed = λ level w is. is; whole = refl }) (nothing_shown (starts One).halts (no_halts One header contents deck1 deck2)) (nothing_shown (starts Two).halts (no_halts Two header contents deck1 deck2)) in
-    record { day = is.day; whole = is.passes.whole; met = is.passes.met; fits = is.passes.fits; shown = is.left.0; one_halted = is.left.1.0; two_halted = is.left.1.1 }
+    sits bureau starts [] (record { held = held; performed = λ level w is. is; whole = refl; followed = refl }) (nothing_shown (starts One).halts (no_halts One header contents cards1 cards2)) (nothing_shown (starts Two).halts (no_halts Two header contents cards1 cards2)) in
+    record { day = is.day; whole = is.passes.whole; met = is.passes.met; fits = is.passes.fits; shown = is.left.0; followed = is.followed; one_halted = is.left.1.0; two_halted = is.left.1.1 }
 
-starts_rest : (level : LevelId) (header : Header) (contents : List (List ℕ)) (deck1 deck2 : List ℕ) → (starts_in header contents deck1 deck2 level).job ≡ None
-starts_rest One header contents deck1 deck2 = refl
-starts_rest Two header contents deck1 deck2 = refl
+starts_rest : (level : LevelId) (header : Header) (contents cards1 cards2 : List (List ℕ)) → (starts_in header contents cards1 cards2 level).job ≡ None
+starts_rest One header contents cards1 cards2 = refl
+starts_rest Two header contents cards1 cards2 = refl
 
-pub sectors_of_day : (first last : State) (entries : List Entry) (header : Header) (contents : List (List ℕ)) (deck1 deck2 : List ℕ) → HoldsStarts first header contents deck1 deck2
+pub sectors_of_day : (first last : State) (entries : List Entry) (header : Header) (contents cards1 cards2 : List (List ℕ)) → HoldsStarts first header contents cards1 cards2
     → KeepsInStep (IsCommon (header_of first)) first.beside.state last.beside.state
     → ((level : LevelId) (w : World) → own level entries ≡ [] → HoldsFor level first w → w.job ≡ None → KeepsInStep (IsOwn level (header_of first)) first.beside.state last.beside.state)
     → LeavesSectors entries first last
-sectors_of_day first last entries header contents deck1 deck2 held common idle = record {
+sectors_of_day first last entries header contents cards1 cards2 held common idle = record {
   common = common;
-  idle = λ level none rests. idle level (starts_in header contents deck1 deck2 level) none (held level) (starts_rest level header contents deck1 deck2);
+  idle = λ level none rests. idle level (starts_in header contents cards1 cards2 level) none (held level) (starts_rest level header contents cards1 cards2);
 }
 
 pub ends_of_day : (first : State) (entries : List Entry) (ends : Ends) (starts : LevelId → World) → ((level : LevelId) → HoldsFor level first (starts level))
@@ -133,11 +131,11 @@ lines_left refusal entries first middle last halts performs closes are = record 
   text = λ w held. are (closed (solo w (own One entries))) (closes One (solo w (own One entries)) (performs One w held));
 }
 
-pub day_printed : (starts : LevelId → World) (refusal given : Option (ℕ × ℕ)) (entries : List Entry) (first last : State) (halts : List ℕ) (run : RunLines) → ((level : LevelId) → HoldsFor level first (starts level))
-    → refusal ≡ given → LeavesLines refusal entries first last halts → run.one.lines.items ≡ lines_at One last → run.two.lines.items ≡ lines_at Two last → run.one.halts.items ≡ halts
-    → HasPrinted starts given entries run
-day_printed starts refusal given entries first last halts run held same leaves one two text = record {
+pub day_printed : (starts : LevelId → World) (refusal : Option (ℕ × ℕ)) (entries : List Entry) (first last : State) (halts : List ℕ) (run : RunLines) → ((level : LevelId) → HoldsFor level first (starts level))
+    → LeavesLines refusal entries first last halts → run.one.lines.items ≡ lines_at One last → run.two.lines.items ≡ lines_at Two last → run.one.halts.items ≡ halts
+    → HasPrinted starts refusal entries run
+day_printed starts refusal entries first last halts run held leaves one two text = record {
   one = one ∙ leaves.one (starts One) (held One);
   two = two ∙ leaves.two (starts Two) (held Two);
-  halts = text ∙ (leaves.text (starts One) (held One) ∙ ap (λ (r : Option (ℕ × ℕ)). halt_text_of r (closed (solo (starts One) (own One entries))).halts) same);
+  halts = text ∙ leaves.text (starts One) (held One);
 }

@@ -1,3 +1,4 @@
+mod Following
 mod Growing
 mod Over
 mod Reporting

@@ -134,21 +134,12 @@ shown_work level (entry ∷ work) = ap₂ (λ (xs ys : List ShownHalt). xs ++ ys
     one from Drain = refl
     one from (Reply digit) = refl
 
-fits_work : (starts : LevelId → World) (IsCut : LevelId → List Entry → Type 0) (before : List Moment) (work : List Entry) → EachFits (InTime starts IsCut) before (moments_of work)
-fits_work starts IsCut before [] = tt
-fits_work starts IsCut before (entry ∷ work) = (one entry.level entry.action, fits_work starts IsCut (before ++ moment_by entry.level entry.action ∷ []) work)
-  where
-    one : (level : LevelId) (action : Action) → InTime starts IsCut before (moment_by level action)
-    one level Turn = tt
-    one level Drain = tt
-    one level (Reply digit) = tt
-
 pub passes_work : {O : Type 0} (meets : O → Event → O → Type 0) (starts : LevelId → World) (IsCut : LevelId → List Entry → Type 0) (before : List Moment) (work was is : List Entry) (operator : O)
-    → replies_in work ≡ [] → was ≡ performed_in before → is ≡ was ++ work → Passes meets (InTime starts IsCut) before (moments_of work) is operator operator
-passes_work meets starts IsCut before work was is operator none whole more = record {
+    → replies_in work ≡ [] → was ≡ performed_in before → is ≡ was ++ work → EachFits (InTime starts IsCut) before (moments_of work) → Passes meets (InTime starts IsCut) before (moments_of work) is operator operator
+passes_work meets starts IsCut before work was is operator none whole more fits = record {
   whole = more ∙ (ap₂ (λ (xs ys : List Entry). xs ++ ys) whole (sym (performed_work work none)) ∙ sym (performed_joined before (moments_of work)));
   met = subst (λ (events : List Event). AreMet meets operator events operator) (sym (events_work work)) refl;
-  fits = fits_work starts IsCut before work;
+  fits = fits;
 }
 
 no_replies_own : (level : LevelId) (work : List Entry) → replies_in work ≡ [] → AreNoReplies (own level work)

@@ -1,5 +1,5 @@
 -- Reports that are written while a day goes on have come as far as the day's own lines.
-use Rattle.std.proofs.Common.{◌≡◌, ℕ, Bool, true, List, [], ◌∷◌, ◌++◌, append_assoc, Option, None, Result, Ok, Err, IfOk, refl, sym, ap, ◌∙◌, subst}
+use Rattle.std.proofs.Common.{◌≡◌, ◌⊎◌, ℕ, Bool, true, List, [], ◌∷◌, ◌++◌, append_assoc, Option, None, Result, Ok, Err, IfOk, refl, sym, ap, ◌∙◌, subst}
 use Rattle.s3_cards.specs.Printed.{Printed}
 use Rattle.s3_cards.specs.declared.levels.LevelId.{LevelId}
 use Rattle.s3_cards.specs.declared.levels.LevelId.TheVariants.{One, Two}
@@ -19,6 +19,7 @@ use Rattle.s3_desk.specs.Inner.Days.{HasPrinted, IsAnswered, starts_in}
 use Rattle.s3_desk.specs.Inner.Desk.{AreMet, HasReached}
 use Rattle.s3_desk.specs.Inner.Events.{Asked, Event, Followed, Shown}
 use Rattle.s3_desk.specs.Inner.Moments.{Drained, EachFits, FollowedInTime, InTime, Met, MetInTime, Moment, Turned, events_in, performed_in, world_after}
+use Rattle.s3_reports.specs.Inner.Reports.{IsOneWritten, IsTwoWritten}
 use Rattle.s3_desk.specs.Inner.Printing.{Goes, IsWhole, MeetsPrinting, Prints, Sheet}
 use Rattle.s3_desk.proofs.Growing.{drained_first, over_prints_none, over_shows_none}
 use Rattle.s3_desk.proofs.Moments.{after_more}
@@ -31,9 +32,14 @@ goes_same old new one two halts same = subst (λ (sheet : Sheet). Goes old sheet
 
 -- what the reports make of lines that they are given, they make of an event
 pub printed_on : (is_read is_one_over both : Bool) (level : LevelId) (one two : List Printed) (entries : List Entry) (old new : Sheet) → (both ≡ true → (is_one_over ≡ true) × (is_read ≡ true))
+    → (is_one_over ≡ true → is_read ≡ true → both ≡ true)
     → ((later_one later_two : List Printed) (halts : List ℕ) → (both ≡ true → (later_one ≡ []) × (halts ≡ [])) → Goes old new (one ++ later_one) (two ++ later_two) halts)
-    → Prints is_read (Followed level one two is_one_over entries) old new
-printed_on is_read is_one_over both level one two entries old new passes goes later_one later_two halts over = goes later_one later_two halts (λ is. over (passes is).0 (passes is).1)
+    → IsOneWritten new.place one → (both ≡ true → (two ≡ []) ⊎ IsTwoWritten new.place two) → Prints is_read (Followed level one two is_one_over entries) old new
+printed_on is_read is_one_over both level one two entries old new passes whole goes level_one level_two = record {
+  goes = λ later_one later_two halts over. goes later_one later_two halts (λ is. over (passes is).0 (passes is).1);
+  level_one = level_one;
+  level_two = λ is_over was_read. level_two (whole is_over was_read);
+}
 
 module _ {P : Type 0} (sheet : P → Sheet) (is_read : P → Bool) (Base : P → Event → P → Type 0) (starts : LevelId → World) (IsCut : LevelId → List Entry → Type 0) (one two : List Printed) (halts : List ℕ) where
   -- what comes after a place of a day, in a level's world
@@ -53,7 +59,7 @@ module _ {P : Type 0} (sheet : P → Sheet) (is_read : P → Bool) (Base : P →
       let two_is : two_now ++ two_rest.0 ≡ two = ap (λ (l : List Printed). l ++ two_rest.0) fits.two_printed ∙ (sym two_rest.1 ∙ sym whole.two) in
       subst (λ (l : List Printed). Goes old new l two halts) one_is
       (subst (λ (l : List Printed). Goes old new (one_now ++ one_rest.0) l halts) two_is
-      (prints one_rest.0 two_rest.0 halts (λ is_over was_read. (
+      (prints.goes one_rest.0 two_rest.0 halts (λ is_over was_read. (
         over_prints_none w (fits.one_over is_over) (own One (performed_in more)) one_rest.0
             (ap (λ (v : World). drained_lines (closed v).lines) (sym (after_more starts before more One)) ∙ one_rest.1),
         whole.halts was_read (ap (λ (v : World). (closed v).halts) (after_more starts before more One) ∙ over_shows_none w (fits.one_over is_over) (own One (performed_in more))),
@@ -88,37 +94,14 @@ entries_whole starts refusal day entries is_read run whole read printed = record
       ∙ (ap (halt_text_of refusal) none ∙ ap (λ (r : Option (ℕ × ℕ)). halt_text_of r []) (read was_read)));
 }
 
-pub day_written : {P : Type 0} (from to : P) (sheet : P → Sheet) (is_read : P → Bool) (Base : P → Event → P → Type 0) (contents : List (List ℕ)) (deck1 deck2 : List ℕ) (refusal : Option (ℕ × ℕ)) (bounds : Bounds) (entries : List Entry) (result : Result Day RunFault)
-    → IfOk result (λ day. (header : Header) → mounted contents ≡ Ok header → HasPrinted (starts_in header contents deck1 deck2) refusal entries day.run)
+pub day_written : {P : Type 0} (from to : P) (sheet : P → Sheet) (is_read : P → Bool) (Base : P → Event → P → Type 0) (contents cards1 cards2 : List (List ℕ)) (refusal : Option (ℕ × ℕ)) (bounds : Bounds) (entries : List Entry) (result : Result Day RunFault)
+    → IfOk result (λ day. (header : Header) → mounted contents ≡ Ok header → HasPrinted (starts_in header contents cards1 cards2) refusal entries day.run)
     → IfOk result (λ day. (header : Header) → mounted contents ≡ Ok header
-    → IsAnswered (λ old event new. MeetsPrinting (Base old event new) (is_read old) (is_read new) event (sheet old) (sheet new)) (starts_in header contents deck1 deck2) bounds entries day.ends from to)
+    → IsAnswered (λ old event new. MeetsPrinting (Base old event new) (is_read old) (is_read new) event (sheet old) (sheet new)) (starts_in header contents cards1 cards2) bounds entries day.ends from to)
     → IfOk result (λ day. (header : Header) → mounted contents ≡ Ok header → (is_read from ≡ true → refusal ≡ None) → Goes (sheet from) (sheet to) day.run.one.lines.items day.run.two.lines.items day.run.one.halts.items)
-day_written from to sheet is_read Base contents deck1 deck2 refusal bounds entries (Ok day) printed answered = λ header mount read.
-    let starts : LevelId → World = starts_in header contents deck1 deck2 in
+day_written from to sheet is_read Base contents cards1 cards2 refusal bounds entries (Ok day) printed answered = λ header mount read.
+    let starts : LevelId → World = starts_in header contents cards1 cards2 in
     let moments = answered header mount in
     day_goes sheet is_read Base starts (λ level es. HasReached level [] es bounds) day.run.one.lines.items day.run.two.lines.items day.run.one.halts.items (is_read from) [] moments.day from to refl
     (entries_whole starts refusal moments.day entries (is_read from) day.run moments.whole read (printed header mount)) moments.met moments.fits
-day_written from to sheet is_read Base contents deck1 deck2 refusal bounds entries (Err fault) printed answered = tt
-
--- what its operator has met
-met_of : {P : Type 0} {O : Type 0} (operator : P → O) (meets : O → Event → O → Type 0) (Rest : P → Event → P → Type 0) (events : List Event) (from to : P)
-    → AreMet (λ old event new. meets (operator old) event (operator new) × Rest old event new) from events to → AreMet meets (operator from) events (operator to)
-met_of operator meets Rest [] from to met = ap operator met
-met_of operator meets Rest (event ∷ events) from to met = (operator met.0, (met.1.0.0, met_of operator meets Rest events met.0 to met.1.1))
-
-pub operator_answered : {P : Type 0} {O : Type 0} (from to : P) (operator : P → O) (meets : O → Event → O → Type 0) (Rest : P → Event → P → Type 0) (contents : List (List ℕ)) (deck1 deck2 : List ℕ) (bounds : Bounds) (entries : List Entry)
-    (result : Result Day RunFault)
-    → IfOk result (λ day. (header : Header) → mounted contents ≡ Ok header → IsAnswered (λ old event new. meets (operator old) event (operator new) × Rest old event new) (starts_in header contents deck1 deck2) bounds entries day.ends from to)
-    → IfOk result (λ day. (header : Header) → mounted contents ≡ Ok header → IsAnswered meets (starts_in header contents deck1 deck2) bounds entries day.ends (operator from) (operator to))
-operator_answered from to operator meets Rest contents deck1 deck2 bounds entries (Ok day) answered = λ header mount.
-    let is = answered header mount in
-    record {
-      day = is.day;
-      whole = is.whole;
-      met = met_of operator meets Rest (events_in is.day) from to is.met;
-      fits = is.fits;
-      shown = is.shown;
-      one_halted = is.one_halted;
-      two_halted = is.two_halted;
-    }
-operator_answered from to operator meets Rest contents deck1 deck2 bounds entries (Err fault) answered = tt
+day_written from to sheet is_read Base contents cards1 cards2 refusal bounds entries (Err fault) printed answered = tt

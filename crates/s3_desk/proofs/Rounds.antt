@@ -14,10 +14,11 @@ use Rattle.s3_desk.specs.declared.ends.End.TheVariants.{Halted}
 use Rattle.s3_desk.specs.declared.ends.Ends.{Ends}
 use Rattle.s3_desk.specs.declared.desk.Went.{Went}
 use Rattle.s3_desk.specs.declared.desk.Went.TheVariants.{On, Rests, Cut}
-use Rattle.s3_desk.specs.Inner.Desk.{GoesOn, HasReached, IsLeft, LevelGoes, LevelGoesOn, MayFollow, Spends}
+use Rattle.s3_desk.specs.Inner.Desk.{FollowsAll, GoesOn, HasReached, IsLeft, LevelGoes, LevelGoesOn, Spends, StepsAlike}
 use Rattle.s3_desk.specs.Inner.Events.{Asked, Event, Followed, Shown}
-use Rattle.s3_desk.specs.Inner.Moments.{AllShown, Drained, InTime, IsNew, Met, Moment, Turned, Waits, performed_in, reply_to, shown_in, world_after}
+use Rattle.s3_desk.specs.Inner.Moments.{AllShown, Drained, InTime, IsFollowed, IsNew, Met, Moment, Turned, Waits, performed_in, reply_to, shown_in, world_after}
 use Rattle.s3_desk.specs.Inner.Rounds.{Asks, Begun, IsLeftSo, IsTaken, Passes, Serves, Shows, ShowsAll, ShowsHalt, Sits, SitsFrom, at_level}
+use Rattle.s3_desk.proofs.Following.{alike_fits, due_joined, followed_same, none_due}
 use Rattle.s3_desk.proofs.Moments.{after_same, all_kept, all_shown, fits_so, is_new, moments_of, none_joined, none_new, not_his, passes_met, passes_none, passes_then, passes_work, performed_same, performed_work, quiet_joined, shown_work, shows_answered, shows_kept, shows_worked, vain_joined}
 use Rattle.s3_desk.proofs.Sittings.{at_rest_so, both_go, level_goes, own-append, rests_at, still_rests}
 
@@ -45,9 +46,14 @@ module _ {M : Type 0} (holds : M → LevelId → World → Type 0) where
   now_held first starts before was old begun level =
       subst (λ es. holds old level (solo (starts level) (own level es))) begun.whole (begun.performed level (starts level) (begun.held level))
 
-  begun_then : (first : M) (starts : LevelId → World) (before after : List Moment) (was is : List Entry) (old new : M) → Begun holds first starts before was old → GoesOn holds was is old new → is ≡ performed_in after
+  held_then : (first : M) (starts : LevelId → World) (before after : List Moment) (was is : List Entry) (old new : M) → Begun holds first starts before was old → GoesOn holds was is old new → is ≡ performed_in after
+      → (level : LevelId) → holds new level (world_after starts after level)
+  held_then first starts before after was is old new begun goes whole level =
+      subst (λ es. holds new level (solo (starts level) (own level es))) whole (goes first begun.performed level (starts level) (begun.held level))
+
+  begun_then : (first : M) (starts : LevelId → World) (before after : List Moment) (was is : List Entry) (old new : M) → Begun holds first starts before was old → GoesOn holds was is old new → is ≡ performed_in after → IsFollowed after
       → Begun holds first starts after is new
-  begun_then first starts before after was is old new begun goes whole = record { held = begun.held; performed = goes first begun.performed; whole = whole }
+  begun_then first starts before after was is old new begun goes whole followed = record { held = begun.held; performed = goes first begun.performed; whole = whole; followed = followed }
 
   module _ {O : Type 0} (meets : O → Event → O → Type 0) (starts : LevelId → World) (IsCut : LevelId → List Entry → Type 0) where
     abbrev Halts : Bool → LevelId → List Moment → Type 0
@@ -57,10 +63,11 @@ module _ {M : Type 0} (holds : M → LevelId → World → Type 0) where
     HaltsAll is_shown level day = ShowsAll (world_after starts day level).halts (shown_in level day) is_shown
 
     -- ---- a level goes on
-    abbrev work_part : (level : LevelId) (before : List Moment) (was is : List Entry) (old new : M) (from : O) → LevelGoes holds level [] was is old new → was ≡ performed_in before → Part meets (InTime starts IsCut) level before is from from
-    work_part level before was is old new from goes whole = record {
+    abbrev work_part : (level : LevelId) (before : List Moment) (was is : List Entry) (old new : M) (from : O) → LevelGoes holds level [] was is old new → StepsAlike holds level was is old
+        → holds old level (world_after starts before level) → IsFollowed before → was ≡ performed_in before → Part meets (InTime starts IsCut) level before is from from
+    work_part level before was is old new from goes alike held followed whole = record {
       day = moments_of goes.more;
-      passes = passes_work meets starts IsCut before goes.more was is from goes.are whole goes.whole;
+      passes = passes_work meets starts IsCut before goes.more was is from goes.are whole goes.whole (alike_fits starts IsCut holds level before goes.more was is old goes.whole alike held followed);
       his = ap (own (other level)) (performed_work goes.more goes.are)
           ∙ append_cancel_left (own (other level) was) (own (other level) goes.more) []
           (sym (own-append (other level) was goes.more) ∙ (sym (ap (own (other level)) goes.whole) ∙ (goes.alone ∙ sym (append-nil (own (other level) was)))));
@@ -79,11 +86,12 @@ module _ {M : Type 0} (holds : M → LevelId → World → Type 0) where
       pub part : Part meets (InTime starts IsCut) level before is from to
       pub mine : own level (performed_in part.day) ≡ []
       pub mine_halts : shown_in level part.day ≡ []
+      pub followed : IsFollowed (before ++ part.day)
 
-    followed_part : (level : LevelId) (before : List Moment) (is : List Entry) (now : M) (from to : O) → is ≡ performed_in before → ((level : LevelId) → holds now level (world_after starts before level))
-        → MayFollow holds meets level is now from to → Silent level before is from to
-    followed_part level before is now from to whole held (inl same) = record { part = no_part level before is from to whole same; mine = refl; mine_halts = refl }
-    followed_part level before is now from to whole held (inr follows) = record {
+    followed_part : (level : LevelId) (before : List Moment) (was is : List Entry) (now : M) (from to : O) → is ≡ performed_in before → ((level : LevelId) → holds now level (world_after starts before level))
+        → (is ≡ was → IsFollowed before) → FollowsAll holds meets level was is now from to → Silent level before is from to
+    followed_part level before was is now from to whole held none (inl same) = record { part = no_part level before is from to whole same.1; mine = refl; mine_halts = refl; followed = followed_same before (none same.0) }
+    followed_part level before was is now from to whole held none (inr follows) = record {
       part = record {
         day = Met (Followed level follows.one follows.two follows.is_one_over is) ∷ [];
         passes = passes_met meets (InTime starts IsCut) before (Followed level follows.one follows.two follows.is_one_over is) is is from to whole (sym (append-nil is)) follows.met
@@ -98,6 +106,7 @@ module _ {M : Type 0} (holds : M → LevelId → World → Type 0) where
       };
       mine = refl;
       mine_halts = refl;
+      followed = due_joined None before (Met (Followed level follows.one follows.two follows.is_one_over is) ∷ []);
     }
 
     abbrev parts_then : (level : LevelId) (before : List Moment) (between is : List Entry) (from half to : O) (ahead : Part meets (InTime starts IsCut) level before between from half)
@@ -113,47 +122,50 @@ module _ {M : Type 0} (holds : M → LevelId → World → Type 0) where
     record Served (level : LevelId) (before : List Moment) (is : List Entry) (from to : O) (is_shown : Bool) : Type 0 where
       pub part : Part meets (InTime starts IsCut) level before is from to
       pub all : HaltsAll is_shown level (before ++ part.day)
+      pub followed : IsFollowed (before ++ part.day)
 
     shown_part : (level : LevelId) (before : List Moment) (is : List Entry) (middle : M) (from to : O) (was_shown is_shown : Bool) → is ≡ performed_in before → holds middle level (world_after starts before level)
-        → Halts was_shown level before → ShowsHalt holds meets level middle from to was_shown is_shown → Served level before is from to is_shown
-    shown_part level before is middle from to was_shown is_shown whole held shows (inl none) =
+        → IsFollowed before → Halts was_shown level before → ShowsHalt holds meets level middle from to was_shown is_shown → Served level before is from to is_shown
+    shown_part level before is middle from to was_shown is_shown whole held followed shows (inl none) =
         let why = none.why (world_after starts before level) held in
         let all : HaltsAll was_shown level before = none_new (world_after starts before level).halts (shown_in level before) was_shown shows why.1 in
         record {
           part = no_part level before is from to whole none.same;
           all = subst (λ (day : List Moment). HaltsAll is_shown level day) (sym (append-nil before)) (subst (λ (b : Bool). HaltsAll b level before) (sym why.0) all);
+          followed = followed_same before followed;
         }
-    shown_part level before is middle from to was_shown is_shown whole held shows (inr one) =
+    shown_part level before is middle from to was_shown is_shown whole held followed shows (inr one) =
         let new : IsNew (world_after starts before level).halts (shown_in level before) one.halt =
         is_new (world_after starts before level).halts (shown_in level before) was_shown one.halt shows one.was_not (one.waits (world_after starts before level) held) in
         record {
           part = record {
             day = Met (Shown level one.halt) ∷ [];
-            passes = passes_met meets (InTime starts IsCut) before (Shown level one.halt) is is from to whole (sym (append-nil is)) one.met new;
+            passes = passes_met meets (InTime starts IsCut) before (Shown level one.halt) is is from to whole (sym (append-nil is)) one.met (new, followed);
             his = refl;
             his_halts = not_of_other level one.halt;
           };
           all = subst (λ (b : Bool). HaltsAll b level (before ++ Met (Shown level one.halt) ∷ [])) (sym one.is_now) (all_shown starts before level one.halt new);
+          followed = due_joined None before (Met (Shown level one.halt) ∷ []) ∙ followed;
         }
 
     served : (level : LevelId) (first : M) (before : List Moment) (was is : List Entry) (old new : M) (from to : O) (was_shown is_shown : Bool) → LevelGoes holds level [] was is old new
         → Serves holds meets level was is old new from to was_shown is_shown → Begun holds first starts before was old → Halts was_shown level before → Served level before is from to is_shown
     served level first before was is old new from to was_shown is_shown goes serves begun shows =
-        let one : Part meets (InTime starts IsCut) level before is from from = work_part level before was is old new from goes begun.whole in
+        let one : Part meets (InTime starts IsCut) level before is from from =
+        work_part level before was is old new from goes serves.alike (now_held first starts before was old begun level) begun.followed begun.whole in
         let one_shows : Halts was_shown level (before ++ one.day) = shows_worked starts before goes.more level was_shown goes.are shows in
-        let begun_one : Begun holds first starts (before ++ one.day) is serves.middle = begun_then first starts before (before ++ one.day) was is old serves.middle begun serves.goes one.passes.whole in
         let two : Silent level (before ++ one.day) is from serves.half =
-        followed_part level (before ++ one.day) is serves.middle from serves.half one.passes.whole (now_held first starts (before ++ one.day) is serves.middle begun_one) serves.followed in
+        followed_part level (before ++ one.day) was is serves.middle from serves.half one.passes.whole (held_then first starts before (before ++ one.day) was is old serves.middle begun serves.goes one.passes.whole)
+        (λ same. none_due was is goes.more before goes.whole same begun.followed) serves.followed in
         let two_shows : Halts was_shown level ((before ++ one.day) ++ two.part.day) = shows_kept starts (before ++ one.day) two.part.day level two.mine two.mine_halts was_shown one_shows in
-        let begun_two : Begun holds first starts ((before ++ one.day) ++ two.part.day) is serves.middle =
-        begun_then first starts before ((before ++ one.day) ++ two.part.day) was is old serves.middle begun serves.goes two.part.passes.whole in
         let three : Served level ((before ++ one.day) ++ two.part.day) is serves.half to is_shown =
         shown_part level ((before ++ one.day) ++ two.part.day) is serves.middle serves.half to was_shown is_shown two.part.passes.whole
-        (now_held first starts ((before ++ one.day) ++ two.part.day) is serves.middle begun_two level) two_shows serves.shows in
+        (held_then first starts before ((before ++ one.day) ++ two.part.day) was is old serves.middle begun serves.goes two.part.passes.whole level) two.followed two_shows serves.shows in
+        let joined = append_assoc (before ++ one.day) two.part.day three.part.day ∙ append_assoc before one.day (two.part.day ++ three.part.day) in
         record {
           part = parts_then level before is is from from to one (parts_then level (before ++ one.day) is is from serves.half to two.part three.part);
-          all = subst (λ (day : List Moment). HaltsAll is_shown level day)
-              (append_assoc (before ++ one.day) two.part.day three.part.day ∙ append_assoc before one.day (two.part.day ++ three.part.day)) three.all;
+          all = subst (λ (day : List Moment). HaltsAll is_shown level day) joined three.all;
+          followed = subst IsFollowed joined three.followed;
         }
 
     -- ---- a question
@@ -164,6 +176,7 @@ module _ {M : Type 0} (holds : M → LevelId → World → Type 0) where
       pub vain : is_taken ≡ false → performed_in part.day ≡ []
       pub asked : is_taken ≡ false → went ≡ Rests → answers ≢ 65535 → is_waiting (world_after starts before level).halts ≡ true
           → (halt : ShownHalt) × ((reply : Option ℕ) × (part.day ≡ Met (Asked level halt reply) ∷ []))
+      pub followed : IsFollowed (before ++ part.day)
 
     -- where one that is at rest with a halt isn't asked, that is since it has taken too many replies
     not_asked : (went : Went) (answers : ℕ) (rests : Bool) → ((went ≢ Rests) ⊎ (answers ≡ 65535)) ⊎ (rests ≡ false) → went ≡ Rests → answers ≢ 65535 → rests ≡ true → ⊥
@@ -198,6 +211,7 @@ module _ {M : Type 0} (holds : M → LevelId → World → Type 0) where
       vain = λ not. refl;
       asked = λ not at_rest few waits. absurd (not_asked went answers (is_waiting (world_after starts before level).halts)
           (why_not level went answers old (world_after starts before level) (now_held first starts before was old begun level) none.why) at_rest few waits);
+      followed = followed_same before begun.followed;
     }
     question level went answers first before was is old from to was_shown is_taken begun all rests others (inr one) =
         let held : holds old level (world_after starts before level) = now_held first starts before was old begun level in
@@ -207,7 +221,7 @@ module _ {M : Type 0} (holds : M → LevelId → World → Type 0) where
           part = record {
             day = Met (Asked level one.halt one.reply) ∷ [];
             passes = passes_met meets (InTime starts IsCut) before (Asked level one.halt one.reply) was is from to begun.whole (one.entries (world_after starts before level) held) one.met
-                (record { waits = waits; shown = all.all; rests = rests one.rests; other_rests = others });
+                (record { waits = waits; shown = all.all; rests = rests one.rests; other_rests = others; followed = begun.followed });
             his = ap (own (other level)) (append-nil (reply_to level one.halt.code one.reply)) ∙ not_his level one.halt.code one.reply;
             his_halts = refl;
           };
@@ -215,6 +229,7 @@ module _ {M : Type 0} (holds : M → LevelId → World → Type 0) where
           taken = is_answered level before one.halt one.reply was_shown is_taken taken waits all;
           vain = is_vain level one.halt one.reply is_taken taken;
           asked = λ not at_rest few waiting. (one.halt, (one.reply, refl));
+          followed = due_joined None before (Met (Asked level one.halt one.reply) ∷ []) ∙ begun.followed;
         }
 
     -- ---- both levels
@@ -223,6 +238,7 @@ module _ {M : Type 0} (holds : M → LevelId → World → Type 0) where
       pub passes : Passes meets (InTime starts IsCut) before day is from to
       pub one_all : HaltsAll one_shown One (before ++ day)
       pub two_all : HaltsAll two_shown Two (before ++ day)
+      pub followed : IsFollowed (before ++ day)
 
     both_served : (first : M) (before : List Moment) (was between is : List Entry) (old middle new : M) (from half to : O) (one_was one_shown two_was two_shown : Bool)
         → LevelGoes holds One [] was between old middle → Serves holds meets One was between old middle from half one_was one_shown
@@ -230,7 +246,7 @@ module _ {M : Type 0} (holds : M → LevelId → World → Type 0) where
         → Begun holds first starts before was old → Halts one_was One before → Halts two_was Two before → BothServed before is from to one_shown two_shown
     both_served first before was between is old middle new from half to one_was one_shown two_was two_shown one_goes one_serves two_goes two_serves begun one_shows two_shows =
         let one : Served One before between from half one_shown = served One first before was between old middle from half one_was one_shown one_goes one_serves begun one_shows in
-        let begun_two : Begun holds first starts (before ++ one.part.day) between middle = begun_then first starts before (before ++ one.part.day) was between old middle begun one_goes.goes one.part.passes.whole in
+        let begun_two : Begun holds first starts (before ++ one.part.day) between middle = begun_then first starts before (before ++ one.part.day) was between old middle begun one_goes.goes one.part.passes.whole one.followed in
         let still : Halts two_was Two (before ++ one.part.day) = shows_kept starts before one.part.day Two one.part.his one.part.his_halts two_was two_shows in
         let two : Served Two (before ++ one.part.day) is half to two_shown = served Two first (before ++ one.part.day) between is middle new half to two_was two_shown two_goes two_serves begun_two still in
         record {
@@ -239,11 +255,12 @@ module _ {M : Type 0} (holds : M → LevelId → World → Type 0) where
           one_all = subst (HaltsAll one_shown One) (append_assoc before one.part.day two.part.day)
               (all_kept starts (before ++ one.part.day) two.part.day One two.part.his two.part.his_halts one_shown one.all);
           two_all = subst (HaltsAll two_shown Two) (append_assoc before one.part.day two.part.day) two.all;
+          followed = subst IsFollowed (append_assoc before one.part.day two.part.day) two.followed;
         }
 
     -- ---- a round that goes on
     sits_on : (before : List Moment) (is : List Entry) (from to : O) (one_shown two_shown : Bool) → BothServed before is from to one_shown two_shown → Sits meets starts IsCut before is from to one_shown two_shown None
-    sits_on before is from to one_shown two_shown both = record { day = both.day; passes = both.passes; left = (inl both.one_all, inl both.two_all) }
+    sits_on before is from to one_shown two_shown both = record { day = both.day; passes = both.passes; left = (inl both.one_all, inl both.two_all); followed = both.followed }
 
     -- level one was asked, and took the reply
     sits_first : (before : List Moment) (between is : List Entry) (from half to : O) (one_shown two_shown : Bool) (went : Went) (answers : ℕ) (is_taken now : Bool) (both : BothServed before between from half one_shown two_shown)
@@ -257,6 +274,7 @@ module _ {M : Type 0} (holds : M → LevelId → World → Type 0) where
             subst (λ (b : Bool). Halts b One (before ++ (both.day ++ asked.part.day))) (sym mark) (subst (Halts false One) whole (asked.taken taken)),
             inl (subst (HaltsAll two_shown Two) whole (all_kept starts (before ++ both.day) asked.part.day Two asked.part.his asked.part.his_halts two_shown both.two_all)),
           );
+          followed = subst IsFollowed whole asked.followed;
         }
 
     -- level one was asked in vain
@@ -267,6 +285,7 @@ module _ {M : Type 0} (holds : M → LevelId → World → Type 0) where
       pub two_all : HaltsAll two_shown Two (before ++ day)
       pub asked : went ≡ Rests → answers ≢ 65535 → is_waiting (world_after starts (before ++ day) One).halts ≡ true
           → (front : List Moment) × ((halt : ShownHalt) × ((reply : Option ℕ) × ((day ≡ front ++ Met (Asked One halt reply) ∷ []) × (performed_in (Met (Asked One halt reply) ∷ []) ≡ []))))
+      pub followed : IsFollowed (before ++ day)
 
     abbrev one_asked : (before : List Moment) (between is : List Entry) (from half to : O) (one_shown two_shown : Bool) (went : Went) (answers : ℕ) (is_taken : Bool) (both : BothServed before between from half one_shown two_shown)
         → Question One went answers (before ++ both.day) is half to one_shown is_taken → is_taken ≡ false → OneAsked before is from to one_shown two_shown went answers
@@ -283,6 +302,7 @@ module _ {M : Type 0} (holds : M → LevelId → World → Type 0) where
               ap (λ (d : List Moment). world_after starts d One) (sym whole) ∙ after_same starts (before ++ both.day) question.part.day One none in
               let is_asked = question.asked not rests few (ap (λ (w : World). is_waiting w.halts) (sym same) ∙ waits) in
               (both.day, (is_asked.0, (is_asked.1.0, (ap (λ (d : List Moment). both.day ++ d) is_asked.1.1, ap performed_in (sym is_asked.1.1) ∙ question.vain not))));
+          followed = subst IsFollowed whole question.followed;
         }
 
     -- level two was asked, and took the reply
@@ -298,6 +318,7 @@ module _ {M : Type 0} (holds : M → LevelId → World → Type 0) where
             inl (subst (HaltsAll one_shown One) whole (all_kept starts (before ++ first.day) asked.part.day One asked.part.his asked.part.his_halts one_shown first.one_all)),
             subst (λ (b : Bool). Halts b Two (before ++ (first.day ++ asked.part.day))) (sym mark) (subst (Halts false Two) whole (asked.taken taken)),
           );
+          followed = subst IsFollowed whole asked.followed;
         }
 
     -- ---- the last round: both were asked in vain
@@ -349,6 +370,7 @@ module _ {M : Type 0} (holds : M → LevelId → World → Type 0) where
                   },
             ),
           );
+          followed = subst IsFollowed whole second.followed;
         }
       where
         each_level : (P : LevelId → Type 0) → P One → P Two → (level : LevelId) → P level
@@ -378,6 +400,7 @@ module _ {M : Type 0} (holds : M → LevelId → World → Type 0) where
         held = begun.held;
         performed = both_go holds was p1 p2 p2 p2 old b1 b2 b2 b2 one two one_goes two_goes first begun.performed;
         whole = both.passes.whole;
+        followed = both.followed;
       }
 
       one_left : one ≡ Rests → IsLeft (world_after starts (before ++ both.day) One)
@@ -425,7 +448,7 @@ module _ {M : Type 0} (holds : M → LevelId → World → Type 0) where
             ∙ (performed_same (before ++ served_both.day) one_question.part.day (one_question.vain not_first) ∙ sym served_both.passes.whole)
 
         begun_asked : Begun holds first starts (before ++ asked_one.day) p3 b3
-        begun_asked = record { held = begun.held; performed = first_goes first (begun_both first starts before begun one_shows two_shows).performed; whole = asked_one.passes.whole }
+        begun_asked = record { held = begun.held; performed = first_goes first (begun_both first starts before begun one_shows two_shows).performed; whole = asked_one.passes.whole; followed = asked_one.followed }
 
         left_still : (level : LevelId) → IsLeft (world_after starts (before ++ served_both.day) level) → IsLeft (world_after starts (before ++ asked_one.day) level)
         left_still level = subst (λ es. IsLeft (solo (starts level) (own level es))) (sym (same_entries ∙ served_both.passes.whole))
@@ -447,7 +470,7 @@ module _ {M : Type 0} (holds : M → LevelId → World → Type 0) where
         sits_at_end one_now two_now ends not second_goes one_halted two_halted =
             let day : List Moment = asked_one.day ++ second_question.part.day in
             let whole : p4 ≡ performed_in (before ++ day) = second_question.part.passes.whole ∙ ap performed_in (append_assoc before asked_one.day second_question.part.day) in
-            let held : (level : LevelId) → holds b4 level (world_after starts (before ++ day) level) = now_held first starts (before ++ day) p4 b4 (record { held = begun.held; performed = second_goes first begun_asked.performed; whole = whole }) in
+            let held : (level : LevelId) → holds b4 level (world_after starts (before ++ day) level) = held_then first starts (before ++ asked_one.day) (before ++ day) p3 p4 b3 b4 begun_asked second_goes whole in
             sits_over meets starts CutAt before p3 p4 o0 o3 o4 one_shown two_shown one_now two_now one two one_answers two_answers is_second ends asked_one second_question not
             (λ halted. let facts = one_halted halted in (facts.0, (facts.1.0, facts.1.1 (world_after starts (before ++ day) One) (held One))))
             (λ halted. let facts = two_halted halted in (facts.0, (facts.1.0, facts.1.1 (world_after starts (before ++ day) Two) (held Two))))
@@ -475,15 +498,16 @@ module _ {M : Type 0} (holds : M → LevelId → World → Type 0) where
         subst (λ (d : List Moment). Shows (world_after starts d One).halts (shown_in One d) one) (sym (append-nil before)) (subst (λ (b : Bool). Shows (world_after starts before One).halts (shown_in One before) b) (sym one_not) one_shows),
         subst (λ (d : List Moment). Shows (world_after starts d Two).halts (shown_in Two d) two) (sym (append-nil before)) (subst (λ (b : Bool). Shows (world_after starts before Two).halts (shown_in Two before) b) (sym two_not) two_shows),
       );
+      followed = followed_same before begun.followed;
     }
 
     cut_so : (starts : LevelId → World) (IsCut Others : LevelId → List Entry → Type 0) → ((level : LevelId) (entries : List Entry) → IsCut level entries → Others level entries) → (day : List Moment) (moment : Moment)
         → InTime starts IsCut day moment → InTime starts Others day moment
-    cut_so starts IsCut Others go day (Turned level) fits = tt
-    cut_so starts IsCut Others go day (Drained level) fits = tt
+    cut_so starts IsCut Others go day (Turned level) fits = fits
+    cut_so starts IsCut Others go day (Drained level) fits = fits
     cut_so starts IsCut Others go day (Met (Followed level one two is_one_over entries)) fits = record { one_printed = fits.one_printed; two_printed = fits.two_printed; one_over = fits.one_over; performed = fits.performed }
     cut_so starts IsCut Others go day (Met (Shown level halt)) fits = fits
-    cut_so starts IsCut Others go day (Met (Asked level halt reply)) fits = record { waits = fits.waits; shown = fits.shown; rests = fits.rests; other_rests = by fits.other_rests }
+    cut_so starts IsCut Others go day (Met (Asked level halt reply)) fits = record { waits = fits.waits; shown = fits.shown; rests = fits.rests; other_rests = by fits.other_rests; followed = fits.followed }
       where
         by : IsLeft (world_after starts day (other level)) ⊎ IsCut (other level) (performed_in day) → IsLeft (world_after starts day (other level)) ⊎ Others (other level) (performed_in day)
         by (inl left) = inl left
@@ -496,12 +520,13 @@ module _ {M : Type 0} (holds : M → LevelId → World → Type 0) where
     sits_then IsCut Later was between is old middle from half to one_was two_was one_then two_then one two ends goes cut ahead next first starts before begun one_shows two_shows =
         let a : Sits meets starts IsCut before between from half one_then two_then None = ahead first starts before begun one_shows two_shows in
         let b : Sits meets starts Later (before ++ a.day) is half to one two ends =
-        next first starts (before ++ a.day) (begun_then first starts before (before ++ a.day) was between old middle begun goes a.passes.whole) a.left.0 a.left.1 in
+        next first starts (before ++ a.day) (begun_then first starts before (before ++ a.day) was between old middle begun goes a.passes.whole a.followed) a.left.0 a.left.1 in
         record {
           day = a.day ++ b.day;
           passes = passes_then meets (InTime starts IsCut) before a.day b.day between is from half to a.passes
               (record { whole = b.passes.whole; met = b.passes.met; fits = fits_so (InTime starts Later) (InTime starts IsCut) (before ++ a.day) b.day (cut_so starts Later IsCut cut) b.passes.fits });
           left = subst (λ (d : List Moment). IsLeftSo starts d one two ends) (append_assoc before a.day b.day) b.left;
+          followed = subst IsFollowed (append_assoc before a.day b.day) b.followed;
         }
 
     module _ (bounds : Bounds) (was between is : List Entry) (old middle : M) (from half to : O) (one_then two_then one two : Bool) (one_left two_left : Bounds) (ends : Option Ends)
@@ -522,4 +547,4 @@ module _ {M : Type 0} (holds : M → LevelId → World → Type 0) where
       sits_to_end over same first starts before begun one_shows two_shows =
           let sits : Sits meets starts (λ level entries. HasReached level was entries bounds) before is from to one two (Some over) =
           subst (λ (o : Option Ends). Sits meets starts (λ level entries. HasReached level was entries bounds) before is from to one two o) same (more first starts before begun one_shows two_shows) in
-          record { day = sits.day; passes = sits.passes; left = sits.left }
+          record { day = sits.day; passes = sits.passes; left = sits.left; followed = sits.followed }

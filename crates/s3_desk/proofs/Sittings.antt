@@ -1,5 +1,5 @@
 -- Entries that are noted at a desk, and those that aren't since they did nothing.
-use Rattle.std.proofs.Common.{◌≡◌, ◌≢◌, ◌⊎◌, inl, inr, ◌<◌, ◌≤◌, ◌+◌, ◌*◌, ℕ, zero, suc, Bool, true, false, List, [], ◌∷◌, ◌++◌, replicate, append_assoc, if◌then◌else◌, Result, Ok, Err, IfOk, refl, sym, ap, ap₂, subst, ◌∙◌, arith}
+use Rattle.std.proofs.Common.{◌≡◌, ◌≢◌, ◌⊎◌, inl, inr, ◌<◌, ◌≤◌, ◌+◌, ◌*◌, ℕ, zero, suc, Bool, true, false, List, [], ◌∷◌, ◌++◌, replicate, append_assoc, if◌then◌else◌, Result, Ok, Err, IfOk, OnOk, refl, sym, ap, ap₂, subst, ◌∙◌, arith}
 use Rattle.std.specs.Prelude.{cond, filter, length}
 use Rattle.std.proofs.lemmas.List.{append-nil, length-append}
 use Rattle.std.proofs.lemmas.List.Elements.{filter-append}
@@ -15,6 +15,7 @@ use Rattle.s3_solo.specs.Lines.{is_queued, with_drained}
 use Rattle.s3_solo.specs.World.{World}
 use Rattle.s3_solo.specs.Serving.{Outcome, acted, idle}
 use Rattle.s3_solo.specs.Solo.{drained, refused, replied, solo, step_of, turned}
+use Rattle.s3_level.specs.Inner.Holds.{StopsAtEnd}
 use Rattle.s3_time.specs.Inner.Moves.{IsAtRest}
 use Rattle.s3_time.proofs.Entries.{ActsOrIdle, reply_acts, turn_acts}
 use Rattle.s3_time.proofs.Resting.{idle_and_empty}
@@ -28,7 +29,7 @@ use Rattle.s3_desk.specs.declared.desk.Went.{Went}
 use Rattle.s3_desk.specs.declared.desk.Went.TheVariants.{On, Rests, Cut}
 use Rattle.s3_bureau.specs.Entries.{own, with_action}
 use Rattle.s3_bureau.specs.Inner.Underway.{Performs}
-use Rattle.s3_desk.specs.Inner.Desk.{AreMet, AsksLevel, BothEnd, Counts, DidNothing, DrainsQueue, DrainsSoFar, EndsAs, GivesReply, GoesOn, HasReached, HasReplied, IsLeft, IsLeftAt, IsQuiet, IsSpent, Keeps, LevelGoes, LevelGoesOn, RepliesLast, RestsAt, Spends, Uses, is_drain, is_reply, is_turn, lines_in, replies_in, replies_left, room, turns_in}
+use Rattle.s3_desk.specs.Inner.Desk.{AreMet, AsksLevel, BothEnd, Counts, DidNothing, DrainsQueue, DrainsSoFar, EndsAs, Follows, FollowsAll, GivesReply, GoesOn, HasReached, HasReplied, IsLeft, IsLeftAt, IsQuiet, IsSpent, Keeps, LevelGoes, LevelGoesOn, RepliesLast, RestsAt, Spends, StepsAlike, TakesLines, Uses, is_drain, is_reply, is_turn, lines_in, replies_in, replies_left, room, turns_in}
 use Rattle.s3_desk.specs.Inner.Calls.{GoesAfter}
 use Rattle.s3_desk.specs.Inner.Events.{Event}
 use Rattle.s3_bureau.proofs.Performing.{performs_then, times_more}
@@ -271,6 +272,25 @@ pub idle_then : (was between is : List Entry) (first : Went) (result : Result We
 idle_then was between is first (Ok went) rests before idle = λ not_on. idle not_on ∙ before (λ on. cc)
 idle_then was between is first (Err stop) rests before idle = tt
 
+-- ---- lines alone
+pub no_lines : (level : LevelId) (was : List Entry) → TakesLines level was was
+no_lines level was = record { times = 0; whole = sym (append-nil was) }
+
+once_more : (n : ℕ) (entry : Entry) → replicate n entry ++ replicate 1 entry ≡ replicate (suc n) entry
+once_more zero entry = refl
+once_more (suc n) entry = ap (λ (es : List Entry). entry ∷ es) (once_more n entry)
+
+pub line_more : (level : LevelId) (was between is : List Entry) → TakesLines level was between → is ≡ between ++ replicate 1 (record { level = level; action = Drain }) → TakesLines level was is
+line_more level was between is so_far whole =
+    let line : Entry = record { level = level; action = Drain } in
+    record {
+      times = suc so_far.times;
+      whole = whole
+          ∙ (ap (λ (es : List Entry). es ++ replicate 1 line) so_far.whole
+          ∙ (append_assoc was (replicate so_far.times line) (replicate 1 line)
+          ∙ ap (λ (es : List Entry). was ++ es) (once_more so_far.times line)));
+    }
+
 -- ---- how many replies are counted
 pub counts_then : (level : LevelId) (was between is : List Entry) (old middle new : ℕ) → Counts level was between old middle → Counts level between is middle new → Counts level was is old new
 counts_then level was between is old middle new ahead next = λ first last. next first (ahead first last)
@@ -391,6 +411,26 @@ module _ {M : Type 0} (holds : M → LevelId → World → Type 0) where
     quiet = record { same = refl; keeps = nothing_held entry times did (holds old) (holds new) not steps stays };
     nothing = λ w held. first_nothing entry.action times did w some not (steps w held).0;
   }
+
+  -- ---- turns alone, or lines alone
+  pub alike_turns : (level : LevelId) (times noted : ℕ) (was is : List Entry) (old : M) → StopsAtEnd Turn times (holds old level) → noted ≡ times → is ≡ was ++ replicate noted (record { level = level; action = Turn }) → StepsAlike holds level was is old
+  alike_turns level times noted was is old at_work count whole =
+      inl (record { times = times; whole = whole ∙ ap (λ (n : ℕ). was ++ replicate n (record { level = level; action = Turn })) count; at_work = at_work })
+
+  pub alike_none : (level : LevelId) (was : List Entry) (old : M) → StepsAlike holds level was was old
+  alike_none level was old = inr (no_lines level was)
+
+  pub alike_lines : (level : LevelId) (was between is : List Entry) (old : M) (first : Went) (result : Result Went Stop) → first ≡ Rests → (first ≢ On → between ≡ was) → OnOk result (TakesLines level between is)
+      → OnOk result (StepsAlike holds level was is old)
+  alike_lines level was between is old first (Ok went) rests before lines = inr (subst (λ (es : List Entry). TakesLines level es is) (before (λ on. cc)) lines)
+  alike_lines level was between is old first (Err stop) rests before lines = tt
+
+  -- and so the operator follows them
+  pub follows_all : {O : Type 0} (meets : O → Event → O → Type 0) (level : LevelId) (went : Went) (was is : List Entry) (now : M) (from to : O) → (went ≢ Rests → Follows holds meets level is now from to) → (went ≡ Rests → to ≡ from)
+      → (went ≢ On → is ≡ was) → FollowsAll holds meets level was is now from to
+  follows_all meets level On was is now from to follows rests idle = inr (follows (λ is_rests. cc))
+  follows_all meets level Cut was is now from to follows rests idle = inr (follows (λ is_rests. cc))
+  follows_all meets level Rests was is now from to follows rests idle = inl (idle (λ on. cc), rests refl)
 
   -- ---- one after the other
   unmoved : (was : List Entry) (old : M) → IsQuiet holds was was old old

@@ -13,7 +13,7 @@ ghost use Rattle.s3_desk.specs.declared.desk.Went.TheVariants.{Cut, On, Rests};
 ghost use Rattle.s3_desk.specs.declared.ends.Bounds.{Bounds};
 ghost use Rattle.s3_desk.specs.declared.ends.End.TheVariants.{Cut as CutOff, Halted, OutOfReplies};
 ghost use Rattle.s3_desk.specs.Inner.Calls.{GoesAfter, KeepsFrom, NeverStopped};
-ghost use Rattle.s3_desk.specs.Inner.Desk.{AsksLevel, Counts, DayEnds, DrainsQueue, EndsAs, Follows, GivesReply, HasReached, HasReplied, IsLeft, IsSpent, Keeps, LevelGoesOn, MayFollow, RoundEnds, Spends, TakesTurns, Uses, replies_left, with_reply, work_left};
+ghost use Rattle.s3_desk.specs.Inner.Desk.{AsksLevel, Counts, DayEnds, DrainsQueue, EndsAs, Follows, GivesReply, HasReached, HasReplied, IsLeft, IsSpent, Keeps, LevelGoesOn, RoundEnds, Spends, StepsAlike, TakesLines, TakesTurns, Uses, replies_left, with_reply, work_left};
 ghost use Rattle.s3_desk.specs.Inner.Rounds.{Asks, Serves, ShowsHalt, SitsFrom, at_level};
 
 use crate::ends::{Bounds, End, Ends};
@@ -82,6 +82,7 @@ impl Seat {
 }
 
 /// Takes turns, as many as act, up to a stride of them.
+#[tactic(auto, using(crate::proofs::Sittings::alike_none))]
 fn take_turns<M: Machine>(
     bureau: &mut M,
     level: LevelId,
@@ -90,6 +91,7 @@ fn take_turns<M: Machine>(
     performed: &mut Performed,
 ) -> Result<Went, Stop>
     ensures goes { TakesTurns M.holds level performed.old performed.new bureau.old bureau.new result }
+    ensures alike { OnOk result (StepsAlike M.holds level performed.old performed.new bureau.old) }
     ensures idle { IfOk result (λ went. went ≢ On → performed.new ≡ performed.old) }
     ensures uses { IfOk result (λ went. Uses level performed.old performed.new left.old left.new went) }
     ensures after { OnOk result (GoesAfter M.after performed.old performed.new bureau.old bureau.new) }
@@ -118,6 +120,7 @@ fn take_turns<M: Machine>(
 }
 
 /// Drains the queue of a level to its end.
+#[tactic(auto, using(crate::proofs::Sittings::no_lines))]
 fn drain_queue<M: Machine>(
     bureau: &mut M,
     level: LevelId,
@@ -125,6 +128,7 @@ fn drain_queue<M: Machine>(
     performed: &mut Performed,
 ) -> Result<Went, Stop>
     ensures goes { DrainsQueue M.holds level performed.old performed.new bureau.old bureau.new result }
+    ensures lines { OnOk result (TakesLines level performed.old performed.new) }
     ensures idle { IfOk result (λ went. went ≢ On → performed.new ≡ performed.old) }
     ensures uses { IfOk result (λ went. Uses level performed.old performed.new left.old left.new went) }
     ensures after { OnOk result (GoesAfter M.after performed.old performed.new bureau.old bureau.new) }
@@ -164,7 +168,7 @@ fn cut_unless_on(went: Went) -> Went
 }
 
 /// A level goes on by turns; where none acts, its queue is drained.
-#[tactic(auto, using(crate::proofs::Sittings::cut_idle, crate::proofs::Sittings::idle_then))]
+#[tactic(auto, using(crate::proofs::Sittings::alike_lines, crate::proofs::Sittings::alike_none, crate::proofs::Sittings::cut_idle, crate::proofs::Sittings::idle_then))]
 fn go_on<M: Machine>(
     bureau: &mut M,
     level: LevelId,
@@ -173,6 +177,7 @@ fn go_on<M: Machine>(
     performed: &mut Performed,
 ) -> Result<Went, Stop>
     ensures goes { LevelGoesOn M.holds level performed.old performed.new bureau.old bureau.new result }
+    ensures alike { OnOk result (StepsAlike M.holds level performed.old performed.new bureau.old) }
     ensures idle { IfOk result (λ went. went ≢ On → performed.new ≡ performed.old) }
     ensures uses { IfOk result (λ went. Uses level performed.old performed.new left.old left.new went) }
     ensures after { OnOk result (GoesAfter M.after performed.old performed.new bureau.old bureau.new) }
@@ -269,7 +274,8 @@ fn follow<M: Machine, O: Operator<M>>(
     operator: &mut O,
     performed: &Performed,
 ) -> Result<(), Stop>
-    ensures met { OnOk result (MayFollow M.holds O.meets level performed.now bureau.now operator.old operator.new) }
+    ensures met { OnOk result (went ≢ Rests → Follows M.holds O.meets level performed.now bureau.now operator.old operator.new) }
+    ensures rests { went ≡ Rests → operator.new ≡ operator.old }
     ensures same_left { seat.new.left ≡ seat.old.left }
     ensures same_shown { seat.new.is_shown ≡ seat.old.is_shown }
     ensures fewer { seat.new.answers ≤ seat.old.answers }

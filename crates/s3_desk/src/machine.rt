@@ -6,7 +6,7 @@ ghost use Rattle.s3_cards.specs.declared.levels.LevelId.{LevelId};
 ghost use Rattle.s3_operator.specs.Inner.Halts.{halt_of};
 ghost use Rattle.s3_solo.specs.declared.action.Did.TheVariants.{Acted};
 ghost use Rattle.s3_solo.specs.World.{World};
-ghost use Rattle.s3_level.specs.Inner.Holds.{IsUpTo, Repeats, Steps};
+ghost use Rattle.s3_level.specs.Inner.Holds.{IsUpTo, Repeats, Steps, StopsAtEnd};
 ghost use Rattle.s3_bureau.specs.declared.entry.Entry.{Entry};
 ghost use Rattle.s3_bureau.specs.Inner.Stops.{failed_stop};
 ghost use Rattle.s3_desk.specs.Inner.Calls.{GoesAfter, KeepsFrom, NeverStopped};
@@ -44,10 +44,11 @@ pub trait Machine {
         ensures kept { KeepsFrom keeps self.old self.new }
         ensures failed { failures self.new ≡ failures self.old + failed_stop result };
 
-    /// An entry so many times at most, and at least once.
+    /// An entry so many times at most, and at least once. Turns stop when a job ends.
     fn repeat(&mut self, entry: Entry, most: NonZeroU16) -> Result<Taken, Stop>
         ensures times { IfOk result (λ taken. IsUpTo (non_zero_u16_get most) taken) }
         ensures own { IfOk result (λ taken. Repeats entry.action taken.times taken.did (holds self.old entry.level) (holds self.new entry.level)) }
+        ensures job_ends { IfOk result (λ taken. StopsAtEnd entry.action taken.times (holds self.old entry.level)) }
         ensures other { OnOk result ((w : World) → holds self.old (other entry.level) w → holds self.new (other entry.level) w) }
         ensures acted { IfOk result (λ taken. taken.did ≡ Acted → (was : List Entry) → GoesAfter after was (was ++ replicate taken.times entry) self.old self.new) }
         ensures quiet { IfOk result (λ taken. taken.did ≢ Acted → (was : List Entry) → GoesAfter after was was self.old self.new) }

@@ -39,7 +39,8 @@ impl<O: Drop, W: Write + Drop> Printing<O, W> {
 
 /// Whether both are so.
 fn are_both(one: bool, two: bool) -> bool
-    ensures { result ≡ true → (one ≡ true) × (two ≡ true) }
+    ensures yes { result ≡ true → (one ≡ true) × (two ≡ true) }
+    ensures all { one ≡ true → two ≡ true → result ≡ true }
 {
     one && two
 }

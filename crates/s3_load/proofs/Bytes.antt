@@ -3,10 +3,11 @@ use Rattle.std.proofs.Common.{◌≡◌, ℕ, zero, suc, ◌+◌, ◌-◌, ◌*�
 use Rattle.std.specs.Prelude.{Some, find, unwrap_or}
 use native.Mathlib.Numerals.{unary_clauses}
 use Rattle.std.proofs.Math.Nat.{mod-lt, mul-le-mul_left}
-use Rattle.std.specs.List.{list_all}
+use Rattle.std.specs.List.{All, list_all}
 use Rattle.std.specs.Option.{option_map}
 use Rattle.std.proofs.lemmas.Bool.{and_parts, cases_Bool, leb-true, ltb-true}
 use Rattle.std.proofs.lemmas.List.{get_or-drop, get_or-take}
+use Rattle.std.proofs.lemmas.List.Elements.{All-head, All-tail}
 use Rattle.std.proofs.lemmas.List.Folds.{Any-from_list_any}
 use Rattle.s3_cards.specs.Codes.{code_page, ebcdic}
 use Rattle.s3_cards.specs.declared.ebcdic.TheConstants.{BLANK, DIGIT_0}
@@ -39,6 +40,11 @@ from_places : (xs : List ℕ) → ((i : ℕ) → get_or xs i 0 < 256) → AreByt
 unfolding AreBytes
 from_places [] h = tt
 from_places (x ∷ xs) h = (h zero, from_places xs (λ i. h (suc i)))
+
+pub from_all : (xs : List ℕ) → All (λ b. b < 256) xs → AreBytes xs
+unfolding AreBytes
+from_all [] h = tt
+from_all (x ∷ xs) h = (All-head (λ b. b < 256) x xs h, from_all xs (All-tail (λ b. b < 256) x xs h))
 
 pub bytes_taken : (n : ℕ) (xs : List ℕ) → AreBytes xs → AreBytes (take n xs)
 unfolding AreBytes

@@ -1,6 +1,8 @@
 pub mod ColumnLemmas
 pub mod CountedSlots
 pub mod FillLemmas
+pub mod FixedLaws
+pub mod FixedLemmas
 pub mod KeyLemmas
 pub mod LoadedPacks
 pub mod PlacedFiles

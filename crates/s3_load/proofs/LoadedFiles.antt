@@ -97,9 +97,9 @@ keyed_by key Indexed key_length key_start h =
     record { indexed = refl; wide = eqb-true key_length key.length both.0; starts = eqb-true key_start key.start both.1 }
 
 -- records of one length, of bytes
-record AreWhole (n : ℕ) (records : List (List ℕ)) : Type 0 where
-  long : All (λ bytes. length bytes ≡ n) records
-  bytes : All AreBytes records
+pub record AreWhole (n : ℕ) (records : List (List ℕ)) : Type 0 where
+  pub long : All (λ bytes. length bytes ≡ n) records
+  pub bytes : All AreBytes records
 
 whole_records : (n : ℕ) (columns filled : List Field) (chosen : ChosenRecords) (cells : List (List (List ℕ))) (rows : List Row) → AreRecordsOf n columns filled chosen cells rows → AreWhole n (records_of rows)
 whole_records n columns filled chosen cells rows made = record { long = λ k d low. (whole k d low).0; bytes = λ k d low. (whole k d low).1 }
@@ -126,21 +126,26 @@ ordered_as_loaded (Some key) label contents n rows has is whole pairs =
 pub loaded_file : (order : Order) (added : List (List ℕ)) (header : Header) (old new : List (List ℕ)) (file : HasFile order added header old new) → HasFileAsked order new file.label
 loaded_file order added header old new file = record { header = header; mounts = file.mounts; slot = file.slot; slot_in = file.slot_in; there = file.there; asked = file.asked }
 
+-- rows that were put into a new file, in the order of their keys if it has one
+pub unloaded_rows : (order : Order) (made rows : List Row) (header : Header) (old new : List (List ℕ)) → order.appends ≡ false → (file : HasFile order (records_of rows) header old new) → IsPermutation made rows → (order.key ≡ None → rows ≡ made)
+    → AreInKeyOrder order.key rows → AreWhole order.layout.now.record_length (records_of made) → AreUnloaded order file.label new (records_of made)
+unloaded_rows order made rows header old new anew file moves unsorted pairs begun =
+    let label = file.label in
+    let n = order.layout.now.record_length in
+    let moved : IsPermutation (records_of made) (records_of rows) = IsPermutation-map (λ (row : Row). row.bytes.items) made rows moves in
+    let whole : AreWhole n (records_of rows) =
+    record { long = All-permutation (λ bytes. length bytes ≡ n) (records_of made) (records_of rows) moved begun.long; bytes = All-permutation AreBytes (records_of made) (records_of rows) moved begun.bytes } in
+    let all : ordered label new ≡ records_of rows = ordered_as_loaded order.key label new n rows file.asked.keyed (new_records order (records_of rows) header old new file anew) whole pairs in
+    let same : IsPermutation (records_of made) (ordered label new) = subst (IsPermutation (records_of made)) (sym all) moved in
+    let unkeyed : order.key ≡ None → ordered label new ≡ records_of made = λ none. all ∙ ap records_of (unsorted none) in
+    let keyed : AreByKey order.key (ordered label new) = subst (AreByKey order.key) (sym all) (by_keys order.key rows pairs) in
+    record { same = same; unkeyed = unkeyed; keyed = keyed; in_order = λ stand. as_they_stood order.key (records_of made) (ordered label new) same unkeyed keyed stand }
+
 pub loaded_as : (order : Order) (text : List ℕ) (old new : List (List ℕ)) → order.appends ≡ false → (is : IsLoaded order (Some text) old new) → AreUnloaded order is.filled.label new (records_of (is.table text refl).made)
 loaded_as order text old new anew is =
     let table = is.table text refl in
-    let file = is.filled in
-    let label = file.label in
-    let n = order.layout.now.record_length in
-    let moved : IsPermutation (records_of table.made) (records_of is.rows) = IsPermutation-map (λ (row : Row). row.bytes.items) table.made is.rows table.same in
-    let begun = whole_records n table.columns.fields.items table.columns.filled.items order.chosen.now table.are_rows.cells table.made table.are_rows.made in
-    let whole : AreWhole n (records_of is.rows) =
-    record { long = All-permutation (λ bytes. length bytes ≡ n) (records_of table.made) (records_of is.rows) moved begun.long; bytes = All-permutation AreBytes (records_of table.made) (records_of is.rows) moved begun.bytes } in
-    let all : ordered label new ≡ records_of is.rows = ordered_as_loaded order.key label new n is.rows file.asked.keyed (new_records order (records_of is.rows) is.header old new file anew) whole table.keyed in
-    let same : IsPermutation (records_of table.made) (ordered label new) = subst (IsPermutation (records_of table.made)) (sym all) moved in
-    let unkeyed : order.key ≡ None → ordered label new ≡ records_of table.made = λ none. all ∙ ap records_of (table.unkeyed none) in
-    let keyed : AreByKey order.key (ordered label new) = subst (AreByKey order.key) (sym all) (by_keys order.key is.rows table.keyed) in
-    record { same = same; unkeyed = unkeyed; keyed = keyed; in_order = λ stand. as_they_stood order.key (records_of table.made) (ordered label new) same unkeyed keyed stand }
+    unloaded_rows order table.made is.rows is.header old new anew is.filled table.same table.unkeyed table.keyed
+    (whole_records order.layout.now.record_length table.columns.fields.items table.columns.filled.items order.chosen.now table.are_rows.cells table.made table.are_rows.made)
 
 pub loaded_unloaded : (order : Order) (text : List ℕ) (old new : List (List ℕ)) → order.appends ≡ false → IsLoaded order (Some text) old new → UnloadsTable order text new
 loaded_unloaded order text old new anew is =

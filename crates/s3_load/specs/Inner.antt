@@ -3,6 +3,7 @@ pub mod Columns
 pub mod Owners
 pub mod Records
 pub mod Filling
+pub mod FixedTexts
 pub mod KeyOrder
 pub mod Loaded
 pub mod Tables

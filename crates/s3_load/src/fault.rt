@@ -36,12 +36,20 @@ pub enum Reason {
     KeyInFile(Vec<u8>),
     /// The record isn't of the type that is chosen.
     OtherType(TypeFault),
+    /// The record of a fixed length ends after so many bytes, and has so many.
+    Short(usize, usize),
+    /// The line of a record of a fixed length has so many characters, and the record so many.
+    Long(usize, usize),
+    /// After so many bytes of a record of a fixed length, this one is in place of the line feed.
+    NoLineFeed(usize, u8),
+    /// This position of a record of a fixed length, from 1, has this byte, which is no character of a card.
+    NoCode(usize, u8),
 }
 
 /// What is wrong with a row.
 #[derive(Drop)]
 pub struct ValueFault {
-    /// The line on which the row begins, from 1.
+    /// The line on which the row begins, or the number of the record of a fixed length, from 1.
     pub line: u64,
     /// The field, if one is in error.
     pub field: Option<Name>,

@@ -1,4 +1,4 @@
-//! Tables in CSV, loaded into files of a pack.
+//! Tables in CSV, and records of a fixed length, loaded into files of a pack.
 //!
 //! What is proved, for every pack, order and reader:
 //!
@@ -23,6 +23,9 @@
 //!   in their old order, if the layout has each byte of a record, its fields have different names, and each value can be shown
 //!   (`what_is_unloaded_is_loaded`). Neither theorem covers records that are appended, or a pack on which an earlier slot of the
 //!   area has the same label;
+//! - the records of a fixed length are those of the text, one for each of its parts; the pack has them as it has those of a table
+//!   (`load_fixed`). Records that `unload_fixed` wrote and `load_fixed` then put into a new file are the same records
+//!   (`what_is_unloaded_fixed_is_loaded`);
 //! - each call is safe and returns; a pack is handed out only if all of the table was taken, and the pack that is given is never
 //!   changed, so a refused load leaves it as it was.
 //!
@@ -33,6 +36,8 @@
 mod columns;
 mod fault;
 mod filling;
+mod fixed;
+mod fixed_laws;
 mod laws;
 mod loading;
 mod names;
@@ -44,7 +49,8 @@ mod table;
 mod table_laws;
 
 pub use fault::{HeadingFault, LoadFault, Reason, ValueFault};
+pub use fixed_laws::what_is_unloaded_fixed_is_loaded;
 pub use laws::{a_loaded_row_is_unloaded, an_unloaded_record_is_loaded};
-pub use loading::load;
+pub use loading::{load, load_fixed};
 pub use order::{Order, Room};
 pub use table_laws::{what_is_loaded_is_unloaded, what_is_unloaded_is_loaded};

@@ -9,10 +9,12 @@ ghost use Rattle.s3_pack_care.specs.Inner.Kept.{IsMounted};
 ghost use Rattle.s3_load.specs.Inner.Filling.{records_of};
 ghost use Rattle.csv.specs.Reading.{strip_bom};
 ghost use Rattle.s3_load.specs.Inner.Quotes.{open_quote};
-ghost use Rattle.s3_load.specs.Inner.Loaded.{ChangesLoaded, HasFile, IsCounted, IsLoaded, IsOfLoad, IsPlaced};
+ghost use Rattle.s3_load.specs.Inner.FixedTexts.{IsLoadedFixed};
+ghost use Rattle.s3_load.specs.Inner.Loaded.{ChangesLoaded, HasFile, HasRecords, IsCounted, IsLoaded, IsOfLoad, IsPlaced};
 
 use crate::fault::LoadFault;
 use crate::filling::{file_there, fill, may_have, new_file};
+use crate::fixed::read_fixed;
 use crate::order::Order;
 use crate::quotes::refuse_open_quote;
 use crate::rows::Row;
@@ -22,6 +24,7 @@ use s3_pack_care::{bytes_after, saved};
 use s3_pack_check::first_damaged;
 use s3_slots::standing_of;
 use s3_store::MemoryStore;
+use s3_unload::FixedForm;
 use std::alloc::Global;
 use std::io::{ErrorKind, Read};
 
@@ -42,8 +45,39 @@ pub fn load<R: Read + Drop>(
     let text = read_text(alloc, reader)?;
     refuse_open_quote(&text, order.delimiter)?;
     let rows = read_table(alloc, order, text.as_slice(), &text)?;
+    let changed = pack_with(alloc, pack, order, &rows)?;
+    Ok(changed)
+}
+
+/// The pack with records of a fixed length, as `load` puts them there. The order's fields, types and delimiter don't count.
+pub fn load_fixed<R: Read + Drop>(
+    alloc: Global,
+    pack: &[u8],
+    order: &Order<'_>,
+    form: FixedForm,
+    reader: R,
+) -> Result<Vec<u8>, LoadFault>
+    ensures loaded { IfOk result (λ new. IsLoadedFixed order.now form (R.remaining reader) (contents_of pack.now) (contents_of new.items)) }
+    ensures only { IfOk result (λ new. ChangesBytes (IsOfLoad order.now (contents_of pack.now) (contents_of new.items)) pack.now new.items) }
+{
+    let text = read_text(alloc, reader)?;
+    let rows = read_fixed(alloc, order, form, &text)?;
+    let changed = pack_with(alloc, pack, order, &rows)?;
+    Ok(changed)
+}
+
+/// The pack with records in the file that the order asks for.
+fn pack_with(
+    alloc: Global,
+    pack: &[u8],
+    order: &Order<'_>,
+    rows: &[Row],
+) -> Result<Vec<u8>, LoadFault>
+    ensures loaded { IfOk result (λ new. HasRecords order.now (records_of rows.now) (contents_of pack.now) (contents_of new.items)) }
+    ensures only { IfOk result (λ new. ChangesBytes (IsOfLoad order.now (contents_of pack.now) (contents_of new.items)) pack.now new.items) }
+{
     let mut mounted = mount(alloc, pack)?;
-    let placed = place_rows(alloc, &mut mounted, order, &rows);
+    let placed = place_rows(alloc, &mut mounted, order, rows);
     let Pack { pool, areas: _ } = mounted;
     placed?;
     Ok(saved(pool, bytes_after(pack))?)

@@ -25,7 +25,7 @@ const MOST_FAULTS: usize = 20;
 /// A record, and the line of its row.
 #[derive(Drop)]
 pub struct Row {
-    /// The line on which the row begins, from 1.
+    /// The line on which the row begins, or the number of the record of a fixed length, from 1.
     pub line: u64,
     /// The record's bytes.
     pub bytes: Vec<u8>,

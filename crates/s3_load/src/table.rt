@@ -158,7 +158,7 @@ pub fn key_in(bytes: &[u8], key: KeyField) -> &[u8]
 }
 
 /// Sorts rows by their keys, if the file has an index, and reports the rows with the same key.
-fn sort_by_key(
+pub fn sort_by_key(
     alloc: Global,
     rows: &mut Vec<Row>,
     key: Option<KeyField>,

@@ -45,10 +45,15 @@ fn put_command(draft: &mut Draft, command: &CommandWords) {
         put_option(draft, word);
     }
     draft.put("--help'");
-    if command.words.iter().any(|word| is_following(word.takes)) {
+    if command.words.iter().any(|word| are_files(word)) {
         draft.put(" files=yes");
     }
     draft.put(" ;;\n");
+}
+
+/// Whether a word is that of files after the command.
+fn are_files(word: &Word) -> bool {
+    is_following(word.takes) && word.takes.is_file()
 }
 
 /// Appends the name of an option, with a blank after it.

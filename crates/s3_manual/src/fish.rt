@@ -51,15 +51,23 @@ fn put_start(draft: &mut Draft, command: &str) {
 
 /// Appends what completes a word and its value.
 fn put_word(draft: &mut Draft, command: &str, word: &Word) {
-    put_start(draft, command);
     if is_following(word.takes) {
-        draft.put(" -F\n");
+        put_files(draft, command, word);
         return;
     }
+    put_start(draft, command);
     draft.put(" -l ");
     draft.put(word.name);
     put_value(draft, word);
     put_description(draft, word.help);
+}
+
+/// Appends that files complete what follows a command, if it takes files.
+fn put_files(draft: &mut Draft, command: &str, word: &Word) {
+    if word.takes.is_file() {
+        put_start(draft, command);
+        draft.put(" -F\n");
+    }
 }
 
 /// Appends what completes the value of a word, if it takes one.

@@ -62,13 +62,12 @@ fn put_use(draft: &mut Draft, word: &Word) {
 
 /// Appends a word with what it takes.
 fn put_word(draft: &mut Draft, word: &Word) {
-    if is_following(word.takes) {
-        put_italic(draft, "FILE");
-        return;
+    let is_option = !is_following(word.takes);
+    if is_option {
+        put_option(draft, word.name);
     }
-    put_option(draft, word.name);
     if let Some(shown) = shown(word.takes) {
-        draft.put("\\ ");
+        draft.put(if is_option { "\\ " } else { "" });
         put_italic(draft, shown);
     }
 }

@@ -12,8 +12,7 @@ pub fn shown(takes: Takes) -> Option<&'static str> {
         | Takes::OneOf(shown, _)
         | Takes::NeededOneOf(shown, _)
         | Takes::Following(shown)
-        | Takes::U32(shown)
-        | Takes::U16(shown)
+        | Takes::Number(shown, _, _)
         | Takes::U16Or(shown, _)
         | Takes::U8Or(shown, _) => Some(shown),
     }

@@ -1,11 +1,13 @@
 //! A day, from its first turn to what is reported at its end.
 
-use crate::pages::{Making, write_paper};
+use crate::book::write_index;
+use crate::pages::{Making, report_paper, write_paper};
 use crate::saving::{Place, end_day, end_unwritten};
 use s3_cli::{CliFault, SessionFault};
 use s3_command_line::{FILE, OUT_OF_MEMORY};
 use s3_day_files::{
-    DayFault, DayJournal, KeptOutputs, Order, Output, Outputs, Watch, remove_made, write_deck,
+    DayFault, DayJournal, KeptOutputs, Order, Output, Outputs, Paper, ReadDecks, Watch,
+    remove_made, write_deck,
 };
 use s3_day_log::{Begun, DayLog};
 use s3_desk::{Day, Printing, operate_printing};
@@ -66,6 +68,8 @@ pub struct Over {
     pub day: Day,
     /// The desk's account.
     pub closing: Closing,
+    /// The pack before the day, if a book shows it.
+    pub before: Vec<u8>,
 }
 
 impl Over {
@@ -95,6 +99,7 @@ pub fn operate_prepared<'n, 'a>(
     order: &Order<'n>,
     pack: Vec<u8>,
     day: Prepared<'a>,
+    read: ReadDecks,
     outputs: Outputs<'n>,
     journal: Option<DayJournal<'n>>,
 ) -> Result<u8, DayFault<'n>> {
@@ -118,7 +123,7 @@ pub fn operate_prepared<'n, 'a>(
         place: Place { locked, journal },
     };
     match printing_of(rt, order, day, script, log) {
-        Ok(printing) => operate_printed(rt, order, pack, texts, printing, ending, &made),
+        Ok(printing) => operate_printed(rt, order, pack, texts, read, printing, ending, &made),
         Err(error) => Err(DayFault::from(error)),
     }
 }
@@ -148,13 +153,14 @@ fn operate_printed<'n>(
     order: &Order<'n>,
     pack: Vec<u8>,
     texts: Texts<'_>,
+    read: ReadDecks,
     printing: PrintingDesk<'_>,
     ending: Ending<'n>,
     made: &[&'n str],
 ) -> Result<u8, DayFault<'n>> {
     let mut printing = printing;
     tell_replies_typed(rt, order, &mut printing.operator);
-    match operated(rt.alloc(), order, pack, texts, &mut printing) {
+    match operated(rt.alloc(), order, pack, read, &mut printing) {
         Ok(over) => hand_out(rt, order, texts, printing, over, ending),
         Err(fault) => {
             if printing.operator.refused().is_some() {
@@ -254,6 +260,7 @@ fn desk_of<'a>(
         is_quiet: order.is_quiet,
         questioned: order.questioned,
         wants_decks: order.save.is_some(),
+        notes_halts: is_book(order),
     };
     Desk::new(
         rt.alloc(),
@@ -262,7 +269,7 @@ fn desk_of<'a>(
         two,
         rt.stdin(),
         rt.stderr(),
-        Tape::new(script),
+        Tape::new(rt.alloc(), script),
         Journal::new(log),
         begun,
         Watch::new(rt),
@@ -274,15 +281,17 @@ fn operated<'n>(
     alloc: Global,
     order: &Order<'n>,
     pack: Vec<u8>,
-    texts: Texts<'_>,
+    read: ReadDecks,
     printing: &mut PrintingDesk<'_>,
 ) -> Result<Over, DayFault<'n>> {
     let mut performed = Performed::new(alloc);
+    let ReadDecks { one, two } = read;
+    let before = pack_before(alloc, order, &pack)?;
     let done = operate_printing(
         alloc,
         pack,
-        texts.one,
-        texts.two,
+        one,
+        two,
         printing,
         order.bounds,
         &mut performed,
@@ -292,7 +301,7 @@ fn operated<'n>(
         return Err(refusal_of(order, desk));
     }
     match done {
-        Ok(day) => closed(order, desk, day, &performed),
+        Ok(day) => closed(order, desk, day, before, &performed),
         Err(_) if desk.has_given_up() => Err(refusal_of(order, desk)),
         Err(fault) => Err(DayFault::Cli(CliFault::Session(SessionFault::Run(fault)))),
     }
@@ -303,10 +312,15 @@ fn closed<'n>(
     order: &Order<'n>,
     desk: &mut OwnDesk<'_>,
     day: Day,
+    before: Vec<u8>,
     performed: &Performed,
 ) -> Result<Over, DayFault<'n>> {
     match desk.close(&day, performed) {
-        Ok(closing) => Ok(Over { day, closing }),
+        Ok(closing) => Ok(Over {
+            day,
+            closing,
+            before,
+        }),
         Err(_) => Err(refusal_of(order, desk)),
     }
 }
@@ -345,9 +359,44 @@ fn write_reports<'n>(
                 limit: kept.limit,
                 is_reported: over.is_reported(order),
             };
-            write_paper(rt, paper, making, desk, &over.day.run)
+            write_pages(rt, paper, making, desk, over)
         }
         None => Ok(()),
+    }
+}
+
+/// Writes the pages of the jobs, and of a book the page of the day, and reports where they are.
+fn write_pages<'n>(
+    rt: &HostRuntime,
+    paper: Paper<'n>,
+    making: Making,
+    desk: &OwnDesk<'_>,
+    over: &Over,
+) -> Result<(), DayFault<'n>> {
+    let jobs = write_paper(rt, paper, making, desk, &over.day.run)?;
+    if paper.form.is_book() {
+        write_index(rt, paper, making, desk, over)?;
+    }
+    if making.is_reported {
+        report_paper(rt, paper, jobs);
+    }
+    Ok(())
+}
+
+/// Whether the pages are a book.
+fn is_book(order: &Order<'_>) -> bool {
+    match order.paper {
+        Some(paper) => paper.form.is_book(),
+        None => false,
+    }
+}
+
+/// A copy of the pack before the day, if a book shows it; else nothing.
+fn pack_before(alloc: Global, order: &Order<'_>, pack: &[u8]) -> Result<Vec<u8>, AllocError> {
+    if is_book(order) {
+        Vec::from_slice(alloc, pack)
+    } else {
+        Ok(Vec::new(alloc))
     }
 }
 

@@ -9,6 +9,7 @@
 
 ghost use Rattle.std.specs.Prelude.{◌≤◌};
 
+mod book;
 mod day;
 mod inherited_words;
 mod noted;
@@ -22,7 +23,7 @@ use s3_cards::LevelId;
 use s3_cli::{CliFault, RunFault, SessionFault};
 use s3_command_line::{OUT_OF_MEMORY, command, names_standard_error};
 use s3_day_files::{
-    Again, Begin, DayFault, DayJournal, DayPack, Decks, ExitZero, Given, Looked, Order, Outputs,
+    Again, Begin, DayFault, DayJournal, DayPack, Decks, ExitZero, Given, Order, Outputs, ReadDecks,
     begin_day, list_jobs, names, read_log, read_rules, rules_text, test_decks, test_journal,
     test_outputs, test_same,
 };
@@ -296,25 +297,25 @@ fn operate_read<'a>(
     again: Option<Again<'a>>,
 ) -> Result<u8, DayFault<'a>> {
     match look_at_decks(rt, order, &mut decks, again) {
-        Ok(looked) if looked.is_begun => {
+        Ok(Some(read)) => {
             let known = Known {
                 logged: again.map(|again| again.log),
-                is_one_read: looked.is_one_read,
+                read,
             };
             operate_begun(rt, order, decks, rest, known)
         }
-        Ok(_) => Ok(PERSON_NEEDED),
+        Ok(None) => Ok(PERSON_NEEDED),
         Err(fault) => Err(fault),
     }
 }
 
 /// What is known of a day whose decks are looked at.
-#[derive(Clone, Copy)]
+#[derive(Drop)]
 struct Known<'a> {
     /// The log that is done again.
     logged: Option<&'a DayLog>,
-    /// Level 1's deck can be read.
-    is_one_read: bool,
+    /// Both decks.
+    read: ReadDecks,
 }
 
 /// Does a day, if its journal lets it begin.
@@ -386,20 +387,20 @@ fn look_at_decks<'a>(
     order: &Order<'a>,
     decks: &mut Decks<'a>,
     again: Option<Again<'a>>,
-) -> Result<Looked, DayFault<'a>> {
+) -> Result<Option<ReadDecks>, DayFault<'a>> {
     if let Some(again) = again {
         test_same(rt, again, &decks.begun)?;
     }
     decks.take_up(rt, order)?;
-    let looked = decks.look(rt, order)?;
+    let read = decks.look(rt, order)?;
     if let Some(level) = level_begun_anew(order)
-        && looked.is_begun
+        && read.is_some()
         && order.redo.is_none()
         && !order.is_quiet
     {
         report_first_job(rt, level);
     }
-    Ok(looked)
+    Ok(read)
 }
 
 /// The level that begins at its first job while the other one is taken up at a line, if there is one.
@@ -435,15 +436,16 @@ fn operate_over<'a>(
         rules,
         text: _,
     } = rest;
+    let Known { logged, read } = known;
     let day = Prepared {
         begun,
         one: Seat::new(rt.alloc(), LevelId::One, &one),
         two: Seat::new(rt.alloc(), LevelId::Two, &two),
         rules: &rules,
-        logged: known.logged,
-        is_one_read: known.is_one_read,
+        logged,
+        is_one_read: read.one.refusal.is_none(),
     };
-    operate_mounted(rt, order, pack, journal, day)
+    operate_mounted(rt, order, pack, journal, day, read)
 }
 
 /// Does a day that is prepared over its pack, once the pack and all outputs are tried.
@@ -453,9 +455,18 @@ fn operate_mounted<'n, 'a>(
     pack: DayPack,
     journal: Option<DayJournal<'n>>,
     day: Prepared<'a>,
+    read: ReadDecks,
 ) -> Result<u8, DayFault<'n>> {
     match mount(rt, order, pack) {
-        Ok(mounted) => operate_prepared(rt, order, mounted.bytes, day, mounted.outputs, journal),
+        Ok(mounted) => operate_prepared(
+            rt,
+            order,
+            mounted.bytes,
+            day,
+            read,
+            mounted.outputs,
+            journal,
+        ),
         Err(fault) => Err(fault),
     }
 }

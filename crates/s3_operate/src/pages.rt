@@ -2,6 +2,7 @@
 
 use crate::day::OwnDesk;
 use crate::noted::Noted;
+use s3_book::report_page;
 use s3_bureau::RunLines;
 use s3_cards::ebcdic::DIGIT_0;
 use s3_cards::{LevelId, Name, PrintLine};
@@ -27,26 +28,29 @@ pub struct Making {
     pub is_reported: bool,
 }
 
-/// Writes the pages of all jobs of both levels that printed, and reports how many these are.
+/// Writes the pages of all jobs of both levels that printed. It returns the number of these jobs.
 pub fn write_paper<'n>(
     rt: &HostRuntime,
     paper: Paper<'n>,
     making: Making,
     desk: &OwnDesk<'_>,
     run: &RunLines,
-) -> Result<(), DayFault<'n>> {
+) -> Result<usize, DayFault<'n>> {
     let one = write_level(rt, paper, making, desk, LevelId::One, &run.one.lines)?;
     let two = write_level(rt, paper, making, desk, LevelId::Two, &run.two.lines)?;
-    if making.is_reported {
-        report_paper(rt, paper.folder, one.saturating_add(two));
-    }
-    Ok(())
+    Ok(one.saturating_add(two))
 }
 
 /// Reports where the pages are, and how many jobs they have.
-fn report_paper(rt: &HostRuntime, folder: &str, jobs: usize) {
-    let folder = Shown(folder);
+pub fn report_paper(rt: &HostRuntime, paper: Paper<'_>, jobs: usize) {
+    let folder = Shown(paper.folder);
     let _ = match jobs {
+        0 if paper.form.is_book() => {
+            writeln!(
+                rt.stderr(),
+                "no job printed, so {folder} has only index.html"
+            )
+        }
         0 => writeln!(rt.stderr(), "no job printed, so {folder} gets no pages"),
         1 => writeln!(rt.stderr(), "the pages of 1 job are in {folder}"),
         _ => writeln!(rt.stderr(), "the pages of {jobs} jobs are in {folder}"),
@@ -187,13 +191,51 @@ fn write_pages(
     };
     match form {
         Form::Text => write_text(alloc, lines, &mut writer)?,
-        Form::Document { has_bars } => {
-            write_pdf(alloc, title.as_bytes(), lines, has_bars, &mut writer)?;
+        Form::Document { has_bars, size } => {
+            write_pdf(alloc, title.as_bytes(), lines, has_bars, size, &mut writer)?;
         }
+        Form::Book => write_html(alloc, title, lines, &mut writer)?,
     }
     match writer.flush() {
         Ok(()) => Ok(()),
         Err(_) => Err(PaperFault::File),
+    }
+}
+
+/// Writes the pages of a job's lines as an HTML page.
+fn write_html<W: Write>(
+    alloc: Global,
+    title: &str,
+    lines: &[PrintLine],
+    writer: &mut W,
+) -> Result<(), PaperFault> {
+    let mut text = Vec::new(alloc);
+    write_text(alloc, lines, &mut text)?;
+    let page = report_page(alloc, title.as_bytes(), text.as_slice())?;
+    match writer.write_all(page.as_slice()) {
+        Ok(()) => Ok(()),
+        Err(_) => Err(PaperFault::File),
+    }
+}
+
+/// Writes a file of the folder, whole. If that fails, it reports why.
+pub fn write_bytes<'n>(
+    rt: &HostRuntime,
+    path: &str,
+    paper: Paper<'n>,
+    making: Making,
+    bytes: &[u8],
+) -> Result<(), DayFault<'n>> {
+    let written = match create_anew(rt, path, making.overwrites, making.limit) {
+        Ok(mut file) => file.write_all(bytes),
+        Err(error) => Err(error),
+    };
+    match written {
+        Ok(()) => Ok(()),
+        Err(error) => {
+            let _ = unwritten(rt, path, &error);
+            Err(DayFault::File(paper.folder))
+        }
     }
 }
 
@@ -206,7 +248,7 @@ fn of_call(error: &io::Error) -> Unwritten {
     }
 }
 
-/// The file of a job: its level, its number in at least four digits, and its program.
+/// The file of a job, in its folder.
 fn path_of(
     alloc: Global,
     paper: Paper<'_>,
@@ -214,18 +256,34 @@ fn path_of(
     job: &PrintedJob,
 ) -> Result<String, AllocError> {
     let mut path = String::from_str(alloc, paper.folder)?;
+    path.push('/')?;
+    push_file(&mut path, paper.form, level, job)?;
+    Ok(path)
+}
+
+/// Appends the name of a job's file: its level, its number in at least four digits, and its program.
+pub fn push_file(
+    path: &mut String,
+    form: Form,
+    level: LevelId,
+    job: &PrintedJob,
+) -> Result<(), AllocError> {
     let level = level.number();
     let number = job.number;
-    write!(path, "/{level}-{number:04}")?;
+    write!(path, "{level}-{number:04}")?;
     if let Some(program) = job.program {
         path.push('-')?;
-        push_name(&mut path, program)?;
+        push_name(path, program)?;
     }
-    path.push_str(match paper.form {
+    path.push_str(match form {
         Form::Text => ".txt",
-        Form::Document { has_bars: _ } => ".pdf",
+        Form::Document {
+            has_bars: _,
+            size: _,
+        } => ".pdf",
+        Form::Book => ".html",
     })?;
-    Ok(path)
+    Ok(())
 }
 
 /// The title of a job's document: its program, its number, its level and its date, if it had one.

@@ -1,4 +1,7 @@
 //! How a day ended.
+ghost use Rattle.std.specs.Prelude.{is_some, OnOk};
+ghost use Rattle.std.specs.Option.{option_and_then};
+ghost use Rattle.s3_replay.specs.Inner.Taped.{AreKnown, HasScript};
 
 use crate::clock::Clock;
 use crate::desk::Desk;
@@ -23,6 +26,10 @@ pub struct Closing {
     pub verdict: Verdict,
     /// The summary of both levels: their jobs, and how they ended.
     pub summary: String,
+    /// How level 1 ended.
+    pub one: LevelEnd,
+    /// How level 2 ended.
+    pub two: LevelEnd,
 }
 
 /// How a level ended, and how many lines it has printed.
@@ -43,9 +50,19 @@ impl Ended {
 }
 
 impl<'a, R: Read + Drop, W: Write + Drop, F: Write + Drop, C: Clock + Drop> Desk<'a, R, W, F, C> {
-    /// Ends the day: the script is written to its end, the log up to its last line, and the summary of both levels is made.
-    pub fn close(&mut self, day: &Day, performed: &Performed) -> Result<Closing, AllocError> {
-        self.take_all(performed)?;
+    /// Ends the day: the log is written up to its last line, the summary of both levels is made, and the script is written to its end.
+    /// Unless a write of the script has failed, its file then ends with the script of the entries that were performed.
+    pub fn close(&mut self, day: &Day, performed: &Performed) -> Result<Closing, AllocError>
+        ensures { OnOk result (AreKnown F.contents → HasScript (option_and_then F.contents self.new.tape.file) (is_some self.new.tape.failure) performed.now) }
+    {
+        let closing = self.close_levels(day, performed)?;
+        self.tape.finish(self.levels.alloc, performed)?;
+        Ok(closing)
+    }
+
+    /// Counts all entries, closes both levels, and makes their summary.
+    fn close_levels(&mut self, day: &Day, performed: &Performed) -> Result<Closing, AllocError> {
+        self.count_all(performed)?;
         self.tell_counted()?;
         let one = self.close_level(LevelId::One, day.ends.one, &day.run.one)?;
         let two = self.close_level(LevelId::Two, day.ends.two, &day.run.two)?;
@@ -115,6 +132,8 @@ impl<'a> Levels<'a> {
         Ok(Closing {
             verdict: became(one.end, two.end, &self.one.ledger, &self.two.ledger),
             summary: self.summary(one, two).finish()?,
+            one: one.end,
+            two: two.end,
         })
     }
 
@@ -283,9 +302,14 @@ fn push_ending(
     }
 }
 
-/// Appends how a job ended.
+/// Appends how a job ended, after what it was.
 fn push_how(message: &mut Message, job: &BegunJob, end: LevelEnd) {
     message.push(", ");
+    push_end_of_job(message, job, end);
+}
+
+/// Appends how a job ended.
+pub(crate) fn push_end_of_job(message: &mut Message, job: &BegunJob, end: LevelEnd) {
     match job.ending {
         Some((code, _digit)) if is_at_start(code) => {
             message.push("passed over: ");

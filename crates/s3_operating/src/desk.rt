@@ -1,4 +1,5 @@
 //! The operator of the command.
+ghost use Rattle.std.specs.Prelude.{◌≡◌, is_some};
 
 use crate::answers::Answer;
 use crate::changes::has_changed;
@@ -80,13 +81,15 @@ pub struct Settings<'a> {
     pub questioned: Questioned,
     /// Whether the day must not begin if a deck can't be read.
     pub wants_decks: bool,
+    /// Whether halts are noted, each with its block and its reply.
+    pub notes_halts: bool,
 }
 
 /// The operator of the command, over a reader of replies, a writer of messages, files for script and log, and a clock.
 #[derive(Drop)]
 pub struct Desk<'a, R: Read + Drop, W: Write + Drop, F: Write + Drop, C: Clock + Drop> {
     pub(crate) levels: Levels<'a>,
-    tape: Tape<F>,
+    pub(crate) tape: Tape<F>,
     pub(crate) journal: Journal<F>,
     /// What the log begins with, before the day has begun.
     pub(crate) opening: Option<Begun>,
@@ -157,7 +160,9 @@ impl<'a, R: Read + Drop, W: Write + Drop, F: Write + Drop, C: Clock + Drop> Desk
     }
 
     /// Whether the script couldn't be written.
-    pub fn has_script_failed(&self) -> bool {
+    pub fn has_script_failed(&self) -> bool
+        ensures { result ≡ is_some self.now.tape.failure }
+    {
         self.tape.has_failed()
     }
 
@@ -289,6 +294,7 @@ impl<'a, R: Read + Drop, W: Write + Drop, F: Write + Drop, C: Clock + Drop> Desk
         self.levels
             .seat_mut(level)
             .take_halt(machine.level(level), halt);
+        self.note_halt(machine, level, halt, evidence)?;
         self.log_level(level)?;
         self.test_outputs()?;
         if self.levels.given(level, halt.code).is_some() {
@@ -300,6 +306,21 @@ impl<'a, R: Read + Drop, W: Write + Drop, F: Write + Drop, C: Clock + Drop> Desk
         self.tell(text.as_str());
         self.levels.seat_mut(level).shown = Some(text);
         Ok(())
+    }
+
+    /// Notes a halt with its block, if halts are noted.
+    fn note_halt<S: PackStore>(
+        &mut self,
+        machine: &Bureau<S>,
+        level: LevelId,
+        halt: &Halt,
+        evidence: &Evidence,
+    ) -> Result<(), AllocError> {
+        if !self.levels.settings.notes_halts {
+            return Ok(());
+        }
+        let block = self.levels.halt_text(machine, level, halt, evidence)?;
+        self.levels.seat_mut(level).note_halt(block)
     }
 
     /// Finds the reply to a level's halt: by the log or a rule, else by a question.
@@ -339,6 +360,9 @@ impl<'a, R: Read + Drop, W: Write + Drop, F: Write + Drop, C: Clock + Drop> Desk
         if is_spoilt {
             self.levels.seat_mut(level).mark_spoilt()?;
         }
+        self.levels
+            .seat_mut(level)
+            .note_reply(answer.digit, answer.giver.replier());
         self.levels.seat_mut(level).take_reply(code, answer.digit);
         self.told_at = self.clock.milliseconds();
         Ok(())
@@ -566,11 +590,11 @@ impl<'a, R: Read + Drop, W: Write + Drop, F: Write + Drop, C: Clock + Drop> Desk
         self.note(Event::Stop)
     }
 
-    /// Counts all entries that were performed, and completes the script.
-    pub(crate) fn take_all(&mut self, performed: &Performed) -> Result<(), AllocError> {
+    /// Counts all entries that were performed.
+    pub(crate) fn count_all(&mut self, performed: &Performed) -> Result<(), AllocError> {
         self.begin_unread()?;
         self.levels.tally.count(performed.parts());
-        self.tape.finish(self.levels.alloc, performed.parts())
+        Ok(())
     }
 }
 

@@ -1,8 +1,12 @@
 //! The log as it is written, event by event.
+ghost use Rattle.std.specs.Prelude.{is_some, OnOk};
+ghost use Rattle.std.specs.Option.{option_and_then};
+ghost use Rattle.s3_day_log.specs.Inner.Events.{said_of};
+ghost use Rattle.s3_day_log.specs.Inner.Times.{IsNoted};
 
 use crate::clock::Clock;
-use s3_day_log::{Event, line_of, utc_text};
-use s3_replay::write_out;
+use s3_day_log::{Event, line_at};
+use s3_replay::put_into;
 use std::alloc::{AllocError, Global};
 use std::io;
 use std::io::Write;
@@ -29,25 +33,21 @@ impl<F: Write + Drop> Journal<F> {
     }
 
     /// Writes an event, at the time that it is now. After a failure nothing more is written.
+    #[tactic(auto, using(crate::proofs::Noting::after_failure, crate::proofs::Noting::no_log, crate::proofs::Noting::noted))]
     pub fn note<C: Clock>(
         &mut self,
         alloc: Global,
         clock: &mut C,
         event: Event,
-    ) -> Result<(), AllocError> {
+    ) -> Result<(), AllocError>
+        ensures { OnOk result (IsNoted (option_and_then F.contents self.old.file) (option_and_then F.contents self.new.file) (is_some self.new.failure) (said_of event)) }
+    {
         if self.file.is_none() || self.failure.is_some() {
             return Ok(());
         }
-        let at = utc_text(alloc, clock.seconds())?;
-        let line = line_of(alloc, at, event)?;
-        self.write(line.as_bytes());
+        let line = line_at(alloc, clock.seconds(), event)?;
+        self.failure = put_into(&mut self.file, line.as_bytes());
         Ok(())
-    }
-
-    fn write(&mut self, line: &[u8]) {
-        if let Some(file) = &mut self.file {
-            self.failure = write_out(file, line).err();
-        }
     }
 
     /// Why something couldn't be written.

@@ -102,8 +102,9 @@ impl<'a> Levels<'a> {
         let queued = machine.queued(level);
         let lines = machine.lines(level).len().saturating_add(queued);
         let may_print_all = lines as u64 <= u64::from(self.settings.bounds.lines);
+        let turns = self.tally.turns();
         self.seat_mut(level)
-            .follow(machine.level(level), lines, may_print_all)
+            .follow(machine.level(level), lines, may_print_all, turns)
     }
 
     /// Whether a level has taken as many turns as it may.

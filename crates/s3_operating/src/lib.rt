@@ -2,10 +2,12 @@
 //! person at a terminal; what is printed meanwhile; the script and the log as they are written; and the summary of a day.
 //! docs/OPERATING.md has all of it.
 //!
-//! Each call is proved to be safe and to return; what is printed and written is tested. The proved parts of the operator are in
-//! other crates: lines of replies and rules in `s3_replies`, the written script in `s3_replay` (`Tape`), the reports in
-//! `s3_reports` and `s3_desk` (`Printing`), and how the jobs of a day ended in `s3_day_log`. What a day gives, for this operator
-//! as for any, is proved in `s3_desk`.
+//! Each call is proved to be safe and to return. Unless a write has failed, `Desk::close` is proved to end the script's file with the
+//! script of the entries that it gets (`HasScript`), and `Journal::note` to add to the log the line of its event (`IsNoted`). Tested: which
+//! events are logged, what is printed, and that the program gives `close` what `operate_printing` has performed. The other proved
+//! parts of the operator are in other crates: lines of replies and rules in `s3_replies`, the reports in `s3_reports` and
+//! `s3_desk` (`Printing`), and which jobs of a day have begun and how they ended in `s3_day_log`. What a day gives, for this
+//! operator as for any, is proved in `s3_desk`.
 
 #![tactic(auto)]
 
@@ -21,6 +23,7 @@ mod given;
 mod journal;
 mod levels;
 mod message;
+mod noted;
 mod printed;
 mod progress;
 mod seat;
@@ -32,8 +35,9 @@ pub use closing::Closing;
 pub use day_deck::{DayDeck, JoinedFiles};
 pub use desk::{Desk, Questioned, Settings, Wish};
 pub use journal::Journal;
+pub use noted::{JobTurns, NotedHalt};
 pub use printed::PrintedJob;
-pub use s3_day_log::Verdict;
+pub use s3_day_log::{LevelEnd, Replier, Verdict};
 pub use s3_replay::Tape;
 pub use seat::Seat;
 pub use unread::push_unread;

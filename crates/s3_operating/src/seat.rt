@@ -4,9 +4,10 @@ use crate::day_deck::DayDeck;
 use crate::events::{beginning, ending, halt_of};
 use crate::given::Given;
 use crate::message::Message;
+use crate::noted::NotedHalt;
 use s3_bureau::Halt;
 use s3_cards::{CardFault, Deck, DeckFault, LevelId};
-use s3_day_log::{Event, Ledger};
+use s3_day_log::{Event, Ledger, Replier};
 use s3_decks::DeckText;
 use s3_evidence::Begun as JobsOfHalts;
 use s3_level::Level;
@@ -47,6 +48,10 @@ pub struct Seat<'a> {
     over: usize,
     /// The places, from 0, of the jobs that a reply ended after they had changed files.
     spoilt: Vec<usize>,
+    /// How many turns both levels had taken when each job that is over was found to be, in order.
+    pub(crate) over_at: Vec<u64>,
+    /// The halts, if they are noted.
+    pub(crate) noted: Vec<NotedHalt>,
 }
 
 impl<'a> Seat<'a> {
@@ -70,6 +75,8 @@ impl<'a> Seat<'a> {
             begun: 0,
             over: 0,
             spoilt: Vec::new(alloc),
+            over_at: Vec::new(alloc),
+            noted: Vec::new(alloc),
         }
     }
 
@@ -113,16 +120,44 @@ impl<'a> Seat<'a> {
         &self.shown_jobs
     }
 
-    /// Takes note of jobs that have begun or ended, given how many lines the level has printed or queued, and whether it may print
-    /// all of them.
+    /// Takes note of jobs that have begun or ended, given how many lines the level has printed or queued, whether it may print all of
+    /// them, and how many turns both levels have taken.
     pub(crate) fn follow(
         &mut self,
         held: &Level,
         lines: usize,
         may_print_all: bool,
+        turns: u64,
     ) -> Result<(), AllocError> {
         self.is_idle = may_print_all && is_idle(held);
-        self.ledger.follow(held, lines)
+        self.ledger.follow(held, lines)?;
+        self.note_ends(turns)
+    }
+
+    /// Takes note of the jobs that are over since the last call, after so many turns of both levels.
+    fn note_ends(&mut self, turns: u64) -> Result<(), AllocError> {
+        for _job in self.over_at.len()..self.ledger.jobs_over() {
+            self.over_at.push(turns)?;
+        }
+        Ok(())
+    }
+
+    /// Notes the halt that waits, given its block.
+    pub(crate) fn note_halt(&mut self, block: String) -> Result<(), AllocError> {
+        let job = self.ledger.begun().len();
+        self.noted.push(NotedHalt {
+            job,
+            block,
+            reply: None,
+        })?;
+        Ok(())
+    }
+
+    /// Notes the reply to the last halt that was noted, if halts are noted.
+    pub(crate) fn note_reply(&mut self, digit: u8, by: Replier) {
+        if let Some(halt) = self.noted.last_mut() {
+            halt.reply = Some((digit, by));
+        }
     }
 
     /// Takes note of a halt that waits for a reply.

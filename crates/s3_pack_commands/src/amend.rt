@@ -18,7 +18,7 @@ use s3_data_commands::pack_words::{
 use s3_data_commands::sentences::output_sentence;
 use s3_data_commands::words::{
     AGAIN, AREA, DATE_FIELDS, DECIMAL, JOURNAL, LABEL, LAYOUT, LAYOUT_FILE, LAYOUT_TYPE,
-    LEVEL_ALIAS, OVERWRITE, PACK, SAVE,
+    LEVEL_ALIAS, MOST_RECORDS, OVERWRITE, PACK, SAVE,
 };
 use s3_host_files::StandardOutput;
 use s3_journal::{Posting, Work};
@@ -60,7 +60,7 @@ pub const AMEND: CommandWords = CommandWords {
         },
         Word {
             name: "record",
-            takes: Takes::U32("N"),
+            takes: Takes::Number("N", 1, MOST_RECORDS),
             help: "The number of the record in the file, from 1; instead of --key",
         },
         DECIMAL,

@@ -6,6 +6,7 @@ use s3_data_commands::fault::{Fault, Use, of_call, of_pack};
 use s3_data_commands::filled::Words;
 use s3_data_commands::pack_words::{Save, pack_of, refuse_file_there, refused, saved, tell_done};
 use s3_data_commands::sentences::output_sentence;
+use s3_data_commands::standard_input::{InputFault, read_input};
 use s3_data_commands::words::{OVERWRITE, PACK, SAVE};
 use s3_dump::RestoreFault;
 use s3_host_files::{StandardOutput, keep_save_apart, save_new_pack};
@@ -16,10 +17,17 @@ use s3_paper_commands::status::{
     DONE, FILE_WRONG, NOTHING_SAVED, OPTIONS_WRONG, PACK_SAVED, PERSON_NEEDED, REFUSED,
 };
 use s3_paper_commands::words::{CommandWords, Example, Status, value_of};
-use s3_refusals::beginning_words;
+use s3_refusals::{beginning_words, begins_as_pack};
 use std::alloc::Global;
 use std::fs;
-use std::io::{ErrorKind, IsTerminal, Read, Write};
+use std::io::{IsTerminal, Write};
+
+/// The refusal of a text that is too long.
+const TOO_LONG: &str =
+    "standard input has more than 268,435,456 bytes, and no dump of a pack is as long; give the text that `bureau dump` printed, and nothing after it";
+
+/// The refusal of standard input that can't be read.
+const UNREAD: &str = "standard input can't be read; give it the dump by < FILE or by a pipe";
 
 /// `bureau dump` and its options.
 pub const DUMP: CommandWords = CommandWords {
@@ -202,7 +210,7 @@ fn fault_in(alloc: Global, pack: &[u8]) -> Result<Option<MountFault>, Fault> {
     }
 }
 
-/// The text of standard input.
+/// The text of standard input. One that is too long is refused.
 fn dump_text(rt: &HostRuntime) -> Result<Vec<u8>, Fault> {
     if rt.stdin().is_terminal() {
         let _ = writeln!(
@@ -210,15 +218,11 @@ fn dump_text(rt: &HostRuntime) -> Result<Vec<u8>, Fault> {
             "restore waits for a dump on standard input, as `bureau restore --save NEW < DUMP` gives it"
         );
     }
-    let mut text = Vec::new(rt.alloc());
-    let mut input = rt.stdin();
-    match input.read_to_end(&mut text) {
-        Ok(_) => Ok(text),
-        Err(error) if error.kind() == ErrorKind::OutOfMemory => Err(Fault::NoMemory),
-        Err(_) => Err(Fault::File(Words::of_path("").fill(
-            rt.alloc(),
-            "standard input can't be read; give it the dump by < FILE or by a pipe",
-        )?)),
+    match read_input(rt.alloc(), rt.stdin()) {
+        Ok(text) => Ok(text),
+        Err(InputFault::TooLong) => Err(refused(String::from_str(rt.alloc(), TOO_LONG))),
+        Err(InputFault::Failed) => Err(Fault::File(String::from_str(rt.alloc(), UNREAD)?)),
+        Err(InputFault::NoMemory) => Err(Fault::NoMemory),
     }
 }
 
@@ -238,7 +242,9 @@ fn no_dump(rt: &HostRuntime, text: &[u8], fault: RestoreFault) -> Fault {
 
 /// What is wrong with a line, and what helps.
 fn no_dump_words(text: &[u8], line: u64) -> &'static str {
-    if has_return(text, line) {
+    if begins_as_pack(text) {
+        "standard input is a pack, and no dump of one; copy it by `cp`, or give the text that `bureau dump` printed"
+    } else if has_return(text, line) {
         "line {number} of standard input has a carriage return, which no dump has; take the carriage returns out first, as by `tr -d '\\r'`"
     } else {
         "line {number} of standard input isn't one of a dump; give the whole text that `bureau dump` printed"

@@ -4,6 +4,7 @@ pub mod Pages
 pub mod PagesLeft
 pub mod Parts
 pub mod Shown
+pub mod Sizes
 pub mod Bodies
 pub mod Documents
 pub mod Drawing

@@ -5,6 +5,7 @@ ghost use Rattle.s3_pages.specs.Inner.Bodies.{bars, form_body, info_body, kid, l
 
 use crate::drawing::{push_stream, push_text};
 use crate::numbers::push_number;
+use crate::size::{PaperSize, tree_head};
 use std::alloc::AllocError;
 
 /// Ten columns to the inch.
@@ -54,12 +55,12 @@ pub fn push_page_body(text: &mut Vec<u8>, tree: u64, contents: u64) -> Result<()
     Ok(())
 }
 
-/// Appends what has all pages, by how many they are.
+/// Appends what has all pages, by the size of their paper and how many they are.
 #[tactic(auto, unfolding(crate::specs::Inner::Bodies::tree_body))]
-pub fn push_tree(text: &mut Vec<u8>, count: u32) -> Result<(), AllocError>
-    ensures { OnOk result (text.new.items ≡ text.old.items ++ tree_body count) }
+pub fn push_tree(text: &mut Vec<u8>, size: PaperSize, count: u32) -> Result<(), AllocError>
+    ensures { OnOk result (text.new.items ≡ text.old.items ++ tree_body size count) }
 {
-    text.extend_from_slice(b"<< /Type /Pages /MediaBox [0 0 1071 792] /Resources 3 0 R /Count ")?;
+    text.extend_from_slice(tree_head(size))?;
     push_number(text, u64::from(count))?;
     text.extend_from_slice(b" /Kids [")?;
     push_kids(text, count)?;

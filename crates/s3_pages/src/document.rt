@@ -11,7 +11,7 @@ ghost use Rattle.s3_pages.specs.Inner.Tables.{IsTooLong, Putting};
 use crate::bodies::{FONT, RESOURCES, push_form, push_info, push_page_body, push_root, push_tree};
 use crate::drawing::{push_page, push_stream};
 use crate::object_table::{Table, end_with, push_object, put_first_line, put_table, write};
-use crate::{Pages, PaperFault};
+use crate::{Pages, PaperFault, PaperSize};
 use s3_cards::PrintLine;
 use std::alloc::Global;
 use std::io::Write;
@@ -19,8 +19,9 @@ use std::io::Write;
 /// The most pages of a document: readers number at most 8,388,607 objects, and a page has two.
 pub const MOST_PAGES: u32 = 4_000_000;
 
-/// Writes the pages of a job's lines as a PDF document, on forms of 132 columns and 66 lines with light bars or plain. Lines at one
-/// place are drawn over each other. An empty page, and a job without lines, is an empty form. The title is a text of ASCII.
+/// Writes the pages of a job's lines as a PDF document, on forms of 132 columns and 66 lines with light bars or plain, as large as
+/// they are or scaled to a size of paper. Lines at one place are drawn over each other. An empty page, and a job without lines, is an
+/// empty form. The title is a text of ASCII.
 ///
 /// Refused with `NoMemory` or `File`, and with `TooLong` if there are over 4,000,000 pages, or 10,000,000,000 bytes; some of the
 /// document may be written then.
@@ -29,17 +30,20 @@ pub fn write_pdf<W: Write>(
     title: &[u8],
     lines: &[PrintLine],
     has_bars: bool,
+    size: PaperSize,
     writer: &mut W,
 ) -> Result<(), PaperFault>
-    ensures wrote { OnOk result (Appends (W.contents writer.old) (W.contents writer.new) (document_of title.now has_bars lines.now)) }
-    ensures too_long { IsErrOf result TooLong → IsTooLong title.now has_bars lines.now }
+    ensures wrote { OnOk result (Appends (W.contents writer.old) (W.contents writer.new) (document_of size title.now has_bars lines.now)) }
+    ensures too_long { IsErrOf result TooLong → IsTooLong size title.now has_bars lines.now }
 {
     let Some(count) = page_count(lines) else {
         return Err(PaperFault::TooLong);
     };
     put_first_line(writer)?;
     let mut table = Table::new(alloc);
-    put_objects(alloc, &mut table, title, lines, has_bars, count, writer)?;
+    put_objects(
+        alloc, &mut table, title, lines, has_bars, size, count, writer,
+    )?;
     put_table(alloc, &table, writer)
 }
 
@@ -64,17 +68,18 @@ fn put_objects<W: Write>(
     title: &[u8],
     lines: &[PrintLine],
     has_bars: bool,
+    size: PaperSize,
     count: u32,
     writer: &mut W,
 ) -> Result<(), PaperFault>
     requires begins { table.old.starts.items ≡ [] }
     requires count { count ≡ length (pages_of lines.now) }
-    ensures { Putting (bodies_of title.now has_bars (pages_of lines.now)) table.old table.new (W.contents writer.old) (W.contents writer.new) result }
+    ensures { Putting (bodies_of size title.now has_bars (pages_of lines.now)) table.old table.new (W.contents writer.old) (W.contents writer.new) result }
 {
     let tree = 4 + 2 * u64::from(count);
     put_front(alloc, table, has_bars, writer)?;
-    put_pages(alloc, table, Pages::of(lines), tree, writer)?;
-    put_back(alloc, table, title, tree, count, writer)
+    put_pages(alloc, table, Pages::of(lines), size, tree, writer)?;
+    put_back(alloc, table, title, size, tree, count, writer)
 }
 
 /// Writes what all pages share.
@@ -97,13 +102,14 @@ fn put_pages<W: Write>(
     alloc: Global,
     table: &mut Table,
     pages: Pages<'_>,
+    size: PaperSize,
     tree: u64,
     writer: &mut W,
 ) -> Result<(), PaperFault>
-    ensures { Putting (page_bodies tree (length table.old.starts.items + 1) (pages_left pages.entry)) table.old table.new (W.contents writer.old) (W.contents writer.new) result }
+    ensures { Putting (page_bodies size tree (length table.old.starts.items + 1) (pages_left pages.entry)) table.old table.new (W.contents writer.old) (W.contents writer.new) result }
 {
     for page in pages {
-        put_page(alloc, table, page, tree, writer)?;
+        put_page(alloc, table, page, size, tree, writer)?;
     }
     Ok(())
 }
@@ -113,13 +119,14 @@ fn put_page<W: Write>(
     alloc: Global,
     table: &mut Table,
     page: &[PrintLine],
+    size: PaperSize,
     tree: u64,
     writer: &mut W,
 ) -> Result<(), PaperFault>
-    ensures { Putting (page_bodies tree (length table.old.starts.items + 1) (page.now ∷ [])) table.old table.new (W.contents writer.old) (W.contents writer.new) result }
+    ensures { Putting (page_bodies size tree (length table.old.starts.items + 1) (page.now ∷ [])) table.old table.new (W.contents writer.old) (W.contents writer.new) result }
 {
     let mut drawn = Vec::new(alloc);
-    push_page(&mut drawn, &mut Vec::new(alloc), page)?;
+    push_page(&mut drawn, &mut Vec::new(alloc), size, page)?;
     let mut contents = Vec::new(alloc);
     push_stream(&mut contents, b"", drawn.as_slice())?;
     let mut body = Vec::new(alloc);
@@ -132,15 +139,16 @@ fn put_back<W: Write>(
     alloc: Global,
     table: &mut Table,
     title: &[u8],
+    size: PaperSize,
     tree: u64,
     count: u32,
     writer: &mut W,
 ) -> Result<(), PaperFault>
     requires { tree ≡ tree_number count }
-    ensures { Putting (back_bodies title.now count) table.old table.new (W.contents writer.old) (W.contents writer.new) result }
+    ensures { Putting (back_bodies size title.now count) table.old table.new (W.contents writer.old) (W.contents writer.new) result }
 {
     let mut pages = Vec::new(alloc);
-    push_tree(&mut pages, count)?;
+    push_tree(&mut pages, size, count)?;
     let mut root = Vec::new(alloc);
     push_root(&mut root, tree, count)?;
     let mut info = Vec::new(alloc);

@@ -4,6 +4,7 @@ ghost use Rattle.std.specs.List.{flat_map};
 ghost use Rattle.s3_pages.specs.Inner.Drawing.{baseline as baseline_spec, drawn, drawn_page, escaped, is_special as is_special_spec, stream_body, text_in};
 
 use crate::numbers::push_number;
+use crate::size::{PaperSize, page_head};
 use crate::{push_shown, row_of};
 use s3_cards::PrintLine;
 use std::alloc::AllocError;
@@ -14,16 +15,17 @@ const FIRST_BASELINE: u64 = 783;
 /// The height of a line, in points: six lines are an inch.
 const LINE_HEIGHT: u64 = 12;
 
-/// Appends a page: the form, and its lines over each other. The room is used again.
+/// Appends a page: where the form is on the paper, the form, and its lines over each other. The room is used again.
 #[tactic(auto, unfolding(crate::specs::Inner::Drawing::drawn_page))]
 pub fn push_page(
     text: &mut Vec<u8>,
     room: &mut Vec<u8>,
+    size: PaperSize,
     page: &[PrintLine],
 ) -> Result<(), AllocError>
-    ensures { OnOk result (text.new.items ≡ text.old.items ++ drawn_page page.now) }
+    ensures { OnOk result (text.new.items ≡ text.old.items ++ drawn_page size page.now) }
 {
-    text.extend_from_slice(b"/B Do\nBT\n/F 12 Tf\n")?;
+    text.extend_from_slice(page_head(size))?;
     push_lines(text, room, page)?;
     text.extend_from_slice(b"ET")?;
     Ok(())

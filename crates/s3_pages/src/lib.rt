@@ -1,5 +1,5 @@
 //! Printed lines as the pages of a job: which page has which lines, which lines belong to which job, and the pages as a text and
-//! as a PDF document of forms with 132 columns and 66 lines. docs/OPERATING.md has the rules, under "Paper".
+//! as a PDF document of forms with 132 columns and 66 lines, also scaled to A4 or Letter. docs/OPERATING.md has the rules, under "Paper".
 //!
 //! Each line is proved to be on its page, and a page has no other lines (`Pages`, `pages_have_all_lines`). `parts` is proved to
 //! give each job as many lines as it printed, and the rest to the last job. `write_text` is proved to write exactly the text of
@@ -20,6 +20,7 @@ mod page_by_page;
 mod page_text;
 mod partition;
 mod shown;
+mod size;
 mod written;
 
 pub use document::{MOST_PAGES, write_pdf};
@@ -29,4 +30,5 @@ pub use page_by_page::Pages;
 pub use page_text::{push_page, row_of};
 pub use partition::parts;
 pub use shown::push_shown;
+pub use size::PaperSize;
 pub use written::write_text;

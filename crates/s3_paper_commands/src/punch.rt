@@ -6,13 +6,21 @@ use crate::fault::CommandFault;
 use crate::input::shown_name;
 use crate::messages::Report;
 use crate::status::{DONE, FILE_WRONG, OPTIONS_WRONG, REFUSED};
-use crate::words::{CommandWords, Example, Status, Takes, Word};
+use crate::words::{Choice, CommandWords, Example, Status, Takes, Word};
 use clap::ArgMatches;
 use s3_host_files::StandardOutput;
-use s3_punch::{Begun, LineChange, PunchFault, PunchReason, Punched, punch};
+use s3_punch::{
+    Begun, CARD_BYTES, CardByte, LineChange, PunchFault, PunchReason, Punched, punch, text_of_cards,
+};
 use s3_refusals::{Shown, is_shown};
 use std::alloc::{AllocError, Global};
 use std::io::Write;
+
+/// The forms of files that aren't plain text.
+const FORMS: &'static [Choice] = &[Choice {
+    name: "ebcdic80",
+    help: "Cards of 80 bytes in EBCDIC, end to end, as simulators keep decks",
+}];
 
 /// `bureau punch` and its options.
 pub const PUNCH: CommandWords = CommandWords {
@@ -41,6 +49,10 @@ pub const PUNCH: CommandWords = CommandWords {
             purpose: "Makes a deck of a text in another encoding",
         },
         Example {
+            line: "bureau punch --from ebcdic80 old.cards > new.deck",
+            purpose: "Makes a deck of card images in EBCDIC",
+        },
+        Example {
             line: "bureau punch --report old.txt > new.deck",
             purpose: "Reports each line that was changed or left out",
         },
@@ -50,6 +62,11 @@ pub const PUNCH: CommandWords = CommandWords {
             name: "file",
             takes: Takes::FollowingFiles,
             help: "The text, or - for standard input; several files are one deck",
+        },
+        Word {
+            name: "from",
+            takes: Takes::OneOf("FORM", FORMS),
+            help: "What the files are, if they aren't plain text",
         },
         Word {
             name: "remarks",
@@ -118,7 +135,12 @@ fn stacked<'a>(rt: &HostRuntime, matches: &ArgMatches<'a>) -> Result<WholeDeck, 
     for file in matches.get_strs("file").unwrap_or(&[]) {
         let name: &'a str = *file;
         let bytes = read_deck_file(rt, name)?;
-        let punched = punch(alloc, &bytes, &begun)?;
+        let text = if matches.get_str("from").is_none() {
+            bytes
+        } else {
+            text_of_ebcdic(rt, shown_name(name), &bytes, &mut stacked.is_faulty)?
+        };
+        let punched = punch(alloc, &text, &begun)?;
         tell_faults(rt, shown_name(name), &punched.faults);
         if matches.get_flag("report") {
             tell_changes(rt, shown_name(name), &punched.changes);
@@ -127,6 +149,51 @@ fn stacked<'a>(rt: &HostRuntime, matches: &ArgMatches<'a>) -> Result<WholeDeck, 
         stacked.add(&punched)?;
     }
     Ok(stacked)
+}
+
+/// The text of the cards of a file in EBCDIC. It reports the errors of the file, and notes that it is in error.
+fn text_of_ebcdic(
+    rt: &HostRuntime,
+    file: &str,
+    bytes: &[u8],
+    is_faulty: &mut bool,
+) -> Result<Vec<u8>, AllocError> {
+    let cards = text_of_cards(rt.alloc(), bytes)?;
+    if bytes.len() % CARD_BYTES != 0 {
+        *is_faulty = true;
+        tell_length(rt, file, bytes.len());
+        return Ok(Vec::new(rt.alloc()));
+    }
+    if !cards.faults.is_empty() {
+        *is_faulty = true;
+        tell_bytes(rt, file, &cards.faults);
+    }
+    Ok(cards.text)
+}
+
+/// Reports that a file hasn't whole cards.
+fn tell_length(rt: &HostRuntime, file: &str, length: usize) {
+    let file = Shown(file);
+    let cards = length / CARD_BYTES;
+    let rest = length % CARD_BYTES;
+    let _ = writeln!(
+        rt.stderr(),
+        "{file}: {length} bytes are {cards} cards of 80 columns and {rest} bytes more; give a deck of whole cards, without line ends."
+    );
+}
+
+/// Reports each byte that is no character of a card.
+fn tell_bytes(rt: &HostRuntime, file: &str, faults: &[CardByte]) {
+    for fault in faults {
+        let card = fault.card;
+        let column = fault.column;
+        let byte = fault.byte;
+        let file = Shown(file);
+        let _ = writeln!(
+            rt.stderr(),
+            "{file}, card {card}, column {column}: the byte {byte:02x} is no character of a card; put one in its place."
+        );
+    }
 }
 
 impl WholeDeck {

@@ -1,6 +1,6 @@
 //! Words of command lines.
 
-use clap::builder::PossibleValue;
+use clap::builder::{PossibleValue, ValueParser};
 use clap::{Arg, ArgAction, ArgMatches, Command, value_parser};
 use std::alloc::{AllocError, Global};
 
@@ -81,10 +81,8 @@ pub enum Takes {
     OneOf(&'static str, &'static [Choice]),
     /// One of some values, and the word has to be given.
     NeededOneOf(&'static str, &'static [Choice]),
-    /// A number from 0 to 4294967295.
-    U32(&'static str),
-    /// A number from 0 to 65535.
-    U16(&'static str),
+    /// A number, the least and the greatest one.
+    Number(&'static str, u32, u32),
     /// A number from 0 to 65535, and its default.
     U16Or(&'static str, &'static str),
     /// A number from 0 to 255, and its default.
@@ -183,8 +181,9 @@ impl Takes {
             Takes::Needed(shown) | Takes::NeededOneOf(shown, _) => {
                 argument.value_name(shown).required(true)
             }
-            Takes::U32(shown) => argument.value_name(shown).value_parser(value_parser!(u32)),
-            Takes::U16(shown) => argument.value_name(shown).value_parser(value_parser!(u16)),
+            Takes::Number(shown, least, greatest) => argument
+                .value_name(shown)
+                .value_parser(ValueParser::signed(i64::from(least), i64::from(greatest))),
             Takes::U16Or(shown, default) => argument
                 .value_name(shown)
                 .value_parser(value_parser!(u16))

@@ -1,4 +1,5 @@
 pub mod CodedLemmas
+pub mod EbcdicLemmas
 pub mod FaultLemmas
 pub mod LineLemmas
 pub mod PieceLemmas

@@ -2,6 +2,7 @@
 pub mod Cards
 pub mod Characters
 pub mod Decks
+pub mod Ebcdic
 pub mod Faults
 pub mod Parts
 pub mod Pieces

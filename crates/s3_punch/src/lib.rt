@@ -9,6 +9,9 @@
 //!   the definitions in `specs/Inner`: each character in its column, tabs at their stops, pieces in their columns, parts of a deck by
 //!   its `//`, `/*` and `/&` cards.
 //!
+//! `text_of_cards` gives a line of characters for each card of 80 bytes in EBCDIC, and each byte that is no character, with its card
+//! and column.
+//!
 //! `typed_column` gives the column of a plain line that has a column of its card: the same column if the line has no tabs.
 //!
 //! Only tested: that column in a line in pieces; what is reported of changes, and the texts of faults. Not proved: that the parts of a deck are those that `s3_ocl` reads,
@@ -19,6 +22,7 @@
 mod change;
 mod characters;
 mod deck;
+mod ebcdic;
 mod fault;
 mod finding;
 mod form;
@@ -31,6 +35,7 @@ mod typed;
 
 pub use change::{Changes, LineChange};
 pub use deck::{Begun, Punched, punch};
+pub use ebcdic::{CARD_BYTES, CardByte, CardsText, text_of_cards};
 pub use fault::{PunchFault, PunchReason};
 pub use part::Part;
 pub use typed::{CardColumns, typed_column};

@@ -7,11 +7,13 @@
 
 #![tactic(auto)]
 
+mod closed;
 mod holder;
 mod packs;
 mod reasons;
 mod refused;
 
+pub use closed::is_closed;
 pub use holder::holder_of;
 pub use packs::{beginning_words, begins_as_pack, pack_words};
 pub use reasons::{Holder, Reason, call_words};

@@ -1,12 +1,15 @@
 -- What is on the tape.
-use Rattle.std.proofs.Common.{◌≡◌, ◌≤◌, ◌-◌, ℕ, zero, suc, Bool, true, false, List, [], ◌∷◌, ◌++◌, append_assoc, length, take, drop, refl, sym, ap, subst, ◌∙◌, arith}
+use Rattle.std.proofs.Common.{◌≡◌, ◌-◌, ◌+◌, ℕ, Bool, true, false, List, [], ◌∷◌, ◌++◌, length, drop, refl, sym, ap, subst, ◌∙◌, arith}
 use Rattle.std.specs.Prelude.{Option, Some, None, is_some, MatchOption, ⊤}
+use Rattle.std.specs.List.{list_all}
+use Rattle.std.specs.Option.{option_and_then, ForNone, ForSome}
 use Rattle.std.specs.Io.KnownBytes.{Appends, Keeps}
-use Rattle.std.proofs.lemmas.List.{append-nil, take_all}
+use Rattle.std.proofs.lemmas.List.{drop-append-le, length-append}
 use Rattle.std.proofs.lemmas.Grind.{flat_map-append}
+use Rattle.s3_bureau.specs.declared.entry.Entry.{Entry}
 use Rattle.s3_replay.specs.declared.performed.Repeated.{Repeated}
-use Rattle.s3_replay.specs.Inner.Taped.{IsTape, IsWritten}
-use Rattle.s3_replay.specs.Inner.Written.{part_lines, text_of}
+use Rattle.s3_replay.specs.Inner.Taped.{AreKnown, EndsWith, HasScript, HasText, IsOnTape}
+use Rattle.s3_replay.specs.Inner.Written.{entries_in, is_part_writable, part_lines, text_of}
 
 pub kept : (old between new : Option (List ℕ)) (bytes : List ℕ) → Appends old between bytes → Keeps between new → Appends old new bytes
 kept None between new bytes more same = tt
@@ -14,51 +17,97 @@ kept (Some x) None new bytes more same = absurd more
 kept (Some x) (Some y) None bytes more same = absurd same
 kept (Some x) (Some y) (Some z) bytes more same = same ∙ more
 
-both : (before now new : Option (List ℕ)) (so_far text : List ℕ) → Appends before now so_far → Appends now new text → Appends before new (so_far ++ text)
-both None now new so_far text one other = tt
-both (Some x) None new so_far text one other = absurd one
-both (Some x) (Some y) None so_far text one other = absurd other
-both (Some x) (Some y) (Some z) so_far text one other = other ∙ ap (λ (l : List ℕ). l ++ text) one ∙ append_assoc x so_far text
+-- ---- a text at the end
+drop_all : (xs : List ℕ) → drop (length xs) xs ≡ []
+drop_all [] = refl
+drop_all (x ∷ xs) = drop_all xs
 
+drop_none : (xs : List ℕ) → drop (length xs - 0) xs ≡ []
+drop_none xs = let same : length xs - 0 ≡ length xs = omega arith in ap (λ n. drop n xs) same ∙ drop_all xs
+
+-- a text more
+longer : (bytes more text : List ℕ) → EndsWith bytes text → EndsWith (bytes ++ more) (text ++ more)
+longer bytes more text ends =
+    let one : length (bytes ++ more) ≡ length bytes + length more = length-append bytes more in
+    let two : length (text ++ more) ≡ length text + length more = length-append text more in
+    let same : length (bytes ++ more) - length (text ++ more) ≡ length bytes - length text = omega (arith, one, two) in
+    ap (λ n. drop n (bytes ++ more)) same
+    ∙ drop-append-le (length bytes - length text) bytes more (omega arith)
+    ∙ ap (λ (t : List ℕ). t ++ more) ends
+
+more_parts : (parts next : List Repeated) (bytes : List ℕ) → EndsWith bytes (text_of parts) → EndsWith (bytes ++ text_of next) (text_of (parts ++ next))
+more_parts parts next bytes ends =
+    subst (EndsWith (bytes ++ text_of next)) (sym (flat_map-append part_lines parts next)) (longer bytes (text_of next) (text_of parts) ends)
+
+-- ---- what is on the tape
 -- nothing is written after a failure
-pub after_failure : {E : Type 0} (before now : Option (List ℕ)) (failure : Option E) (so_far text : List ℕ) → is_some failure ≡ true → IsWritten before now (is_some failure) (so_far ++ text)
-after_failure before now None so_far text failed = cc
-after_failure before now (Some e) so_far text failed = tt
+pub after_failure : {F E : Type 0} (contents : F → Option (List ℕ)) (file : Option F) (failure : Option E) (parts : List Repeated) → is_some failure ≡ true
+    → IsOnTape contents file failure parts
+after_failure contents file None parts failed known none bytes is = cc
+after_failure contents file (Some e) parts failed known none bytes is = cc
 
--- a text more, or a failure
-pub one_more : {E : Type 0} (before now new : Option (List ℕ)) (failure after : Option E) (so_far text : List ℕ) → is_some failure ≡ false → MatchOption after (Appends now new text) (λ _. ⊤)
-    → IsWritten before now (is_some failure) so_far → IsWritten before new (is_some after) (so_far ++ text)
-one_more before now new (Some e) after so_far text works more written = cc
-one_more before now new None (Some e) so_far text works more written = tt
-one_more before now new None None so_far text works more written = both before now new so_far text written more
+pub no_file : {F E : Type 0} (contents : F → Option (List ℕ)) (file : Option F) (failure : Option E) (parts : List Repeated) → file ≡ None
+    → IsOnTape contents file failure parts
+no_file contents None failure parts gone known none bytes is = cc
+no_file contents (Some f) failure parts gone known none bytes is = cc
 
--- the parts up to a place
-pub next_parts : (before now new : Option (List ℕ)) (failed failed_after : Bool) (written to : ℕ) (parts next : List Repeated) (text : List ℕ)
-    → ((so_far : List ℕ) → IsWritten before now failed so_far → IsWritten before new failed_after (so_far ++ text)) → take written parts ++ next ≡ take to parts → text ≡ text_of next
-    → IsTape before now failed written parts → IsWritten before new failed_after (text_of (take to parts))
-next_parts before now new failed failed_after written to parts next text puts joined is tape =
-    let whole : text_of (take written parts) ++ text ≡ text_of (take to parts) =
-    ap (λ (t : List ℕ). text_of (take written parts) ++ t) is ∙ sym (flat_map-append part_lines (take written parts) next) ∙ ap text_of joined in
-    subst (IsWritten before new failed_after) whole (puts (text_of (take written parts)) tape.0)
+pub nothing_yet : {F E : Type 0} (contents : F → Option (List ℕ)) (file : Option F) (failure : Option E) (parts : List Repeated) → parts ≡ []
+    → IsOnTape contents file failure parts
+nothing_yet contents file failure parts nothing known none bytes is =
+    subst (λ (ps : List Repeated). EndsWith bytes (text_of ps)) (sym nothing) (drop_none bytes)
 
-pub all_parts : (before now : Option (List ℕ)) (failed : Bool) (to : ℕ) (parts : List Repeated) → to ≡ length parts → IsWritten before now failed (text_of (take to parts)) → IsWritten before now failed (text_of parts)
-all_parts before now failed to parts is written = subst (λ (ps : List Repeated). IsWritten before now failed (text_of ps)) (take_all to parts (omega (arith, is))) written
+some_of : (known : Option (List ℕ)) → is_some known ≡ true → (bytes : List ℕ) × (known ≡ Some bytes)
+some_of None is = cc
+some_of (Some bytes) is = (bytes, refl)
 
-nothing_before : (before : Option (List ℕ)) → Appends before before []
-nothing_before None = tt
-nothing_before (Some x) = sym (append-nil x)
+appended : (one two : Option (List ℕ)) (xs ys text : List ℕ) → one ≡ Some xs → two ≡ Some ys → Appends one two text → ys ≡ xs ++ text
+appended None two xs ys text first second more = cc
+appended (Some x) None xs ys text first second more = absurd more
+appended (Some x) (Some y) xs ys text first second more = cc
 
-pub nothing_yet : (before now : Option (List ℕ)) (parts : List Repeated) → now ≡ before → IsTape before now false 0 parts
-nothing_yet before now parts same = (subst (λ (o : Option (List ℕ)). Appends before o []) (sym same) (nothing_before before), omega arith)
+-- parts more, or a failure
+pub one_more : {F E : Type 0} (contents : F → Option (List ℕ)) (old now : Option F) (failure after : Option E) (parts next all : List Repeated) (text : List ℕ)
+    → is_some failure ≡ false → text ≡ text_of next → all ≡ parts ++ next → is_some now ≡ is_some old
+    → MatchOption after (Appends (option_and_then contents old) (option_and_then contents now) text) (λ _. ⊤)
+    → IsOnTape contents old failure parts → IsOnTape contents now after all
+one_more contents old now failure (Some e) parts next all text works is joined same more written known none bytes has = cc
+one_more contents old None failure None parts next all text works is joined same more written known none bytes has = cc
+one_more contents None (Some g) failure None parts next all text works is joined same more written known none bytes has = cc
+one_more contents (Some f) (Some g) (Some e) None parts next all text works is joined same more written known none bytes has = cc
+one_more contents (Some f) (Some g) None None parts next all text works is joined same more written known none bytes has =
+    let before : (xs : List ℕ) × (contents f ≡ Some xs) = some_of (contents f) (known f) in
+    let ends : EndsWith before.0 (text_of parts) = written known refl before.0 before.1 in
+    let now_is : bytes ≡ before.0 ++ text_of next = appended (contents f) (contents g) before.0 bytes text before.1 has more ∙ ap (λ (t : List ℕ). before.0 ++ t) is in
+    subst (λ (ps : List Repeated). EndsWith bytes (text_of ps)) (sym joined)
+    (subst (λ (bs : List ℕ). EndsWith bs (text_of (parts ++ next))) (sym now_is) (more_parts parts next before.0 ends))
 
-no_more : (n : ℕ) → take n (let none : List Repeated = [] in none) ≡ []
-no_more zero = refl
-no_more (suc n) = refl
+-- ---- the script of all that was performed
+has_text : {E : Type 0} (now : Option (List ℕ)) (failure : Option E) (text : List ℕ) → ForNone failure (ForSome now (λ known. EndsWith known text))
+    → HasText now (is_some failure) text
+has_text now (Some e) text is = tt
+has_text None None text is = tt
+has_text (Some bytes) None text is = is refl bytes refl
 
-pub up_to : (from to : ℕ) (parts : List Repeated) → from ≤ to → take from parts ++ take (to - from) (drop from parts) ≡ take to parts
-up_to zero to parts within = let all : to - 0 ≡ to = omega arith in ap (λ n. take n parts) all
-up_to (suc from) to [] within = no_more (to - suc from) ∙ sym (no_more to)
-up_to (suc from) zero (part ∷ parts) within = absurd (omega arith)
-up_to (suc from) (suc to) (part ∷ parts) within =
-    let same : suc to - suc from ≡ to - from = omega arith in
-    ap (λ n. part ∷ (take from parts ++ take n (drop from parts))) same ∙ ap (λ (ps : List Repeated). part ∷ ps) (up_to from to parts (omega arith))
+pub has_script : {F E : Type 0} (contents : F → Option (List ℕ)) (file : Option F) (failure : Option E) (entries : List Entry) (parts written rest all : List Repeated)
+    → written ++ rest ≡ parts → all ≡ written ++ rest → list_all is_part_writable parts ≡ true → entries_in parts ≡ entries → IsOnTape contents file failure all
+    → AreKnown contents → HasScript (option_and_then contents file) (is_some failure) entries
+has_script contents file failure entries parts written rest all first joined writable ask tape known =
+    record {
+      parts = parts;
+      are_writable = writable;
+      ask = ask;
+      written = subst (λ (ps : List Repeated). HasText (option_and_then contents file) (is_some failure) (text_of ps)) (joined ∙ first)
+          (has_text (option_and_then contents file) failure (text_of all) (tape known));
+    }
+
+-- .. after a failure
+pub has_failed : {F E : Type 0} (contents : F → Option (List ℕ)) (file : Option F) (failure : Option E) (entries : List Entry) (parts : List Repeated)
+    → is_some failure ≡ true → list_all is_part_writable parts ≡ true → entries_in parts ≡ entries
+    → AreKnown contents → HasScript (option_and_then contents file) (is_some failure) entries
+has_failed contents file failure entries parts failed writable ask known =
+    record {
+      parts = parts;
+      are_writable = writable;
+      ask = ask;
+      written = subst (λ (b : Bool). HasText (option_and_then contents file) b (text_of parts)) (sym failed) tt;
+    }

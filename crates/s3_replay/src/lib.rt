@@ -6,7 +6,8 @@
 //! other level's deck and entries are. Both runs must answer `Ok`: nothing is specified if memory runs out. `Performed` keeps
 //! entries as they were performed, `script_text` is proved to be their script (`text_of`), and `run` to read exactly those
 //! entries from it (`scripts_read_back`). `Tape` writes that script to a file during a day: unless a write failed, the file is
-//! proved to have a script of the first entries after each call, and the whole script after `finish`.
+//! proved to end with the script of the parts written so far, whatever happens between two calls, and after `finish` with the
+//! script of all entries that were performed. The premise is a type of file whose bytes are known, as of one in memory.
 
 #![tactic(auto)]
 
@@ -18,4 +19,4 @@ mod tape;
 pub use laws::{scripts_read_back, when_makes_no_difference};
 pub use performed::{Performed, Repeated};
 pub use script::script_text;
-pub use tape::{Tape, write_out};
+pub use tape::{Tape, put_into};

@@ -17,7 +17,7 @@ pub struct Repeated {
 }
 
 /// Whether two entries are the same.
-fn are_same(one: Entry, other: Entry) -> bool
+pub(crate) fn are_same(one: Entry, other: Entry) -> bool
     ensures { result ≡ true → one ≡ other }
 {
     one == other

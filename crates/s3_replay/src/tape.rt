@@ -1,38 +1,38 @@
 //! The script as it is written, reply by reply.
-ghost use Rattle.std.specs.Prelude.{◌≡◌, ◌≤◌, ◌++◌, ℕ, List, Option, None, length, take, is_some, MatchOption, OnOk, ⊤};
+ghost use Rattle.std.specs.Prelude.{◌≡◌, ◌++◌, true, is_some, IfSome, MatchOption, OnOk, ⊤};
 ghost use Rattle.std.specs.Option.{option_and_then};
 ghost use Rattle.std.specs.Io.KnownBytes.{Appends};
-ghost use Rattle.s3_replay.specs.Inner.Taped.{IsTape, IsWritten};
-ghost use Rattle.s3_replay.specs.Inner.Written.{text_of};
+ghost use Rattle.s3_replay.specs.Inner.Taped.{AreKnown, HasScript, IsOnTape};
 
-use crate::performed::Repeated;
+use crate::performed::{Performed, Repeated, are_same};
 use crate::script::script_text;
 use s3_bureau::Action;
 use std::alloc::{AllocError, Global};
 use std::io;
-use std::io::Write;
+use std::io::{ErrorKind, Write};
 
-/// Where the script of a day is written.
+/// Where the script of a day is written. Unless a write has failed, the bytes of the file end with the script of the parts that are
+/// written, if these bytes are known.
 #[derive(Drop)]
 pub struct Tape<F: Write + Drop> {
     file: Option<F>,
-    /// How many parts of what was performed are written.
-    written: usize,
-    /// How many were looked at for replies.
+    /// The parts of what was performed that are written.
+    written: Vec<Repeated>,
+    /// How many parts were looked at for replies.
     seen: usize,
     /// How many bytes are written.
     bytes: u64,
     failure: Option<io::Error>,
+    ghost is_script: { IsOnTape F.contents file failure written.items },
 }
 
 impl<F: Write + Drop> Tape<F> {
     /// A script that is written to a file, or to none.
-    pub fn new(file: Option<F>) -> Tape<F>
-        ensures { (parts : List Repeated) → IsTape (option_and_then F.contents file) (option_and_then F.contents result.file) (is_some result.failure) result.written parts }
-    {
+    #[tactic(auto, using(crate::proofs::Taping::nothing_yet))]
+    pub fn new(alloc: Global, file: Option<F>) -> Tape<F> {
         Tape {
             file,
-            written: 0,
+            written: Vec::new(alloc),
             seen: 0,
             bytes: 0,
             failure: None,
@@ -47,47 +47,48 @@ impl<F: Write + Drop> Tape<F> {
         alloc: Global,
         parts: &[Repeated],
         is_halted: bool,
-    ) -> Result<(), AllocError>
-        ensures { OnOk result ((before : Option (List ℕ)) → IsTape before (option_and_then F.contents self.old.file) (is_some self.old.failure) self.old.written parts.now → IsTape before (option_and_then F.contents self.new.file) (is_some self.new.failure) self.new.written parts.now) }
-    {
+    ) -> Result<(), AllocError> {
         let whole = parts.len().saturating_sub(1);
-        let from = self.seen.max(self.written);
+        let from = self.seen.max(self.written.len());
         if from >= whole {
             return Ok(());
         }
         self.seen = whole;
-        if (is_halted && self.written == 0) || has_reply(between(parts, from, whole)) {
-            self.write(alloc, parts, whole)?;
+        if (is_halted && self.written.is_empty()) || has_reply(between(parts, from, whole)) {
+            let next = between(parts, self.written.len(), whole);
+            self.write(alloc, next)?;
         }
         Ok(())
     }
 
-    /// Writes all that was performed: unless a write has failed, the file then has the script of these parts.
-    pub fn finish(&mut self, alloc: Global, parts: &[Repeated]) -> Result<(), AllocError>
-        ensures { OnOk result ((before : Option (List ℕ)) → IsTape before (option_and_then F.contents self.old.file) (is_some self.old.failure) self.old.written parts.now → IsWritten before (option_and_then F.contents self.new.file) (is_some self.new.failure) (text_of parts.now)) }
+    /// Writes all that was performed. Unless a write has failed, the file then ends with the script that asks for just that. If the
+    /// parts that are written aren't the first ones of these, that counts as a failure.
+    #[tactic(auto, using(crate::proofs::Taping::has_script, crate::proofs::Taping::has_failed, crate::proofs::Taping::after_failure))]
+    pub fn finish(&mut self, alloc: Global, performed: &Performed) -> Result<(), AllocError>
+        ensures { OnOk result (AreKnown F.contents → HasScript (option_and_then F.contents self.new.file) (is_some self.new.failure) performed.now) }
     {
-        self.write(alloc, parts, parts.len())
+        let parts = performed.parts();
+        match unwritten(parts, &self.written) {
+            Some(rest) => self.write(alloc, rest),
+            None => {
+                self.failure = Some(io::Error::from(ErrorKind::InvalidData));
+                Ok(())
+            }
+        }
     }
 
-    /// Writes the parts up to a place.
-    fn write(&mut self, alloc: Global, parts: &[Repeated], to: usize) -> Result<(), AllocError>
-        ensures { OnOk result ((before : Option (List ℕ)) → IsTape before (option_and_then F.contents self.old.file) (is_some self.old.failure) self.old.written parts.now → self.old.written ≤ to → to ≤ length parts.now → (self.new.written ≡ to) × IsWritten before (option_and_then F.contents self.new.file) (is_some self.new.failure) (text_of (take to parts.now))) }
+    /// Writes further parts. After a failure nothing more is written.
+    #[tactic(auto, using(crate::proofs::Taping::after_failure, crate::proofs::Taping::one_more))]
+    fn write(&mut self, alloc: Global, next: &[Repeated]) -> Result<(), AllocError>
+        ensures { OnOk result (self.new.written.items ≡ self.old.written.items ++ next.now) }
     {
-        let text = script_text(alloc, between(parts, self.written, to))?;
-        self.written = to;
+        let text = script_text(alloc, next)?;
+        self.written.extend_from_slice(next)?;
         self.bytes = self.bytes.saturating_add(text.len() as u64);
-        self.put(&text);
-        Ok(())
-    }
-
-    /// Writes a text. After a failure nothing more is written.
-    fn put(&mut self, text: &[u8])
-        ensures written { (before : Option (List ℕ)) (so_far : List ℕ) → IsWritten before (option_and_then F.contents self.old.file) (is_some self.old.failure) so_far → IsWritten before (option_and_then F.contents self.new.file) (is_some self.new.failure) (so_far ++ text.now) }
-        ensures place { self.new.written ≡ self.old.written }
-    {
         if self.failure.is_none() {
-            self.failure = put_into(&mut self.file, text);
+            self.failure = put_into(&mut self.file, &text);
         }
+        Ok(())
     }
 
     /// Whether a script is written.
@@ -106,20 +107,50 @@ impl<F: Write + Drop> Tape<F> {
     }
 
     /// Whether something couldn't be written.
-    pub fn has_failed(&self) -> bool {
+    pub fn has_failed(&self) -> bool
+        ensures { result ≡ is_some self.now.failure }
+    {
         self.failure.is_some()
     }
 
     /// From now on no script is written.
+    #[tactic(auto, using(crate::proofs::Taping::no_file))]
     pub fn give_up(&mut self) {
         self.file = None;
         self.failure = None;
     }
 }
 
-/// Writes a text to a file, if there is one, and returns why that failed.
-fn put_into<F: Write + Drop>(file: &mut Option<F>, text: &[u8]) -> Option<io::Error>
-    ensures { MatchOption result (Appends (option_and_then F.contents file.old) (option_and_then F.contents file.new) text.now) (λ _. ⊤) }
+/// Whether two parts are the same.
+fn have_same(one: Repeated, other: Repeated) -> bool
+    ensures { result ≡ true → one ≡ other }
+{
+    one.times == other.times && are_same(one.entry, other.entry)
+}
+
+/// The parts after those that are written, if these are the first ones.
+fn unwritten<'a>(parts: &'a [Repeated], written: &[Repeated]) -> Option<&'a [Repeated]>
+    ensures { IfSome result (λ rest. written.now ++ rest.now ≡ parts.now) }
+{
+    let mut rest = parts;
+    let mut left = written;
+    while let Some((part, left_after)) = left.split_first() {
+        let Some((first, rest_after)) = rest.split_first() else {
+            return None;
+        };
+        if !have_same(*first, *part) {
+            return None;
+        }
+        left = left_after;
+        rest = rest_after;
+    }
+    Some(rest)
+}
+
+/// Writes a text to a file, if there is one, and has it leave the program. Returns why that failed.
+pub fn put_into<F: Write + Drop>(file: &mut Option<F>, text: &[u8]) -> Option<io::Error>
+    ensures written { MatchOption result (Appends (option_and_then F.contents file.old) (option_and_then F.contents file.new) text.now) (λ _. ⊤) }
+    ensures kept { is_some file.new ≡ is_some file.old }
 {
     match file {
         Some(file) => write_out(file, text).err(),
@@ -129,7 +160,7 @@ fn put_into<F: Write + Drop>(file: &mut Option<F>, text: &[u8]) -> Option<io::Er
 
 /// Writes bytes, and has them leave the program.
 #[tactic(auto, using(crate::proofs::Taping::kept))]
-pub fn write_out<F: Write>(file: &mut F, bytes: &[u8]) -> io::Result<()>
+fn write_out<F: Write>(file: &mut F, bytes: &[u8]) -> io::Result<()>
     ensures { OnOk result (Appends (F.contents file.old) (F.contents file.new) bytes.now) }
 {
     file.write_all(bytes)?;
@@ -137,10 +168,7 @@ pub fn write_out<F: Write>(file: &mut F, bytes: &[u8]) -> io::Result<()>
 }
 
 /// The parts from one place to another.
-#[tactic(auto, using(crate::proofs::Taping::up_to))]
-fn between(parts: &[Repeated], from: usize, to: usize) -> &[Repeated]
-    ensures { from ≤ to → to ≤ length parts.now → take from parts.now ++ result.now ≡ take to parts.now }
-{
+fn between(parts: &[Repeated], from: usize, to: usize) -> &[Repeated] {
     match parts.get(from..to) {
         Some(between) => between,
         None => &[],

@@ -1,5 +1,5 @@
 //! The reports of a day, written while its lines are printed.
-ghost use Rattle.std.specs.Prelude.{◌≡◌, ◌++◌, ℕ, List, [], codes, not, true, IfOk};
+ghost use Rattle.std.specs.Prelude.{◌≡◌, ◌⊎◌, ◌++◌, ℕ, List, [], codes, not, true, IfOk};
 ghost use Rattle.s3_cards.specs.Printed.{Printed};
 ghost use Rattle.s3_bureau.specs.Runs.{line, output_of};
 ghost use Rattle.s3_bureau.specs.Texts.{report_of};
@@ -39,9 +39,12 @@ impl<W: Write + Drop> Reports<W> {
     }
 
     /// Writes the lines that were printed since the last call, as far as the order of the reports allows. It is given all lines that
-    /// both levels have printed, and whether level 1 is over: then it prints nothing more, and its halt text is empty.
+    /// both levels have printed, and whether level 1 is over: then it prints nothing more, and its halt text is empty. So it writes all
+    /// lines of level 1, and those of level 2 once level 1 is over.
     pub fn follow(&mut self, one: &[PrintLine], two: &[PrintLine], is_one_over: bool)
-        ensures { (later_one later_two : List Printed) (halts : List ℕ) → (is_one_over ≡ true → (later_one ≡ []) × (halts ≡ []))
+        ensures level_one { IsOneWritten self.new.place one.now }
+        ensures level_two { is_one_over ≡ true → (two.now ≡ []) ⊎ IsTwoWritten self.new.place two.now }
+        ensures moves { (later_one later_two : List Printed) (halts : List ℕ) → (is_one_over ≡ true → (later_one ≡ []) × (halts ≡ []))
             → Moves (W.contents self.old.output.writer) (W.contents self.new.output.writer) self.old.output.has_failed self.new.output.has_failed (written_at self.old.place (one.now ++ later_one) (two.now ++ later_two) halts) (written_at self.new.place (one.now ++ later_one) (two.now ++ later_two) halts) }
     {
         self.print_one(one);
@@ -114,7 +117,9 @@ impl<W: Write + Drop> Reports<W> {
 
     /// Ends level 1's report and begins that of level 2, if level 1 is over and level 2 has printed.
     fn pass(&mut self, two: &[PrintLine], is_one_over: bool)
-        ensures { (one all_two : List Printed) (halts : List ℕ) → (is_one_over ≡ true → IsOneWritten self.old.place one × (halts ≡ []))
+        ensures still { (one : List Printed) → IsOneWritten self.old.place one → IsOneWritten self.new.place one }
+        ensures passed { is_one_over ≡ true → (two.now ≡ []) ⊎ HasPassed self.new.place }
+        ensures moves { (one all_two : List Printed) (halts : List ℕ) → (is_one_over ≡ true → IsOneWritten self.old.place one × (halts ≡ []))
             → Moves (W.contents self.old.output.writer) (W.contents self.new.output.writer) self.old.output.has_failed self.new.output.has_failed (written_at self.old.place one all_two halts) (written_at self.new.place one all_two halts) }
     {
         if is_one_over && !two.is_empty() {
@@ -153,6 +158,7 @@ impl<W: Write + Drop> Reports<W> {
     fn print_two(&mut self, lines: &[PrintLine])
         ensures moves { (one later : List Printed) (halts : List ℕ) → Moves (W.contents self.old.output.writer) (W.contents self.new.output.writer) self.old.output.has_failed self.new.output.has_failed (written_at self.old.place one (lines.now ++ later) halts) (written_at self.new.place one (lines.now ++ later) halts) }
         ensures all { HasPassed self.old.place → IsTwoWritten self.new.place lines.now }
+        ensures still { (one : List Printed) → IsOneWritten self.old.place one → IsOneWritten self.new.place one }
     {
         match self.place {
             Place::Two(written) => {

@@ -3,7 +3,7 @@
 
 use s3_cards::ebcdic::BLANK;
 use s3_cards::{PRINT_POSITIONS, PrintLine};
-use s3_pages::{PaperFault, write_pdf};
+use s3_pages::{PaperFault, PaperSize, write_pdf};
 use std::alloc::{AllocError, Global};
 use std::test::Fail;
 
@@ -11,7 +11,14 @@ use std::test::Fail;
 #[test]
 fn a_document_without_lines_is_an_empty_form(rt: HostRuntime) {
     let mut bytes = Vec::new(rt.alloc());
-    let written = write_pdf(rt.alloc(), b"LIST (1)", &[], false, &mut bytes);
+    let written = write_pdf(
+        rt.alloc(),
+        b"LIST (1)",
+        &[],
+        false,
+        PaperSize::Form,
+        &mut bytes,
+    );
     assert!(rt; written.is_ok());
     assert!(rt; bytes.starts_with(b"%PDF-1.4\n1 0 obj\n".as_slice()));
     assert!(rt; bytes.ends_with(b"\n%%EOF\n".as_slice()));
@@ -33,7 +40,7 @@ fn many_pages(alloc: Global) -> Result<Vec<PrintLine>, AllocError> {
 fn a_document_of_too_many_pages_is_refused(rt: HostRuntime) -> Result<(), Fail> {
     let lines = many_pages(rt.alloc())?;
     let mut bytes = Vec::new(rt.alloc());
-    let refused = write_pdf(rt.alloc(), b"A", &lines, true, &mut bytes);
+    let refused = write_pdf(rt.alloc(), b"A", &lines, true, PaperSize::A4, &mut bytes);
     assert!(rt; matches!(refused, Err(PaperFault::TooLong)));
     assert!(rt; bytes.is_empty());
     Ok(())

@@ -1,4 +1,5 @@
 pub mod Finding
+pub mod FixedLemmas
 pub mod LineLemmas
 pub mod Opening
 pub mod RowLemmas

@@ -1,4 +1,5 @@
-//! The records of a file on a pack, written out for other programs: as a table in CSV, as texts or in hexadecimal digits.
+//! The records of a file on a pack, written out for other programs: as a table in CSV, as texts, in hexadecimal digits
+//! or as records of a fixed length.
 //!
 //! What is proved, for every pack, layout and writer:
 //!
@@ -11,7 +12,10 @@
 //!   (`a_table_reads_as_its_rows`);
 //! - `unload_lines` writes exactly a line for each record: its characters, each of which it has, or two hexadecimal digits for
 //!   each byte (`wrote`); it is refused by the header, the labels, a byte without a character, memory and the writer alone
-//!   (`refused`).
+//!   (`refused`);
+//! - `unload_fixed` writes exactly the records, in the order of the keys if there is an index: their bytes, or their characters,
+//!   with a line feed after each if the form has one (`wrote`); it is refused by the header, the labels, the index, a byte without
+//!   a character, memory and the writer alone (`refused`). Its texts are read again by `s3_load`.
 //!
 //! A chosen record that has a value that can't be shown is reported by its number in the file; that it is the first one of the table, that
 //! the reported field and position are the ones in error, and that the rows before it are written and nothing after other
@@ -20,6 +24,7 @@
 #![tactic(auto)]
 
 mod fault;
+mod fixed;
 mod found;
 mod laws;
 mod lines;
@@ -28,6 +33,7 @@ mod rows;
 mod writing;
 
 pub use fault::UnloadFault;
+pub use fixed::{FixedForm, unload_fixed};
 pub use found::{Area, find_file};
 pub use laws::a_table_reads_as_its_rows;
 pub use lines::{LineForm, unload_lines};

@@ -1,6 +1,10 @@
 -- How the jobs of a day end.
-use Rattle.std.specs.Prelude.{◌≡◌, ℕ, ◌==◌, ◌-◌, Bool, true, false, ◌||◌, ◌&&◌, List, [], ◌∷◌, ◌++◌, length, map, replicate, set, slice_get, Option, None, Some, is_some, if◌then◌else◌}
+use Rattle.std.specs.Prelude.{◌≡◌, ℕ, ◌==◌, ◌-◌, nat_le, Bool, true, false, not, ◌||◌, ◌&&◌, List, [], ◌∷◌, ◌++◌, length, drop, map, replicate, set, slice_get, Option, None, Some, is_some, if◌then◌else◌}
 use Rattle.std.specs.List.{list_any}
+use Rattle.s3_ocl.specs.Jobs.{place_after}
+use Rattle.s3_decks.specs.declared.job_list.JobEntry.{JobEntry}
+use Rattle.s3_decks.specs.Inner.Days.{said}
+use Rattle.s3_solo.specs.World.{World}
 use Rattle.s3_day_log.specs.declared.event.JobEnd.{JobEnd}
 use Rattle.s3_day_log.specs.declared.event.JobEnd.TheVariants.{Ended, Replied, PassedOver}
 use Rattle.s3_day_log.specs.declared.endings.LevelEnd.{LevelEnd}
@@ -12,6 +16,7 @@ use Rattle.s3_day_log.specs.declared.which_pack.Standing.TheVariants.{First, Sav
 use Rattle.s3_day_log.specs.declared.ledger.BegunJob.{BegunJob}
 use Rattle.s3_operator.specs.Inner.Starts.{is_at_start}
 use Rattle.s3_operator.specs.declared.halt_code.HaltCode.{HaltCode}
+use Rattle.s3_operator.specs.Halts.{waiting}
 
 -- how a job that is over ended, by the halt and the reply that ended it, if one did: a job that couldn't be started was passed over
 abbrev pub end_of : Option (HaltCode × ℕ) → JobEnd
@@ -35,15 +40,54 @@ is_open_behind code digit was_open = if digit == 0 then was_open else if is_at_s
 abbrev pub endings : List BegunJob → List (Option (HaltCode × ℕ))
 endings jobs = map (λ job. job.ending) jobs
 
--- a job has begun, which no reply has ended; or no job has begun
-abbrev pub begins_one : Bool → List (Option (HaltCode × ℕ)) → List (Option (HaltCode × ℕ))
-begins_one true before = before ++ None ∷ []
-begins_one false before = before
-
 -- jobs have begun, which no reply has ended, and the jobs before them have ended as they had
 pub record Begins (old new : List BegunJob) : Type 0 where
   pub count : ℕ
   pub begun : endings new ≡ endings old ++ replicate count None
+
+-- ---- which jobs have begun, and which are over
+-- for each job that was begun, whether it is over
+abbrev pub overs : List BegunJob → List Bool
+overs jobs = map (λ job. job.is_over) jobs
+
+-- the last job is over, too
+abbrev pub closed : List Bool → List Bool
+closed before = set before (length before - 1) true
+
+-- a job has begun if the place that the level has come to isn't before its end
+abbrev pub has_begun : (place : ℕ) → JobEntry → Bool
+has_begun place entry = nat_le (place_after (said entry.statements)) place
+
+-- of the jobs that are left those have begun that come before the first one that hasn't, each after the one before it was over
+abbrev pub begun_by : (place : ℕ) → (left : List JobEntry) → List Bool → List Bool
+begun_by place [] before = before
+begun_by place (entry ∷ left) before = if has_begun place entry then begun_by place left (closed before ++ false ∷ []) else before
+
+-- whether there is a next job, and it has begun
+abbrev pub has_begun_if_any : (place : ℕ) → Option JobEntry → Bool
+has_begun_if_any place None = false
+has_begun_if_any place (Some entry) = has_begun place entry
+
+abbrev pub begins_next : (place : ℕ) → List JobEntry → (begun : ℕ) → Bool
+begins_next place jobs begun = has_begun_if_any place (slice_get jobs begun)
+
+abbrev pub same_bool : Bool → Bool → Bool
+same_bool true other = other
+same_bool false other = not other
+
+-- the level is at the same place as before, and a job is at work or halted as before
+abbrev pub stands_still : (old_place place : ℕ) → (was_open is_open : Bool) → Bool
+stands_still old_place place was_open is_open = (old_place == place) && same_bool was_open is_open
+
+-- whether each job is over after a look at a level that has come to a place; the last one is not, where it is at work or halted
+abbrev pub overs_behind : (old_place place : ℕ) → (was_open is_open : Bool) → List JobEntry → List Bool → List Bool
+overs_behind old_place place was_open is_open jobs before =
+    if stands_still old_place place was_open is_open then before
+    else (if is_open then begun_by place (drop (length before) jobs) before else closed (begun_by place (drop (length before) jobs) before))
+
+-- a level's job is at work, or its halt waits
+abbrev pub has_open_job : World → Bool
+has_open_job w = is_some w.job || is_some (waiting w.halts)
 
 -- a job was ended by a reply, or passed over
 abbrev pub has_passed : List BegunJob → Bool

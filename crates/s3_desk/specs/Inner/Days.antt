@@ -1,6 +1,5 @@
 -- What comes of a day at the desk over a pack.
 use Rattle.std.specs.Prelude.{◌≡◌, ℕ, List, [], Option, Result, Ok, Err}
-use Rattle.s3_cards.specs.Deck.{deck_of}
 use Rattle.s3_cards.specs.declared.levels.LevelId.{LevelId}
 use Rattle.s3_cards.specs.declared.levels.LevelId.TheVariants.{One, Two}
 use Rattle.s3_slots.specs.declared.header.Header.{Header}
@@ -12,7 +11,6 @@ use Rattle.s3_bureau.specs.declared.outcome.RunLines.{RunLines}
 use Rattle.s3_bureau.specs.declared.run_fault.RunFault.{RunFault}
 use Rattle.s3_bureau.specs.Entries.{own}
 use Rattle.s3_bureau.specs.Inner.Held.{HoldsFor, State, lines_at}
-use Rattle.s3_bureau.specs.Runs.{cards_of}
 use Rattle.s3_bureau.specs.Texts.{halt_text_of}
 use Rattle.s3_desk.specs.declared.day.Day.{Day}
 use Rattle.s3_desk.specs.declared.ends.Bounds.{Bounds}
@@ -20,7 +18,7 @@ use Rattle.s3_desk.specs.declared.ends.End.TheVariants.{Halted}
 use Rattle.s3_desk.specs.declared.ends.Ends.{Ends}
 use Rattle.s3_desk.specs.Inner.Desk.{AreMet, EndsAs, HasReached}
 use Rattle.s3_desk.specs.Inner.Events.{Event}
-use Rattle.s3_desk.specs.Inner.Moments.{AllShown, AskedInVain, EachFits, InTime, Moment, events_in, performed_in}
+use Rattle.s3_desk.specs.Inner.Moments.{AllShown, AskedInVain, EachFits, InTime, IsFollowed, Moment, events_in, performed_in}
 
 -- what a day leaves, as a run leaves it
 abbrev pub run_of : Result Day RunFault → Result RunLines RunFault
@@ -28,9 +26,9 @@ run_of (Ok day) = Ok day.run
 run_of (Err fault) = Err fault
 
 -- the world of each level before its first entry, over a mounted pack and its own deck
-abbrev pub starts_in : Header → (contents : List (List ℕ)) → (deck1 deck2 : List ℕ) → LevelId → World
-starts_in header contents deck1 deck2 One = at_start One header contents (cards_of (deck_of deck1))
-starts_in header contents deck1 deck2 Two = at_start Two header contents (cards_of (deck_of deck2))
+abbrev pub starts_in : Header → (contents cards1 cards2 : List (List ℕ)) → LevelId → World
+starts_in header contents cards1 cards2 One = at_start One header contents cards1
+starts_in header contents cards1 cards2 Two = at_start Two header contents cards2
 
 -- A day has printed what each level's world has after its own entries, closed; and level 1's halt text is that of its world, after the
 -- line of a deck that was refused.
@@ -51,12 +49,13 @@ pub record EndSo (starts : LevelId → World) (entries : List Entry) (ends : End
   pub two : EndsAs ends.two (solo (starts Two) (own Two entries))
 
 -- The day as one list, by which an operator came from one state to another. Its entries are those that were performed. Each moment came
--- in its time, and each halt was shown. A level that was left halted was asked in vain.
+-- in its time, each halt was shown, and the operator has followed all. A level that was left halted was asked in vain.
 pub record IsAnswered {O : Type 0} (meets : O → Event → O → Type 0) (starts : LevelId → World) (bounds : Bounds) (entries : List Entry) (ends : Ends) (from to : O) : Type 0 where
   pub day : List Moment
   pub whole : entries ≡ performed_in day
   pub met : AreMet meets from (events_in day) to
   pub fits : EachFits (InTime starts (λ level entries. HasReached level [] entries bounds)) [] day
   pub shown : (level : LevelId) → AllShown starts day level
+  pub followed : IsFollowed day
   pub one_halted : ends.one ≡ Halted → AskedInVain One day
   pub two_halted : ends.two ≡ Halted → AskedInVain Two day

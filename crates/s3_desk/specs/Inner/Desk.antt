@@ -1,5 +1,5 @@
 -- What is done at a desk.
-use Rattle.std.specs.Prelude.{◌≡◌, ◌≢◌, ◌⊎◌, ◌+◌, ◌*◌, ◌-◌, ◌≤◌, ◌<◌, ℕ, Bool, true, false, List, [], ◌∷◌, ◌++◌, length, filter, Option, Some, None, Result, Ok, Err}
+use Rattle.std.specs.Prelude.{◌≡◌, ◌≢◌, ◌⊎◌, ◌+◌, ◌*◌, ◌-◌, ◌≤◌, ◌<◌, ℕ, Bool, true, false, List, [], ◌∷◌, ◌++◌, length, filter, replicate, Option, Some, None, Result, Ok, Err}
 use Rattle.std.specs.List.{list_all}
 use Rattle.s3_cards.specs.Inner.Levels.{other}
 use Rattle.s3_cards.specs.Printed.{Printed}
@@ -14,6 +14,7 @@ use Rattle.s3_solo.specs.Lines.{is_queued}
 use Rattle.s3_solo.specs.Solo.{solo, step_of}
 use Rattle.s3_solo.specs.World.{World}
 use Rattle.s3_time.specs.Inner.Moves.{IsAtRest}
+use Rattle.s3_level.specs.Inner.Holds.{StopsAtEnd}
 use Rattle.s3_level.specs.Inner.Queries.{has_work}
 use Rattle.s3_bureau.specs.declared.entry.Entry.{Entry}
 use Rattle.s3_bureau.specs.declared.stop.Stop.{Stop}
@@ -75,6 +76,11 @@ Counts level was is old new = (first : List Entry) → RepliesLast level first w
 abbrev pub with_reply : (is_taken : Bool) → ℕ → ℕ
 with_reply true answers = answers + 1
 with_reply false answers = answers
+
+-- a level has drained so many lines, and done nothing else
+pub record TakesLines (level : LevelId) (was is : List Entry) : Type 0 where
+  pub times : ℕ
+  pub whole : is ≡ was ++ replicate times (record { level = level; action = Drain })
 
 -- a level has no turn left, or no line
 abbrev pub IsSpent : Bounds → Type 0
@@ -151,9 +157,19 @@ module _ {M : Type 0} (holds : M → LevelId → World → Type 0) where
     pub two_drained : HasDrained Two now two
     pub one_over : TellsOver One now is_one_over
 
-  -- it may have followed a level
-  abbrev pub MayFollow : {O : Type 0} → (O → Event → O → Type 0) → LevelId → List Entry → M → O → O → Type 0
-  MayFollow meets level is now old new = (new ≡ old) ⊎ Follows meets level is now old new
+  -- it followed a level, or nothing was performed
+  abbrev pub FollowsAll : {O : Type 0} → (O → Event → O → Type 0) → LevelId → (was is : List Entry) → M → O → O → Type 0
+  FollowsAll meets level was is now old new = ((is ≡ was) × (new ≡ old)) ⊎ Follows meets level is now old new
+
+  -- a level has taken so many turns and done nothing else, and none of them but the last has ended a job
+  pub record TakesStride (level : LevelId) (was is : List Entry) (old : M) : Type 0 where
+    pub times : ℕ
+    pub whole : is ≡ was ++ replicate times (record { level = level; action = Turn })
+    pub at_work : StopsAtEnd Turn times (holds old level)
+
+  -- a level has taken turns up to the end of a job, or drained lines, but not both
+  abbrev pub StepsAlike : LevelId → (was is : List Entry) → (old : M) → Type 0
+  StepsAlike level was is old = TakesStride level was is old ⊎ TakesLines level was is
 
   -- whatever was performed before, these entries have been performed now
   abbrev pub GoesOn : (was is : List Entry) → (old new : M) → Type 0

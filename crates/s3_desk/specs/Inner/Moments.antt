@@ -1,5 +1,5 @@
 -- A day at the desk as one list: what was performed and what the operator met, in order.
-use Rattle.std.specs.Prelude.{◌≡◌, ◌⊎◌, ℕ, Bool, true, List, [], ◌∷◌, ◌++◌, map, Option, Some, None, if◌then◌else◌}
+use Rattle.std.specs.Prelude.{◌≡◌, ◌⊎◌, ℕ, Bool, true, List, [], ◌∷◌, ◌++◌, map, Option, Some, None, is_some, if◌then◌else◌}
 use Rattle.std.specs.List.{flat_map}
 use Rattle.s3_cards.specs.Inner.Levels.{other}
 use Rattle.s3_cards.specs.Printed.{Printed}
@@ -75,6 +75,32 @@ shown_at level (Met event) = shown_by level event
 abbrev pub shown_in : LevelId → List Moment → List ShownHalt
 shown_in level day = flat_map (shown_at level) day
 
+-- ---- what the operator has followed
+abbrev pub turn_of : LevelId → Entry
+turn_of level = record { level = level; action = Turn }
+
+abbrev pub drain_of : LevelId → Entry
+drain_of level = record { level = level; action = Drain }
+
+abbrev pub due_by : Event → Option Entry → Option Entry
+due_by (Followed level one two is_one_over entries) due = None
+due_by (Shown level halt) due = due
+due_by (Asked level halt reply) due = due
+
+abbrev pub due_at : Moment → Option Entry → Option Entry
+due_at (Turned level) due = Some (turn_of level)
+due_at (Drained level) due = Some (drain_of level)
+due_at (Met event) due = due_by event due
+
+-- the last turn or drain that the operator hasn't followed, if there is one
+abbrev pub due_in : Option Entry → List Moment → Option Entry
+due_in due [] = due
+due_in due (moment ∷ day) = due_in (due_at moment due) day
+
+-- the operator has followed each turn and each drain of a day
+abbrev pub IsFollowed : List Moment → Type 0
+IsFollowed day = due_in None day ≡ None
+
 -- ---- each moment in its time
 -- each moment fits what was before it
 abbrev pub EachFits : (Fits : List Moment → Moment → Type 0) → (before day : List Moment) → Type 0
@@ -112,6 +138,14 @@ module _ (starts : LevelId → World) where
     pub one_over : is_one_over ≡ true → IsOver (world_after before One)
     pub performed : entries ≡ performed_in before
 
+  -- what the operator hasn't followed before a turn are turns of the same level, none of which has ended a job
+  abbrev pub MayTurn : List Moment → LevelId → Type 0
+  MayTurn before level = IsFollowed before ⊎ ((due_in None before ≡ Some (turn_of level)) × (is_some (world_after before level).job ≡ true))
+
+  -- what the operator hasn't followed before a drain are drains of the same level
+  abbrev pub MayDrain : List Moment → LevelId → Type 0
+  MayDrain before level = IsFollowed before ⊎ (due_in None before ≡ Some (drain_of level))
+
   -- `IsCut` says that a level has come to a limit by these entries
   module _ (IsCut : LevelId → List Entry → Type 0) where
     -- a reply is asked for when the halt waits and was shown, its level is at rest, and the other level is at rest or at a limit
@@ -120,16 +154,17 @@ module _ (starts : LevelId → World) where
       pub shown : AllShown before level
       pub rests : IsLeft (world_after before level)
       pub other_rests : IsLeft (world_after before (other level)) ⊎ IsCut (other level) (performed_in before)
+      pub followed : IsFollowed before
 
     abbrev pub MetInTime : List Moment → Event → Type 0
     MetInTime before (Followed level one two is_one_over entries) = FollowedInTime before one two is_one_over entries
-    MetInTime before (Shown level halt) = IsNew (world_after before level).halts (shown_in level before) halt
+    MetInTime before (Shown level halt) = IsNew (world_after before level).halts (shown_in level before) halt × IsFollowed before
     MetInTime before (Asked level halt reply) = AskedInTime before level halt
 
     -- a moment came in its time
     abbrev pub InTime : List Moment → Moment → Type 0
-    InTime before (Turned level) = Unit {0}
-    InTime before (Drained level) = Unit {0}
+    InTime before (Turned level) = MayTurn before level
+    InTime before (Drained level) = MayDrain before level
     InTime before (Met event) = MetInTime before event
 
 -- ---- a level that ends at a halt

@@ -1,5 +1,5 @@
 -- Reports that are written while a day goes on.
-use Rattle.std.specs.Prelude.{◌≡◌, ◌++◌, ℕ, Bool, true, List, [], Option}
+use Rattle.std.specs.Prelude.{◌≡◌, ◌⊎◌, ◌++◌, ℕ, Bool, true, List, [], Option}
 use Rattle.s3_cards.specs.Printed.{Printed}
 use Rattle.s3_cards.specs.declared.levels.LevelId.{LevelId}
 use Rattle.s3_cards.specs.declared.levels.LevelId.TheVariants.{One, Two}
@@ -7,7 +7,7 @@ use Rattle.s3_solo.specs.Inner.Lines.{drained_lines}
 use Rattle.s3_solo.specs.Solo.{closed}
 use Rattle.s3_solo.specs.World.{World}
 use Rattle.s3_reports.specs.declared.place.Place.{Place}
-use Rattle.s3_reports.specs.Inner.Reports.{written_at}
+use Rattle.s3_reports.specs.Inner.Reports.{IsOneWritten, IsTwoWritten, written_at}
 use Rattle.s3_reports.specs.Inner.Written.{Moves}
 use Rattle.s3_desk.specs.Inner.Events.{Asked, Event, Followed, Shown}
 use Rattle.s3_desk.specs.Inner.Moments.{Moment, world_after}
@@ -22,10 +22,16 @@ pub record Sheet : Type 0 where
 abbrev pub Goes : (old new : Sheet) (one two : List Printed) (halts : List ℕ) → Type 0
 Goes old new one two halts = Moves old.contents new.contents old.has_failed new.has_failed (written_at old.place one two halts) (written_at new.place one two halts)
 
+-- What is written of the lines that both levels have printed: all of level 1's, and level 2's once level 1 is over and its deck was
+-- read.
+pub record PrintsLines (is_read is_one_over : Bool) (one two : List Printed) (old new : Sheet) : Type 0 where
+  pub goes : (later_one later_two : List Printed) (halts : List ℕ) → (is_one_over ≡ true → is_read ≡ true → (later_one ≡ []) × (halts ≡ [])) → Goes old new (one ++ later_one) (two ++ later_two) halts
+  pub level_one : IsOneWritten new.place one
+  pub level_two : is_one_over ≡ true → is_read ≡ true → (two ≡ []) ⊎ IsTwoWritten new.place two
+
 -- What is written when the operator meets something. `is_read` says that level 1's deck was read.
 abbrev pub Prints : (is_read : Bool) → Event → (old new : Sheet) → Type 0
-Prints is_read (Followed level one two is_one_over entries) old new =
-    (later_one later_two : List Printed) (halts : List ℕ) → (is_one_over ≡ true → is_read ≡ true → (later_one ≡ []) × (halts ≡ [])) → Goes old new (one ++ later_one) (two ++ later_two) halts
+Prints is_read (Followed level one two is_one_over entries) old new = PrintsLines is_read is_one_over one two old new
 Prints is_read (Shown level halt) old new = new ≡ old
 Prints is_read (Asked level halt reply) old new = new ≡ old
 

@@ -12,9 +12,9 @@ use Rattle.s3_desk.specs.declared.ends.End.TheVariants.{Halted}
 use Rattle.s3_desk.specs.declared.ends.Ends.{Ends}
 use Rattle.s3_desk.specs.declared.desk.Went.{Went}
 use Rattle.s3_desk.specs.declared.desk.Went.TheVariants.{Rests}
-use Rattle.s3_desk.specs.Inner.Desk.{AreMet, GoesOn, Keeps, MayFollow}
+use Rattle.s3_desk.specs.Inner.Desk.{AreMet, FollowsAll, GoesOn, Keeps, StepsAlike}
 use Rattle.s3_desk.specs.Inner.Events.{Asked, Event, Shown}
-use Rattle.s3_desk.specs.Inner.Moments.{AllShown, AskedInVain, EachFits, InTime, IsNew, Moment, Waits, as_shown, events_in, performed_in, reply_to, shown_in, world_after}
+use Rattle.s3_desk.specs.Inner.Moments.{AllShown, AskedInVain, EachFits, InTime, IsFollowed, IsNew, Moment, Waits, as_shown, events_in, performed_in, reply_to, shown_in, world_after}
 
 -- ---- the halts of a level, those of them that were shown, and the mark that the last one was
 -- all were shown; the mark says whether the last one waits
@@ -52,6 +52,7 @@ pub record Sits {O : Type 0} (meets : O → Event → O → Type 0) (starts : Le
   pub day : List Moment
   pub passes : Passes meets (InTime starts IsCut) before day is from to
   pub left : IsLeftSo starts (before ++ day) one two ends
+  pub followed : IsFollowed (before ++ day)
 
 -- a reply was taken, which the halt allows; or none was, which it does
 abbrev pub IsTaken : Bool → LevelId → HaltCode → Option ℕ → Type 0
@@ -59,11 +60,12 @@ IsTaken true level code reply = (digit : ℕ) × ((reply ≡ Some digit) × (is_
 IsTaken false level code reply = reply_to level code reply ≡ []
 
 module _ {M : Type 0} (holds : M → LevelId → World → Type 0) where
-  -- a first state held these worlds, and the entries of the moments before were performed
+  -- a first state held these worlds, and the entries of the moments before were performed and followed
   pub record Begun (first : M) (starts : LevelId → World) (before : List Moment) (was : List Entry) (old : M) : Type 0 where
     pub held : (level : LevelId) → holds first level (starts level)
     pub performed : Performs was (holds first) (holds old)
     pub whole : was ≡ performed_in before
+    pub followed : IsFollowed before
 
   module _ {O : Type 0} (meets : O → Event → O → Type 0) where
     -- ---- a halt is shown
@@ -83,13 +85,14 @@ module _ {M : Type 0} (holds : M → LevelId → World → Type 0) where
     abbrev pub ShowsHalt : (level : LevelId) (old : M) (from to : O) (was_shown is_shown : Bool) → Type 0
     ShowsHalt level old from to was_shown is_shown = ShowsNone level old from to was_shown is_shown ⊎ ShowsOne level old from to was_shown is_shown
 
-    -- a level has gone on, the operator may have followed it, and a halt that has come was shown
+    -- a level has gone on, the operator has followed that, and a halt that has come was shown
     pub record Serves (level : LevelId) (was is : List Entry) (old new : M) (from to : O) (was_shown is_shown : Bool) : Type 0 where
       pub middle : M
       pub half : O
       pub goes : GoesOn holds was is old middle
       pub keeps : Keeps holds middle new
-      pub followed : MayFollow holds meets level is middle from half
+      pub alike : StepsAlike holds level was is old
+      pub followed : FollowsAll holds meets level was is middle from half
       pub shows : ShowsHalt level middle half to was_shown is_shown
 
     -- ---- a halt is asked about

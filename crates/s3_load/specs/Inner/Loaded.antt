@@ -185,3 +185,9 @@ pub record IsLoaded (order : Order) (text : Option (List ℕ)) (old new : List (
   pub header : Header
   pub mounts : mounted old ≡ Ok header
   pub filled : HasFile order (records_of rows) header old new
+
+-- The pack has these records in the file that is asked for.
+pub record HasRecords (order : Order) (added : List (List ℕ)) (old new : List (List ℕ)) : Type 0 where
+  pub header : Header
+  pub mounts : mounted old ≡ Ok header
+  pub filled : HasFile order added header old new

@@ -4,6 +4,8 @@ use Rattle.std.specs.Fmt.{decimal}
 use Rattle.std.specs.List.{flat_map, range_with_len}
 use Rattle.s3_cards.specs.Printed.{Printed}
 use Rattle.s3_pages.specs.Inner.Drawing.{drawn_page, stream_body, text_in}
+use Rattle.s3_pages.specs.Inner.Sizes.{tree_head}
+use Rattle.s3_pages.specs.declared.size.PaperSize.{PaperSize}
 
 -- object 1: ten columns to the inch
 unfoldable pub font_body : List ℕ
@@ -28,18 +30,19 @@ unfoldable pub page_body : (tree contents : ℕ) → List ℕ
 page_body tree contents = codes "<< /Type /Page /Parent " ++ decimal tree ++ codes " 0 R /Contents " ++ decimal contents ++ codes " 0 R >>"
 
 -- the pages of a job, two objects each, from a number on
-abbrev pub page_bodies : (tree number : ℕ) → List (List Printed) → List (List ℕ)
-page_bodies tree number [] = []
-page_bodies tree number (page ∷ pages) = page_body tree (number + 1) ∷ stream_body [] (drawn_page page) ∷ page_bodies tree (number + 2) pages
+abbrev pub page_bodies : (size : PaperSize) (tree number : ℕ) → List (List Printed) → List (List ℕ)
+page_bodies size tree number [] = []
+page_bodies size tree number (page ∷ pages) =
+    page_body tree (number + 1) ∷ stream_body [] (drawn_page size page) ∷ page_bodies size tree (number + 2) pages
 
 -- a page among all pages, by its place
 unfoldable pub kid : ℕ → List ℕ
 kid place = decimal (4 + 2 * place) ++ codes " 0 R "
 
 -- all pages
-unfoldable pub tree_body : ℕ → List ℕ
-tree_body count =
-    codes "<< /Type /Pages /MediaBox [0 0 1071 792] /Resources 3 0 R /Count " ++ decimal count ++ codes " /Kids [" ++ flat_map kid (range_with_len 0 count)
+unfoldable pub tree_body : PaperSize → ℕ → List ℕ
+tree_body size count =
+    tree_head size ++ decimal count ++ codes " /Kids [" ++ flat_map kid (range_with_len 0 count)
     ++ codes "] >>"
 
 -- page 0 comes after each 9,999 pages from page 1 on, and then page 1

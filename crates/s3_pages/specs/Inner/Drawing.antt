@@ -5,6 +5,8 @@ use Rattle.std.specs.List.{flat_map}
 use Rattle.s3_cards.specs.Printed.{Printed}
 use Rattle.s3_pages.specs.Inner.PageTexts.{row}
 use Rattle.s3_pages.specs.Inner.Shown.{shown}
+use Rattle.s3_pages.specs.Inner.Sizes.{page_head}
+use Rattle.s3_pages.specs.declared.size.PaperSize.{PaperSize}
 
 -- a parenthesis ends a text, and a backslash has a meaning of its own, except for one after a backslash
 abbrev pub is_special : ℕ → Bool
@@ -26,8 +28,8 @@ unfoldable pub drawn : Printed → List ℕ
 drawn line = codes "1 0 0 1 60.3 " ++ decimal (baseline line) ++ codes " Tm " ++ text_in (shown line) ++ codes " Tj\n"
 
 -- a page: the form, and its lines over each other
-unfoldable pub drawn_page : List Printed → List ℕ
-drawn_page page = codes "/B Do\nBT\n/F 12 Tf\n" ++ flat_map drawn page ++ codes "ET"
+unfoldable pub drawn_page : PaperSize → List Printed → List ℕ
+drawn_page size page = page_head size ++ flat_map drawn page ++ codes "ET"
 
 -- a stream: what is said of it, its length, and its bytes
 unfoldable pub stream_body : (said content : List ℕ) → List ℕ

@@ -7,6 +7,7 @@ use Rattle.s3_pages.specs.declared.fault.PaperFault.{PaperFault}
 use Rattle.s3_pages.specs.declared.fault.PaperFault.TheVariants.{TooLong}
 use Rattle.s3_pages.specs.Inner.Documents.{document_of}
 use Rattle.s3_pages.specs.Inner.Objects.{joined, numbered, places}
+use Rattle.s3_pages.specs.declared.size.PaperSize.{PaperSize}
 use Rattle.s3_pages.specs.declared.object_table.Table.{Table}
 
 -- the texts of objects that come after those of a table
@@ -32,5 +33,5 @@ pub record Putting (bodies : List (List ℕ)) (old new : Table) (before after : 
   pub comes : MatchResult result (λ _. Puts bodies old new before after) (λ fault. fault ≡ TooLong → end_limit ≤ end_behind old bodies)
 
 -- a document has too many pages, or bytes
-abbrev pub IsTooLong : List ℕ → Bool → List Printed → Type 0
-IsTooLong title has_bars lines = (4000000 < length (pages_of lines)) ⊎ (end_limit ≤ length (document_of title has_bars lines))
+abbrev pub IsTooLong : PaperSize → List ℕ → Bool → List Printed → Type 0
+IsTooLong size title has_bars lines = (4000000 < length (pages_of lines)) ⊎ (end_limit ≤ length (document_of size title has_bars lines))

@@ -1,14 +1,32 @@
 -- The script as it is written while a day goes on.
-use Rattle.std.specs.Prelude.{ℕ, ◌≤◌, List, Bool, true, false, Option, length, take, ⊤}
-use Rattle.std.specs.Io.KnownBytes.{Appends}
+use Rattle.std.specs.Prelude.{◌≡◌, ℕ, ◌-◌, Bool, true, false, List, length, drop, Option, None, Some, is_some, ⊤}
+use Rattle.std.specs.List.{list_all}
+use Rattle.std.specs.Option.{option_and_then, ForNone, ForSome}
+use Rattle.s3_bureau.specs.declared.entry.Entry.{Entry}
 use Rattle.s3_replay.specs.declared.performed.Repeated.{Repeated}
-use Rattle.s3_replay.specs.Inner.Written.{text_of}
+use Rattle.s3_replay.specs.Inner.Written.{entries_in, is_part_writable, text_of}
 
--- unless a write has failed, a file has this text, and before it what it had
-abbrev pub IsWritten : (before now : Option (List ℕ)) → (has_failed : Bool) → (text : List ℕ) → Type 0
-IsWritten before now true text = ⊤
-IsWritten before now false text = Appends before now text
+-- bytes end with a text
+abbrev pub EndsWith : (bytes text : List ℕ) → Type 0
+EndsWith bytes text = drop (length bytes - length text) bytes ≡ text
 
--- the first parts of what was performed are written, so many
-abbrev pub IsTape : (before now : Option (List ℕ)) → (has_failed : Bool) → (written : ℕ) → List Repeated → Type 0
-IsTape before now has_failed written parts = IsWritten before now has_failed (text_of (take written parts)) × (written ≤ length parts)
+-- the bytes of each such writer are known, as those of a writer in memory are
+abbrev pub AreKnown : {F : Type 0} → (contents : F → Option (List ℕ)) → Type 0
+AreKnown {F} contents = (file : F) → is_some (contents file) ≡ true
+
+-- unless a write has failed, the bytes of a file end with the script of parts, if they are known
+abbrev pub IsOnTape : {F E : Type 0} → (contents : F → Option (List ℕ)) → Option F → (failure : Option E) → List Repeated → Type 0
+IsOnTape contents file failure parts = AreKnown contents → ForNone failure (ForSome (option_and_then contents file) (λ known. EndsWith known (text_of parts)))
+
+-- unless a write has failed, what is known of a file ends with a text
+abbrev pub HasText : (now : Option (List ℕ)) → (has_failed : Bool) → (text : List ℕ) → Type 0
+HasText now true text = ⊤
+HasText None false text = ⊤
+HasText (Some bytes) false text = EndsWith bytes text
+
+-- .. with the script of these entries
+pub record HasScript (now : Option (List ℕ)) (has_failed : Bool) (entries : List Entry) : Type 0 where
+  pub parts : List Repeated
+  pub are_writable : list_all is_part_writable parts ≡ true
+  pub ask : entries_in parts ≡ entries
+  pub written : HasText now has_failed (text_of parts)

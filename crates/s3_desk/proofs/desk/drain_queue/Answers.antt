@@ -2,7 +2,7 @@ use Rattle.std.proofs.Common.{refl, arith}
 use Rattle.s3_cards.specs.declared.levels.LevelId.{LevelId}
 use Rattle.s3_solo.specs.declared.action.Action.TheVariants.{Drain}
 use Rattle.s3_bureau.specs.declared.entry.Entry.{Entry}
-use Rattle.s3_desk.proofs.Sittings.{acts_alone, after_acts, does_nothing, idle_not, lines_end, none_drained, on_not_cut, once, one_more, queue_ends, refused_not, uses_ends, uses_line}
+use Rattle.s3_desk.proofs.Sittings.{acts_alone, after_acts, does_nothing, idle_not, line_more, lines_end, none_drained, on_not_cut, once, one_more, queue_ends, refused_not, uses_ends, uses_line}
 use Rattle.s3_desk.proofs.desk.drain_queue.Goals as goal
 
 abbrev drain : LevelId → Entry
@@ -21,7 +21,13 @@ loop-left-preserved g c =
           on_not_cut,
           (
             λ first before. after first (c.loop-left.invariant.1.1.1.0 first before),
-            (λ first kept. c.in_ok-step.ensures.kept first (c.loop-left.invariant.1.1.1.1.0 first kept), omega (arith, c.in_ok-step.ensures.failed, c.loop-left.invariant.1.1.1.1.1)),
+            (
+              λ first kept. c.in_ok-step.ensures.kept first (c.loop-left.invariant.1.1.1.1.0 first kept),
+              (
+                omega (arith, c.in_ok-step.ensures.failed, c.loop-left.invariant.1.1.1.1.1.0),
+                line_more c.args.level c.args.performed.now c.loop-left.performed c.note.new.self c.loop-left.invariant.1.1.1.1.1.1 c.in_ok-note-in-Acted.ensures.noted,
+              ),
+            ),
           ),
         ),
       ),
@@ -60,3 +66,12 @@ returns-in-Refused-clause-idle g c = none_drained g.M.Machine.holds c.args.level
 pub returns-clause-idle : goal.returns-clause-idle
 returns-clause-idle g c = λ not_on.
     none_drained g.M.Machine.holds c.args.level c.args.performed.now c.loop-left.performed c.args.bureau.now c.loop-left.bureau c.loop-left.went c.loop-left.invariant.0 c.loop-left.invariant.1.1.0 (λ on. not_on (c.cut_unless_on.ensures.on on))
+
+pub returns-in-Idle-clause-lines : goal.returns-in-Idle-clause-lines
+returns-in-Idle-clause-lines g c = c.loop-left.invariant.1.1.1.1.1.1
+
+pub returns-in-Refused-clause-lines : goal.returns-in-Refused-clause-lines
+returns-in-Refused-clause-lines g c = c.loop-left.invariant.1.1.1.1.1.1
+
+pub returns-clause-lines : goal.returns-clause-lines
+returns-clause-lines g c = c.loop-left.invariant.1.1.1.1.1.1

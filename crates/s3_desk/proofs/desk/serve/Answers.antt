@@ -1,6 +1,6 @@
 use Rattle.std.proofs.Common.{◌∙◌, arith, subst}
 use Rattle.s3_desk.specs.Inner.Rounds.{ShowsHalt}
-use Rattle.s3_desk.proofs.Sittings.{counts_went, level_goes, level_kept}
+use Rattle.s3_desk.proofs.Sittings.{counts_went, follows_all, level_goes, level_kept}
 use Rattle.s3_desk.proofs.desk.serve.Goals as goal
 
 pub returns-clause-goes : goal.returns-clause-goes
@@ -15,7 +15,8 @@ returns-clause-serves g c =
       half = c.follow.new.operator;
       goes = goes.goes;
       keeps = c.in_ok-show.ensures.held;
-      followed = c.in_ok-follow.ensures.met;
+      alike = c.in_ok-went.ensures.alike;
+      followed = follows_all g.M.Machine.holds g.O.Operator.meets c.args.level c.in_ok-went.went c.args.performed.now c.go_on.new.performed c.go_on.new.bureau c.args.operator.now c.follow.new.operator c.in_ok-follow.ensures.met c.follow.ensures.rests c.in_ok-went.ensures.idle;
       shows = subst (λ b. ShowsHalt g.M.Machine.holds g.O.Operator.meets c.args.level c.go_on.new.bureau c.follow.new.operator c.show.new.operator b c.show.new.seat.is_shown) c.follow.ensures.same_shown c.in_ok-show.ensures.shows;
     }
 

@@ -2,7 +2,7 @@ use Rattle.std.proofs.Common.{refl, arith}
 use Rattle.s3_cards.specs.declared.levels.LevelId.{LevelId}
 use Rattle.s3_solo.specs.declared.action.Action.TheVariants.{Turn}
 use Rattle.s3_bureau.specs.declared.entry.Entry.{Entry}
-use Rattle.s3_desk.proofs.Sittings.{acts_alone, after_acts, does_nothing, idle_not, refused_not, uses_turns}
+use Rattle.s3_desk.proofs.Sittings.{acts_alone, after_acts, alike_turns, does_nothing, idle_not, refused_not, uses_turns}
 use Rattle.s3_desk.proofs.desk.take_turns.Goals as goal
 
 abbrev turn : LevelId → Entry
@@ -33,6 +33,10 @@ returns-in-Idle-clause-after g c = c.in_ok-taken.ensures.quiet (idle_not c.in_ok
 
 pub returns-in-Refused-clause-after : goal.returns-in-Refused-clause-after
 returns-in-Refused-clause-after g c = c.in_ok-taken.ensures.quiet (refused_not c.in_ok-taken.taken.did _ c.in-Refused.is) c.args.performed.now
+
+pub returns-in_ok-note-in-Acted-clause-alike : goal.returns-in_ok-note-in-Acted-clause-alike
+returns-in_ok-note-in-Acted-clause-alike g c =
+    alike_turns g.M.Machine.holds c.args.level c.in_ok-taken.taken.times c.from-times.result c.args.performed.now c.note.new.self c.args.bureau.now c.in_ok-taken.ensures.job_ends c.from-times.ensures c.in_ok-note-in-Acted.ensures.noted
 
 pub returns-in_ok-note-in-Acted-clause-uses : goal.returns-in_ok-note-in-Acted-clause-uses
 returns-in_ok-note-in-Acted-clause-uses g c =

@@ -14,4 +14,4 @@ returns g c =
     ∙ ap (λ contents. page_body c.args.tree (length c.args.table.now.starts.items + 1 + 1) ∷ contents ∷ [])
     (c.as_slice-3.ensures.value ∙ c.in_ok-push_stream.ensures ∙ ap (λ text. text ++ stream_body [] c.as_slice.result.now) c.new-contents.ensures.items
     ∙ ap (λ drawn. stream_body [] drawn)
-    (c.as_slice.ensures.value ∙ c.in_ok-push_page.ensures ∙ ap (λ text. text ++ drawn_page c.args.page.now) c.new-drawn.ensures.items)))
+    (c.as_slice.ensures.value ∙ c.in_ok-push_page.ensures ∙ ap (λ text. text ++ drawn_page c.args.size c.args.page.now) c.new-drawn.ensures.items)))

@@ -1,0 +1,3 @@
+pub mod PartLemmas
+pub mod ReadingLemmas
+pub mod ScaleLemmas

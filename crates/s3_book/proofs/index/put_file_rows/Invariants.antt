@@ -1,0 +1,9 @@
+-- The texts so far.
+use Rattle.std.proofs.Common.{◌≡◌, ◌++◌, take, vec_items}
+use Rattle.std.specs.List.{flat_map}
+use Rattle.s3_book.specs.Inner.Index.{file_row}
+use Rattle.s3_book.specs.Inner.Parts.{page_of}
+use Rattle.s3_book.proofs.index.put_file_rows.Given as goal
+
+abbrev pub invariant-loop-file : goal.invariant-loop-file
+invariant-loop-file l = vec_items l.text ≡ vec_items l.initial.text ++ flat_map (λ f. page_of (file_row f)) (take l.file-index l.files)

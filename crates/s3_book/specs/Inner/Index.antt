@@ -1,0 +1,269 @@
+-- The page of a day.
+use Rattle.std.specs.Prelude.{ℕ, ◌-◌, List, [], ◌∷◌, ◌++◌, Option, Some, None, codes, length, max, option_map}
+use Rattle.std.specs.List.{flat_map}
+use Rattle.s3_cards.specs.Inner.Levels.{level_number}
+use Rattle.s3_book.specs.declared.day.ChangedFile.{ChangedFile}
+use Rattle.s3_book.specs.declared.day.Day.{Day}
+use Rattle.s3_book.specs.declared.day.Extent.{Extent}
+use Rattle.s3_book.specs.declared.day.Halt.{Halt}
+use Rattle.s3_book.specs.declared.day.Job.{Job}
+use Rattle.s3_book.specs.declared.day.Region.{Region}
+use Rattle.s3_book.specs.Inner.Parts.{Piece, markup, value, link, number, page_of}
+use Rattle.s3_book.specs.Inner.Reports.{closing, opening}
+use Rattle.s3_book.specs.Inner.Scale.{lane, scaled, width}
+
+-- ---- the parts of rows and of what is around them
+
+-- how many records a file has, if it exists
+abbrev pub count_piece : Option ℕ → Piece
+count_piece (Some count) = number count
+count_piece None = markup (codes "no file")
+
+-- the title, the status and the summary
+abbrev pub head : Day → List Piece
+head day =
+    markup (codes "<h1>")
+    ∷ value day.title.now
+    ∷ markup (codes "</h1>\n<p><strong>")
+    ∷ value day.status.now
+    ∷ markup (codes "</strong></p>\n<pre>")
+    ∷ value day.summary.now
+    ∷ markup (codes "</pre>\n")
+    ∷ []
+
+-- what the line of time begins with
+abbrev pub line_head : List Piece
+line_head =
+    markup (codes "<h2>Jobs by turn</h2>\n<svg class=\"chart\" viewBox=\"0 0 1000 64\" role=\"img\" aria-label=\"Jobs by turn\">\n<rect class=\"lane\" width=\"1000\" height=\"30\"/>\n<rect class=\"lane\" y=\"34\" width=\"1000\" height=\"30\"/>\n")
+    ∷ []
+
+-- a job on the line of time
+abbrev pub bar : (turns : ℕ) → Job → List Piece
+bar turns j =
+    markup (codes "<svg x=\"")
+    ∷ number (scaled turns j.first)
+    ∷ markup (codes "\" y=\"")
+    ∷ number (lane j.level)
+    ∷ markup (codes "\" width=\"")
+    ∷ number (width turns (j.last - j.first))
+    ∷ markup (codes "\" height=\"30\"><title>level ")
+    ∷ number (level_number j.level)
+    ∷ markup (codes ", job ")
+    ∷ number j.number
+    ∷ markup (codes ", ")
+    ∷ value j.program.now
+    ∷ markup (codes ", from turn ")
+    ∷ number j.first
+    ∷ markup (codes " to ")
+    ∷ number j.last
+    ∷ markup (codes "</title><rect class=\"level")
+    ∷ number (level_number j.level)
+    ∷ markup (codes "\" width=\"1000\" height=\"30\"/><text x=\"4\" y=\"20\">")
+    ∷ number j.number
+    ∷ markup (codes " ")
+    ∷ value j.program.now
+    ∷ markup (codes "</text></svg>\n")
+    ∷ []
+
+-- what the line of time ends with
+abbrev pub line_foot : (turns : ℕ) → List Piece
+line_foot turns =
+    markup (codes "</svg>\n<p>Level 1 is above level 2. The whole line is ")
+    ∷ number turns
+    ∷ markup (codes " turns of both levels.</p>\n")
+    ∷ []
+
+-- what the table of jobs begins with
+abbrev pub jobs_head : List Piece
+jobs_head =
+    markup (codes "<table>\n<tr><th>Level</th><th>Job</th><th>Program</th><th>From turn</th><th>To turn</th><th>Lines</th><th>End</th><th>Report</th></tr>\n")
+    ∷ []
+
+-- a job in the table, up to its report
+abbrev pub job_row : Job → List Piece
+job_row j =
+    markup (codes "<tr><td>")
+    ∷ number (level_number j.level)
+    ∷ markup (codes "</td><td>")
+    ∷ number j.number
+    ∷ markup (codes "</td><td>")
+    ∷ value j.program.now
+    ∷ markup (codes "</td><td>")
+    ∷ number j.first
+    ∷ markup (codes "</td><td>")
+    ∷ number j.last
+    ∷ markup (codes "</td><td>")
+    ∷ number j.lines
+    ∷ markup (codes "</td><td>")
+    ∷ value j.ending.now
+    ∷ markup (codes "</td><td>")
+    ∷ []
+
+-- a link to a report
+abbrev pub report_link : List ℕ → List Piece
+report_link name =
+    markup (codes "<a href=\"")
+    ∷ link name
+    ∷ markup (codes "\">")
+    ∷ value name
+    ∷ markup (codes "</a>")
+    ∷ []
+
+-- what a table ends with
+abbrev pub table_foot : List Piece
+table_foot =
+    markup (codes "</table>\n")
+    ∷ []
+
+-- what the table of halts begins with, given how many there are
+abbrev pub halts_head : (count : ℕ) → List Piece
+halts_head count =
+    markup (codes "<h2>Halts: ")
+    ∷ number count
+    ∷ markup (codes "</h2>\n<table>\n<tr><th>Level</th><th>Job</th><th>Halt</th><th>Reply</th></tr>\n")
+    ∷ []
+
+-- a halt
+abbrev pub halt_row : Halt → List Piece
+halt_row h =
+    markup (codes "<tr><td>")
+    ∷ number (level_number h.level)
+    ∷ markup (codes "</td><td>")
+    ∷ number h.job
+    ∷ markup (codes "</td><td><pre>")
+    ∷ value h.words.now
+    ∷ markup (codes "</pre></td><td>")
+    ∷ value h.reply.now
+    ∷ markup (codes "</td></tr>\n")
+    ∷ []
+
+-- what the table of changed files begins with, given how many there are
+abbrev pub files_head : (count : ℕ) → List Piece
+files_head count =
+    markup (codes "<h2>Changed files: ")
+    ∷ number count
+    ∷ markup (codes "</h2>\n<table>\n<tr><th>Region</th><th>File</th><th>Records before</th><th>Records after</th></tr>\n")
+    ∷ []
+
+-- a file that changed
+abbrev pub file_row : ChangedFile → List Piece
+file_row f =
+    markup (codes "<tr><td>")
+    ∷ value f.region.now
+    ∷ markup (codes "</td><td>")
+    ∷ value f.name.now
+    ∷ markup (codes "</td><td>")
+    ∷ count_piece f.before
+    ∷ markup (codes "</td><td>")
+    ∷ count_piece f.after
+    ∷ markup (codes "</td></tr>\n")
+    ∷ []
+
+-- what the map of the pack begins with
+abbrev pub map_head : List Piece
+map_head =
+    markup (codes "<h2>The pack</h2>\n")
+    ∷ []
+
+-- a region, up to its files
+abbrev pub region_head : (whole : ℕ) → Region → List Piece
+region_head whole r =
+    markup (codes "<h3>")
+    ∷ value r.name.now
+    ∷ markup (codes "</h3>\n<p>")
+    ∷ number r.tracks
+    ∷ markup (codes " tracks, ")
+    ∷ number r.free
+    ∷ markup (codes " free</p>\n<svg class=\"chart\" viewBox=\"0 0 1000 30\" role=\"img\" aria-label=\"Files by track\">\n<rect class=\"lane\" width=\"")
+    ∷ number (width whole r.tracks)
+    ∷ markup (codes "\" height=\"30\"/>\n")
+    ∷ []
+
+-- a file on the map
+abbrev pub extent_bar : (whole : ℕ) → Extent → List Piece
+extent_bar whole e =
+    markup (codes "<svg x=\"")
+    ∷ number (scaled whole e.before)
+    ∷ markup (codes "\" width=\"")
+    ∷ number (width whole e.tracks)
+    ∷ markup (codes "\" height=\"30\"><title>")
+    ∷ value e.name.now
+    ∷ markup (codes "</title><rect class=\"file\" width=\"1000\" height=\"30\"/><text x=\"4\" y=\"20\">")
+    ∷ value e.name.now
+    ∷ markup (codes "</text></svg>\n")
+    ∷ []
+
+-- what the table of a region begins with
+abbrev pub extents_head : List Piece
+extents_head =
+    markup (codes "</svg>\n<table>\n<tr><th>File</th><th>Tracks before it</th><th>Tracks</th><th>Records</th></tr>\n")
+    ∷ []
+
+-- a file in the table of its region
+abbrev pub extent_row : Extent → List Piece
+extent_row e =
+    markup (codes "<tr><td>")
+    ∷ value e.name.now
+    ∷ markup (codes "</td><td>")
+    ∷ number e.before
+    ∷ markup (codes "</td><td>")
+    ∷ number e.tracks
+    ∷ markup (codes "</td><td>")
+    ∷ number e.records
+    ∷ markup (codes "</td></tr>\n")
+    ∷ []
+
+-- the end of a row
+abbrev pub row_foot : List Piece
+row_foot = markup (codes "</td></tr>\n") ∷ []
+
+-- ---- sections
+
+-- the jobs on a line of time
+abbrev pub time_line : (turns : ℕ) → List Job → List ℕ
+time_line turns jobs = page_of line_head ++ flat_map (λ j. page_of (bar turns j)) jobs ++ page_of (line_foot turns)
+
+-- a link to a report, if a job printed
+abbrev pub link_of : Option (List ℕ) → List ℕ
+link_of None = []
+link_of (Some name) = page_of (report_link name)
+
+abbrev pub job_text : Job → List ℕ
+job_text j = page_of (job_row j) ++ link_of (option_map (λ name. name.now) j.file) ++ page_of row_foot
+
+-- the jobs in a table
+abbrev pub jobs_table : List Job → List ℕ
+jobs_table jobs = page_of jobs_head ++ flat_map job_text jobs ++ page_of table_foot
+
+abbrev pub halts_table : List Halt → List ℕ
+halts_table halts = page_of (halts_head (length halts)) ++ flat_map (λ h. page_of (halt_row h)) halts ++ page_of table_foot
+
+abbrev pub files_table : List ChangedFile → List ℕ
+files_table files = page_of (files_head (length files)) ++ flat_map (λ f. page_of (file_row f)) files ++ page_of table_foot
+
+-- the files of a region, to the scale of the whole, and in a table
+abbrev pub region_drawn : (whole : ℕ) → Region → List ℕ
+region_drawn whole r = page_of (region_head whole r) ++ flat_map (λ e. page_of (extent_bar whole e)) r.files.now ++ page_of extents_head
+
+abbrev pub region_table : List Extent → List ℕ
+region_table files = flat_map (λ e. page_of (extent_row e)) files ++ page_of table_foot
+
+abbrev pub region_text : (whole : ℕ) → Region → List ℕ
+region_text whole r = region_drawn whole r ++ region_table r.files.now
+
+-- the tracks of the largest region
+abbrev pub largest : List Region → ℕ
+largest [] = 0
+largest (r ∷ regions) = max r.tracks (largest regions)
+
+-- the map of the pack, all regions to one scale
+abbrev pub pack_map : List Region → List ℕ
+pack_map regions = page_of map_head ++ flat_map (λ r. region_text (largest regions) r) regions
+
+-- what happened: jobs, halts, files
+abbrev pub events : Day → List ℕ
+events day = time_line day.turns day.jobs.now ++ jobs_table day.jobs.now ++ halts_table day.halts.now ++ files_table day.files.now
+
+-- the page of a day
+abbrev pub index_page : Day → List ℕ
+index_page day = opening day.title.now ++ page_of (head day) ++ events day ++ pack_map day.regions.now ++ page_of closing

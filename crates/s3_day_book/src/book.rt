@@ -1,0 +1,268 @@
+//! The page of a day.
+
+use crate::changed::{Area, push_changes};
+use crate::map::{TRACK, places_of};
+use crate::owned::{BookHalt, BookJob, Change, DayBook, Place};
+use s3_book::{ChangedFile, Day, Extent, Halt, Job, Region, day_page};
+use s3_cards::LevelId;
+use s3_labels::{AreaSlots, Header, Slot};
+use s3_listing::{ListFault, free_room, mount_slots};
+use s3_store::Stretch;
+use std::alloc::{AllocError, Global};
+
+/// The names of the regions.
+const MASTERS: &str = "Masters";
+
+const LEVEL_ONE: &str = "Level 1";
+
+const LEVEL_TWO: &str = "Level 2";
+
+/// The page of a day, given its pack before and after. Refused where a pack can't be mounted, or memory runs out.
+pub fn page_of_day(
+    alloc: Global,
+    book: &DayBook,
+    before: &[u8],
+    after: &[u8],
+) -> Result<Vec<u8>, ListFault> {
+    let old = mount_slots(alloc, before)?;
+    let new = mount_slots(alloc, after)?;
+    let changes = changes_of(alloc, before, &old, after, &new)?;
+    let free = [
+        u64::from(free_room(alloc, after, 0)?.tracks),
+        u64::from(free_room(alloc, after, 1)?.tracks),
+        u64::from(free_room(alloc, after, 2)?.tracks),
+    ];
+    let page = page_with(alloc, book, &changes, &new, free)?;
+    Ok(page)
+}
+
+/// The files of all regions that the day changed.
+fn changes_of(
+    alloc: Global,
+    old_pack: &[u8],
+    old: &AreaSlots,
+    new_pack: &[u8],
+    new: &AreaSlots,
+) -> Result<Vec<Change>, AllocError> {
+    let mut changes = Vec::new(alloc);
+    let before = area(old.masters(), old_pack);
+    push_changes(
+        alloc,
+        &mut changes,
+        MASTERS,
+        before,
+        area(new.masters(), new_pack),
+    )?;
+    push_level(
+        alloc,
+        &mut changes,
+        LEVEL_ONE,
+        LevelId::One,
+        old_pack,
+        old,
+        new_pack,
+        new,
+    )?;
+    push_level(
+        alloc,
+        &mut changes,
+        LEVEL_TWO,
+        LevelId::Two,
+        old_pack,
+        old,
+        new_pack,
+        new,
+    )?;
+    Ok(changes)
+}
+
+/// Appends the files of a level that the day changed.
+fn push_level(
+    alloc: Global,
+    changes: &mut Vec<Change>,
+    name: &'static str,
+    level: LevelId,
+    old_pack: &[u8],
+    old: &AreaSlots,
+    new_pack: &[u8],
+    new: &AreaSlots,
+) -> Result<(), AllocError> {
+    let before = area(old.slots(level), old_pack);
+    push_changes(
+        alloc,
+        changes,
+        name,
+        before,
+        area(new.slots(level), new_pack),
+    )
+}
+
+fn area<'a>(slots: &'a [Slot], pack: &'a [u8]) -> Area<'a> {
+    Area { slots, pack }
+}
+
+/// The page, given what changed, the slots of the pack, and the free tracks of each region.
+fn page_with(
+    alloc: Global,
+    book: &DayBook,
+    changes: &[Change],
+    slots: &AreaSlots,
+    free: [u64; 3],
+) -> Result<Vec<u8>, AllocError> {
+    let header = slots.header();
+    let places0 = places_of(alloc, header.masters, slots.masters())?;
+    let places1 = places_of(alloc, header.level_one, slots.slots(LevelId::One))?;
+    let places2 = places_of(alloc, header.level_two, slots.slots(LevelId::Two))?;
+    let masters = extents_of(alloc, &places0)?;
+    let one = extents_of(alloc, &places1)?;
+    let two = extents_of(alloc, &places2)?;
+    page_lent(alloc, book, changes, &header, free, &masters, &one, &two)
+}
+
+/// The page, given the files of each region one by one.
+fn page_lent<'x>(
+    alloc: Global,
+    book: &DayBook,
+    changes: &[Change],
+    header: &Header,
+    free: [u64; 3],
+    masters: &'x [Extent<'x>],
+    one: &'x [Extent<'x>],
+    two: &'x [Extent<'x>],
+) -> Result<Vec<u8>, AllocError> {
+    let files = Files { masters, one, two };
+    page_of_files(alloc, book, changes, header, free, files)
+}
+
+/// The files of each region.
+#[derive(Clone, Copy)]
+struct Files<'a> {
+    masters: &'a [Extent<'a>],
+    one: &'a [Extent<'a>],
+    two: &'a [Extent<'a>],
+}
+
+/// The page, given what changed, and the files and the free tracks of each region.
+fn page_of_files(
+    alloc: Global,
+    book: &DayBook,
+    changes: &[Change],
+    header: &Header,
+    free: [u64; 3],
+    files: Files<'_>,
+) -> Result<Vec<u8>, AllocError> {
+    let regions = [
+        region(MASTERS, header.masters, free[0], files.masters),
+        region(LEVEL_ONE, header.level_one, free[1], files.one),
+        region(LEVEL_TWO, header.level_two, free[2], files.two),
+    ];
+    page_over(alloc, book, changes, &regions)
+}
+
+/// The page, given what changed and the regions of the pack.
+fn page_over(
+    alloc: Global,
+    book: &DayBook,
+    changes: &[Change],
+    regions: &[Region<'_>],
+) -> Result<Vec<u8>, AllocError> {
+    let jobs = jobs_of(alloc, &book.jobs)?;
+    let halts = halts_of(alloc, &book.halts)?;
+    let files = files_of(alloc, changes)?;
+    page_of(alloc, book, &jobs, &halts, &files, regions)
+}
+
+/// The page of these values.
+fn page_of<'x>(
+    alloc: Global,
+    book: &'x DayBook,
+    jobs: &'x [Job<'x>],
+    halts: &'x [Halt<'x>],
+    files: &'x [ChangedFile<'x>],
+    regions: &'x [Region<'x>],
+) -> Result<Vec<u8>, AllocError> {
+    let day = Day {
+        title: book.title.as_bytes(),
+        status: book.status.as_bytes(),
+        summary: book.summary.as_bytes(),
+        turns: book.turns,
+        jobs,
+        halts,
+        files,
+        regions,
+    };
+    day_page(alloc, &day)
+}
+
+fn region<'a>(name: &'a str, place: Stretch, free: u64, files: &'a [Extent<'a>]) -> Region<'a> {
+    Region {
+        name: name.as_bytes(),
+        tracks: u64::from(place.sectors / TRACK),
+        free,
+        files,
+    }
+}
+
+fn extents_of(alloc: Global, places: &[Place]) -> Result<Vec<Extent<'_>>, AllocError> {
+    let mut extents = Vec::new(alloc);
+    for place in places {
+        extents.push(Extent {
+            name: place.name.as_bytes(),
+            before: place.before,
+            tracks: place.tracks,
+            records: place.records,
+        })?;
+    }
+    Ok(extents)
+}
+
+fn jobs_of(alloc: Global, owned: &[BookJob]) -> Result<Vec<Job<'_>>, AllocError> {
+    let mut jobs = Vec::new(alloc);
+    for job in owned {
+        jobs.push(Job {
+            level: job.level,
+            number: job.number,
+            program: job.program.as_bytes(),
+            first: job.first,
+            last: job.last,
+            lines: job.lines,
+            ending: job.ending.as_bytes(),
+            file: name_of(&job.file),
+        })?;
+    }
+    Ok(jobs)
+}
+
+/// The bytes of a name, if there is one.
+fn name_of(name: &Option<String>) -> Option<&[u8]> {
+    match name {
+        Some(name) => Some(name.as_bytes()),
+        None => None,
+    }
+}
+
+fn halts_of(alloc: Global, owned: &[BookHalt]) -> Result<Vec<Halt<'_>>, AllocError> {
+    let mut halts = Vec::new(alloc);
+    for halt in owned {
+        halts.push(Halt {
+            level: halt.level,
+            job: halt.job,
+            words: halt.words.as_bytes(),
+            reply: halt.reply.as_bytes(),
+        })?;
+    }
+    Ok(halts)
+}
+
+fn files_of(alloc: Global, changes: &[Change]) -> Result<Vec<ChangedFile<'_>>, AllocError> {
+    let mut files = Vec::new(alloc);
+    for change in changes {
+        files.push(ChangedFile {
+            region: change.region.as_bytes(),
+            name: change.name.as_bytes(),
+            before: change.before,
+            after: change.after,
+        })?;
+    }
+    Ok(files)
+}

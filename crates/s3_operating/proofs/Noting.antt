@@ -1,0 +1,24 @@
+-- What a call notes in the log.
+use Rattle.std.proofs.Common.{◌≡◌, ℕ, List, true}
+use Rattle.std.specs.Prelude.{Option, Some, None, is_some, MatchOption, ⊤}
+use Rattle.std.specs.Io.KnownBytes.{Appends}
+use Rattle.s3_day_log.specs.Inner.Events.{Said}
+use Rattle.s3_day_log.specs.Inner.Times.{IsLineAt, IsNoted}
+
+pub after_failure : {E : Type 0} (before now : Option (List ℕ)) (failure : Option E) (said : Said) → is_some failure ≡ true → IsNoted before now (is_some failure) said
+after_failure before now None said failed = cc
+after_failure before now (Some e) said failed = tt
+
+nothing : {E : Type 0} (now : Option (List ℕ)) (failure : Option E) (said : Said) → IsNoted None now (is_some failure) said
+nothing now None said = tt
+nothing now (Some e) said = tt
+
+pub no_log : {E : Type 0} (before now : Option (List ℕ)) (failure : Option E) (said : Said) → before ≡ None → IsNoted before now (is_some failure) said
+no_log None now failure said gone = nothing now failure said
+no_log (Some bytes) now failure said gone = cc
+
+pub noted : {E : Type 0} (before now : Option (List ℕ)) (failure : Option E) (second : ℕ) (said : Said) (line : List ℕ)
+    → IsLineAt (record { second = second; said = said }) line → MatchOption failure (Appends before now line) (λ _. ⊤) → IsNoted before now (is_some failure) said
+noted before now (Some e) second said line is more = tt
+noted None now None second said line is more = tt
+noted (Some bytes) now None second said line is more = (second, line, is, more)

@@ -1,0 +1,110 @@
+-- Records of a fixed length, for other programs.
+use Rattle.std.specs.Prelude.{◌≡◌, ℕ, ◌+◌, ◌-◌, Bool, true, false, List, [], ◌∷◌, ◌++◌, map, Option, Some, None, slice_get, ⊤}
+use Rattle.std.specs.List.{flat_map, list_all}
+use Rattle.std.specs.Io.KnownBytes.{Appends}
+use Rattle.s3_cards.specs.declared.name.Name.{Name}
+use Rattle.s3_cards.specs.Codes.{shown_byte}
+use Rattle.s3_slots.specs.declared.label.FileLabel.{FileLabel}
+use Rattle.s3_cells.specs.Inner.Texts.{has_character}
+use Rattle.s3_unload.specs.Inner.Found.{IsFound}
+use Rattle.s3_unload.specs.Inner.Opened.{IsOpenRefusal}
+use Rattle.s3_unload.specs.Inner.Ordered.{in_order, ordered}
+use Rattle.s3_unload.specs.Inner.Refusals.{IsFindRefusal}
+use Rattle.s3_unload.specs.Inner.Unloads.{Refuses}
+use Rattle.s3_unload.specs.declared.found.Area.{Area}
+use Rattle.s3_unload.specs.declared.fixed.FixedForm.{FixedForm}
+use Rattle.s3_unload.specs.declared.fixed.FixedForm.TheVariants.{Ebcdic, EbcdicLines, Ascii, AsciiLines}
+use Rattle.s3_unload.specs.declared.fault.UnloadFault.{UnloadFault}
+use Rattle.s3_unload.specs.declared.fault.UnloadFault.TheVariants.{Mount, NotFound, DamagedLabel, BadIndex, OtherLength, Hidden, NoCharacter, NoMemory, File}
+
+-- ---- the forms
+-- the line feed of EBCDIC, and that of ASCII
+abbrev pub ebcdic_line_feed : ℕ
+ebcdic_line_feed = 37
+
+abbrev pub ascii_line_feed : ℕ
+ascii_line_feed = 10
+
+-- the byte after each record
+abbrev pub line_feed_of : FixedForm → Option ℕ
+line_feed_of Ebcdic = None
+line_feed_of EbcdicLines = Some ebcdic_line_feed
+line_feed_of Ascii = None
+line_feed_of AsciiLines = Some ascii_line_feed
+
+abbrev pub end_of : FixedForm → List ℕ
+end_of Ebcdic = []
+end_of EbcdicLines = ebcdic_line_feed ∷ []
+end_of Ascii = []
+end_of AsciiLines = ascii_line_feed ∷ []
+
+-- the bytes of a record without the line feed: those of the pack, or its characters
+abbrev pub coded_as : FixedForm → List ℕ → List ℕ
+coded_as Ebcdic bytes = bytes
+coded_as EbcdicLines bytes = bytes
+coded_as Ascii bytes = map shown_byte bytes
+coded_as AsciiLines bytes = map shown_byte bytes
+
+abbrev pub fixed_of : FixedForm → List ℕ → List ℕ
+fixed_of form bytes = coded_as form bytes ++ end_of form
+
+-- a record can be written so
+abbrev pub is_fixed : FixedForm → List ℕ → Bool
+is_fixed Ebcdic bytes = true
+is_fixed EbcdicLines bytes = true
+is_fixed Ascii bytes = list_all has_character bytes
+is_fixed AsciiLines bytes = list_all has_character bytes
+
+abbrev pub fixed_text : FixedForm → List (List ℕ) → List ℕ
+fixed_text form records = flat_map (fixed_of form) records
+
+-- ---- files that are written
+-- The file that stands under the label in the area was written after what the writer had: each of its records, in the order of
+-- their keys where it has an index. Each of them can be written so.
+pub record UnloadsFixed (area : Area) (name : Name) (form : FixedForm) (contents : List (List ℕ)) (old new : Option (List ℕ)) : Type 0 where
+  pub label : FileLabel
+  pub found : IsFound area name contents label
+  pub fits : list_all (is_fixed form) (ordered label contents) ≡ true
+  pub written : Appends old new (fixed_text form (ordered label contents))
+
+-- of records in the order in which they were written, number n, from 1, can't be written so
+pub record HasUnfixed (form : FixedForm) (records : List (List ℕ)) (number : ℕ) : Type 0 where
+  pub bytes : List ℕ
+  pub there : slice_get records (number - 1) ≡ Some bytes
+  pub hidden : is_fixed form bytes ≡ false
+
+-- record n, from 0, isn't written, given whether it fits: a byte has no character, or memory was refused
+abbrev pub IsUnfit : ℕ → Bool → UnloadFault → Type 0
+IsUnfit n fits (NoCharacter number position) = (number ≡ n + 1) × (fits ≡ false)
+IsUnfit n fits NoMemory = ⊤
+IsUnfit n fits (Hidden number field fault) = ⊥
+IsUnfit n fits BadIndex = ⊥
+IsUnfit n fits (Mount fault) = ⊥
+IsUnfit n fits NotFound = ⊥
+IsUnfit n fits DamagedLabel = ⊥
+IsUnfit n fits (OtherLength long) = ⊥
+IsUnfit n fits File = ⊥
+
+-- records aren't all written: a byte has no character, or memory was refused
+abbrev pub IsUnfixed : FixedForm → FileLabel → List (List ℕ) → UnloadFault → Type 0
+IsUnfixed form label contents (NoCharacter number position) = HasUnfixed form (in_order label contents) number
+IsUnfixed form label contents NoMemory = ⊤
+IsUnfixed form label contents (Hidden number field fault) = ⊥
+IsUnfixed form label contents BadIndex = ⊥
+IsUnfixed form label contents (Mount fault) = ⊥
+IsUnfixed form label contents NotFound = ⊥
+IsUnfixed form label contents DamagedLabel = ⊥
+IsUnfixed form label contents (OtherLength long) = ⊥
+IsUnfixed form label contents File = ⊥
+
+-- the file isn't written: by the pack alone, or for want of memory, or since the writer failed
+abbrev pub IsFixedRefusal : Area → Name → FixedForm → List (List ℕ) → UnloadFault → Type 0
+IsFixedRefusal area name form contents (Mount fault) = IsFindRefusal area name contents (Mount fault)
+IsFixedRefusal area name form contents NotFound = IsFindRefusal area name contents NotFound
+IsFixedRefusal area name form contents DamagedLabel = IsFindRefusal area name contents DamagedLabel
+IsFixedRefusal area name form contents BadIndex = Refuses area name contents (λ label. IsOpenRefusal label contents BadIndex)
+IsFixedRefusal area name form contents (NoCharacter number position) = Refuses area name contents (λ label. HasUnfixed form (in_order label contents) number)
+IsFixedRefusal area name form contents (OtherLength long) = ⊥
+IsFixedRefusal area name form contents (Hidden number field fault) = ⊥
+IsFixedRefusal area name form contents NoMemory = ⊤
+IsFixedRefusal area name form contents File = ⊤
