@@ -66,18 +66,16 @@ def run(command, given, folder=None):
 
 
 def timed(command, given, folder=None):
-    """The seconds of a run, and the most memory that it had, in megabytes."""
+    """The seconds of a run."""
     with tempfile.TemporaryFile("w+") as source:
         source.write(given)
         source.seek(0)
         start = time.monotonic()
-        process = subprocess.Popen(command, stdin=source, stdout=subprocess.DEVNULL, stderr=subprocess.DEVNULL, cwd=folder)
-        _, status, used = os.wait4(process.pid, 0)
+        status = subprocess.run(command, stdin=source, stdout=subprocess.DEVNULL, stderr=subprocess.DEVNULL, cwd=folder).returncode
         seconds = time.monotonic() - start
-        process.returncode = os.waitstatus_to_exitcode(status)
-    if process.returncode != 0:
-        sys.exit("bench: %s: status %d" % (command[0], process.returncode))
-    return seconds, used.ru_maxrss / 1024
+    if status != 0:
+        sys.exit("bench: %s: status %d" % (command[0], status))
+    return seconds
 
 
 def instructions(command, given, folder=None):
@@ -200,7 +198,7 @@ class Work(NamedTuple):
             return instructions_for(self.report, "GnuCOBOL", [program], self.cards, folder)
 
     def tell_times(self, rounds, exe, in_rust, in_cobol, loader, folder):
-        """Runs the programs by turns, and prints of each the median of its times, and the most memory that it had."""
+        """Runs the programs by turns, and prints of each the median of its times."""
         runs = {"bureau": [], "plain Rust": [], "GnuCOBOL": []}
         for _ in range(rounds):
             runs["bureau"].append(timed(self.bureau_command(exe), self.session, folder))
@@ -208,12 +206,11 @@ class Work(NamedTuple):
             if in_cobol:
                 with self.folder_for_cobol(loader) as own:
                     runs["GnuCOBOL"].append(timed([in_cobol], self.cards, own))
-        whole = statistics.median(seconds for seconds, _ in runs["bureau"])
+        whole = statistics.median(runs["bureau"])
         for name, found in runs.items():
             if found:
-                median = statistics.median(seconds for seconds, _ in found)
-                print("%s: %.1f milliseconds, of which bureau takes %.2f times as many; at most %.1f MB" % (
-                    name, 1000 * median, whole / median, max(memory for _, memory in found)), flush=True)
+                median = statistics.median(found)
+                print("%s: %.1f milliseconds; bureau takes %.2f times as many" % (name, 1000 * median, whole / median), flush=True)
 
 
 def arguments(what, size):
@@ -234,7 +231,7 @@ def compared(here, what, size, made, each, bounds):
     program and of plain Rust, except for the spool's blocks. The status is 1 if they aren't, or if a limit is passed: those of
     `bounds`, and 2.1 times the instructions for twice the work. Without `cobc` the status is 3 if all else is as wanted.
 
-    `--times N` also runs each program N times, by turns, and prints times and memory."""
+    `--times N` also runs each program N times, by turns, and prints the times."""
     options = arguments(what, size)
     exe = os.path.abspath(options.exe)
     rust, cobol, bureau = Counted("plain Rust", []), Counted("GnuCOBOL", []), Counted("bureau", [])
