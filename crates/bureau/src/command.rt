@@ -58,13 +58,21 @@ pub fn execute(rt: &HostRuntime) -> u8
     if is_manual(&words) {
         return print_manual(rt, &words);
     }
-    let command = match command(alloc) {
+    let command = match command(alloc, first_of(&words)) {
         Ok(command) => command,
         Err(_) => return refuse(rt, &OUT_OF_MEMORY),
     };
     match command.try_get_matches_from(words.as_slice()) {
         Ok(matches) => perform(rt, &matches, &words),
         Err(error) => explain(rt, &error, &words),
+    }
+}
+
+/// The first argument, if there is one: the name of a command, or an option of the program.
+fn first_of(words: &[String]) -> &str {
+    match words.get(1) {
+        Some(word) => word.as_str(),
+        None => "",
     }
 }
 

@@ -11,6 +11,8 @@ pub struct Job<'a> {
     pub number: u64,
     /// Its program.
     pub program: &'a [u8],
+    /// Whether it is a compile job or a run job, in words.
+    pub kind: &'a [u8],
     /// How many turns both levels had taken when it began.
     pub first: u64,
     /// How many turns both levels had taken when it was over.
@@ -80,6 +82,8 @@ pub struct Region<'a> {
 pub struct Day<'a> {
     /// The title.
     pub title: &'a [u8],
+    /// What the day was begun with: the pack, the decks and the dates of their jobs, a line each.
+    pub given: &'a [u8],
     /// What became of the day.
     pub status: &'a [u8],
     /// The summary of both levels.

@@ -205,7 +205,7 @@ fn put_extent_rows(text: &mut Vec<u8>, files: &[Extent<'_>]) -> Result<(), Alloc
     Ok(())
 }
 
-/// Appends the title, the status and the summary.
+/// Appends the title, what the day was begun with, the status and the summary.
 fn put_head(text: &mut Vec<u8>, day: &Day<'_>) -> Result<(), AllocError>
     ensures { OnOk result (text.new.items ≡ text.old.items ++ page_of (head day.now)) }
 {
@@ -214,7 +214,9 @@ fn put_head(text: &mut Vec<u8>, day: &Day<'_>) -> Result<(), AllocError>
         &[
             Part::Markup(b"<h1>"),
             Part::Value(day.title),
-            Part::Markup(b"</h1>\n<p><strong>"),
+            Part::Markup(b"</h1>\n<pre>"),
+            Part::Value(day.given),
+            Part::Markup(b"</pre>\n<p><strong>"),
             Part::Value(day.status),
             Part::Markup(b"</strong></p>\n<pre>"),
             Part::Value(day.summary),
@@ -254,6 +256,8 @@ fn put_bar(text: &mut Vec<u8>, turns: u64, job: &Job<'_>) -> Result<(), AllocErr
             Part::Number(job.number),
             Part::Markup(b", "),
             Part::Value(job.program),
+            Part::Markup(b", "),
+            Part::Value(job.kind),
             Part::Markup(b", from turn "),
             Part::Number(job.first),
             Part::Markup(b" to "),
@@ -290,7 +294,7 @@ fn put_jobs_head(text: &mut Vec<u8>) -> Result<(), AllocError>
     put(
         text,
         &[Part::Markup(
-            b"<table>\n<tr><th>Level</th><th>Job</th><th>Program</th><th>From turn</th><th>To turn</th><th>Lines</th><th>End</th><th>Report</th></tr>\n",
+            b"<table>\n<tr><th>Level</th><th>Job</th><th>Program</th><th>Kind</th><th>From turn</th><th>To turn</th><th>Lines</th><th>End</th><th>Report</th></tr>\n",
         )],
     )
 }
@@ -308,6 +312,8 @@ fn put_job_row(text: &mut Vec<u8>, job: &Job<'_>) -> Result<(), AllocError>
             Part::Number(job.number),
             Part::Markup(b"</td><td>"),
             Part::Value(job.program),
+            Part::Markup(b"</td><td>"),
+            Part::Value(job.kind),
             Part::Markup(b"</td><td>"),
             Part::Number(job.first),
             Part::Markup(b"</td><td>"),

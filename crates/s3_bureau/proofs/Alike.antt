@@ -31,7 +31,8 @@ use Rattle.s3_solo.specs.World.{World, at_start}
 use Rattle.s3_bureau.specs.Entries.{own}
 use Rattle.s3_bureau.specs.Runs.{HasFiles, HasSlots, LeavesSo, RunTexts, cards_of, entries_texts, level_texts, outcome_texts, refusal_of, run_alone, texts_after, texts_of, texts_over}
 use Rattle.s3_bureau.specs.Inner.CompletedRuns.{CompletedRun, WasUntangled, area_left, contents_after, contents_before, deck_at, masters_left, texts_at, world_at}
-use Rattle.s3_bureau.specs.Inner.Confidentiality.{AlikeMeansSame, AreAlike, BringsSame, GetsSame, MeansSame, NoLevelLearns}
+use Rattle.s3_bureau.specs.Inner.Confidentiality.{AlikeHaveSameSpace, AlikeMeansSame, AreAlike, BringsSame, GetsSame, MeansSame, NoLevelLearns, RunsLeaveSameSpace, free_in, own_area}
+use Rattle.s3_bureau.proofs.Spaces.{free_inside}
 
 -- ---- an area
 -- two packs with the same slots keep the same in an area where the files that stand are the same
@@ -72,7 +73,7 @@ same_left format other_format region area one two slots kept first second by_one
 
 -- ---- packs that are alike for a level
 module _ (level : LevelId) (header other_header : Header) (contents other_contents : List (List ℕ)) (alike : AreAlike level header other_header contents other_contents) where
-  own_alike : area_on other_header.format (region_of level other_header) (area_of level) other_contents ≡ area_on header.format (region_of level header) (area_of level) contents
+  pub own_alike : area_on other_header.format (region_of level other_header) (area_of level) other_contents ≡ area_on header.format (region_of level header) (area_of level) contents
   own_alike =
       ap (λ (f : Format). area_on f (region_of level other_header) (area_of level) other_contents) alike.format
       ∙ ap (λ (r : Stretch). area_on header.format r (area_of level) other_contents) alike.region
@@ -190,3 +191,13 @@ module _ (level : LevelId) (run other_run : CompletedRun) (brings : BringsSame l
 
 pub no_level_learns : NoLevelLearns
 no_level_learns = gets_same
+
+-- ---- free space
+pub same_space : AlikeHaveSameSpace
+same_space level header other_header contents other_contents alike = record {
+  extents = ap free_in (own_alike level header other_header contents other_contents alike);
+  sectors = λ n is. alike.sectors n (inl (inr (free_inside (region_of level header) (own_area level header contents).slots n is)));
+}
+
+pub same_space_left : RunsLeaveSameSpace
+same_space_left level run other_run brings was = ap free_in ((no_level_learns level run other_run brings).own_area was)

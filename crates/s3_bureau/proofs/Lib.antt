@@ -14,6 +14,7 @@ pub mod OtherLevel
 pub mod Performing
 pub mod Running
 pub mod Scripts
+pub mod Spaces
 pub mod MigratedTexts
 pub mod Queued
 pub mod MigratedRecords

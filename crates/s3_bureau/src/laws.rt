@@ -17,7 +17,7 @@ ghost use Rattle.s3_bureau.specs.Runs.{cards_of, level_texts, run_alone, run_tex
 ghost use Rattle.s3_bureau.specs.Script.{entries_of};
 ghost use Rattle.s3_bureau.specs.Texts.{report_of, halt_text_of};
 ghost use Rattle.s3_bureau.specs.Inner.Agreement.{AgreesAfter};
-ghost use Rattle.s3_bureau.specs.Inner.Confidentiality.{AlikeMeansSame, NoLevelLearns};
+ghost use Rattle.s3_bureau.specs.Inner.Confidentiality.{AlikeHaveSameSpace, AlikeMeansSame, NoLevelLearns, RunsLeaveSameSpace};
 ghost use Rattle.s3_bureau.specs.Inner.MigratedRuns.{MigratedIsUntangled, MigratedRunsKeepRecords};
 ghost use Rattle.s3_bureau.specs.Inner.Samples.{turn, drain, reply, printed, shown};
 ghost use Rattle.s3_bureau.specs.Inner.Steps.{EachTakesItsOwn, Stepped};
@@ -78,6 +78,13 @@ pub fn a_step_is_one_of_any<S: PackStore>(bureau: &mut Bureau<S>, entry: Entry) 
 pub fn no_level_learns_of_the_other()
     ensures meaning { AlikeMeansSame }
     ensures runs { NoLevelLearns }
+{}
+
+/// The free space of a level is the same over two packs that are alike in what it can read: the same extents, with the same bytes. Two
+/// runs over them leave it the same free extents, if no slot of it was overlapping or duplicate.
+pub fn free_space_is_the_same()
+    ensures before { AlikeHaveSameSpace }
+    ensures after { RunsLeaveSameSpace }
 {}
 
 /// A run over a migrated pack leaves each level's world as the same run over the old one, except for the format, and gives the

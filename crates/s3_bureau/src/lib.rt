@@ -36,8 +36,9 @@
 //! without an entry as they were; a mount of it has the same header and masters, judges each slot of a level as its world has it,
 //! and none overlapping or duplicate, if none was before, and finds the records of each file of each level's world under the label that the
 //! world has for it (specs/Runs.antt). Two packs that are alike in what a level can read give it the same texts and files, whatever
-//! else they have and whatever the other level does (`no_level_learns_of_the_other`). A run over a migrated pack gives the same
-//! texts and leaves the same records, unless a halt `NS` is shown over the old one (`a_migrated_pack_gives_the_same_texts`,
+//! else they have and whatever the other level does (`no_level_learns_of_the_other`). Its free space is the same over both, and both
+//! runs leave it the same free extents (`free_space_is_the_same`). A run over a migrated pack gives the same texts and leaves the
+//! same records, unless a halt `NS` is shown over the old one (`a_migrated_pack_gives_the_same_texts`,
 //! `a_migrated_pack_keeps_the_records`). Worked scripts and texts are computed (`scripts_are_read`, `reports_are_written`,
 //! `halt_texts_are_written`).
 //!
@@ -62,8 +63,9 @@ pub use bureau::Bureau;
 pub use entry::Entry;
 pub use laws::{
     a_migrated_pack_gives_the_same_texts, a_migrated_pack_keeps_the_records, a_step_is_one_of_any,
-    each_level_takes_its_own_entries, halt_texts_are_written, no_level_learns_of_the_other,
-    other_entries_make_no_difference, reports_are_written, scripts_are_read,
+    each_level_takes_its_own_entries, free_space_is_the_same, halt_texts_are_written,
+    no_level_learns_of_the_other, other_entries_make_no_difference, reports_are_written,
+    scripts_are_read,
 };
 pub use outcome::{LevelLines, LevelTexts, Outcome, RunLines};
 pub use report::{REPORT_ROOM, ReportTables};

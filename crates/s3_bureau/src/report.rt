@@ -131,6 +131,7 @@ fn lay_codes(room: &mut [u8; REPORT_ROOM], at: usize, shown: &[u16], codes: &[u8
 }
 
 /// Lays out the characters of codes, two at a time.
+#[inline(always)]
 fn lay_pairs(room: &mut [u8; REPORT_ROOM], at: usize, shown: &[u16], codes: &[u8]) -> usize
     requires shown { ShowsPairs shown.now }
     requires all { length shown.now ≡ 65536 }
@@ -209,6 +210,7 @@ fn lay_number(room: &mut [u8; REPORT_ROOM], at: usize, number: u16, width: usize
 }
 
 /// A page of at most four digits and a line of at most two, with a blank after each.
+#[inline(always)]
 fn place_in_eight(tables: &ReportTables, page: u16, line: u8) -> [u8; 8]
     requires tables { AreTables tables.now }
     requires page { page < 10000 }

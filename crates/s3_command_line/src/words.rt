@@ -568,9 +568,10 @@ const MIGRATE: CommandWords = CommandWords {
 const AFTER_HELP: &str =
     "bureau help man prints the manual, and bureau help completions SHELL the completions of bash, zsh or fish.";
 
-/// The command line of the program. It is refused only if memory runs out.
-pub fn command<'a>(alloc: Global) -> Result<Command<'a>, AllocError> {
-    let commands = parsers(alloc)?;
+/// The command line of the program, for arguments of which the first is `named`. If that is a command, the other commands have no
+/// options here, which makes the program start sooner. It is refused only if memory runs out.
+pub fn command<'a>(alloc: Global, named: &str) -> Result<Command<'a>, AllocError> {
+    let commands = parsers(alloc, named)?;
     Command::new(alloc, "bureau")
         .about(ABOUT)
         .after_help(AFTER_HELP)
@@ -580,11 +581,17 @@ pub fn command<'a>(alloc: Global) -> Result<Command<'a>, AllocError> {
         .subcommands(commands)
 }
 
-/// The parsers of all commands.
-fn parsers<'a>(alloc: Global) -> Result<Vec<Command<'a>>, AllocError> {
+/// The parsers of all commands, with options for the one that is named, or for all if none is.
+fn parsers<'a>(alloc: Global, named: &str) -> Result<Vec<Command<'a>>, AllocError> {
+    let commands = commands();
+    let is_command = commands.iter().any(|known| known.name == named);
     let mut parsers = Vec::new(alloc);
-    for command in &commands() {
-        parsers.push(command.parser(alloc)?)?;
+    for command in &commands {
+        parsers.push(if is_command && command.name != named {
+            command.parser_without_options(alloc)
+        } else {
+            command.parser(alloc)?
+        })?;
     }
     Ok(parsers)
 }

@@ -5,7 +5,7 @@ use crate::filled::push_shown_name;
 use s3_host_files::{FileFault, Hindrance, StandardStream};
 use s3_journal_files::JournalRefusal;
 use s3_paper_commands::status::{FILE_FAILED, PERSON_NEEDED, REFUSED, WRONG_WORDS};
-use s3_refusals::Shown;
+use s3_refusals::{Reason, Shown, call_words};
 use std::alloc::{AllocError, AllocFailed, Global};
 use std::io;
 use std::io::{ErrorKind, Write};
@@ -85,7 +85,7 @@ pub fn of_call(rt: &HostRuntime, used: Use, error: &io::Error, path: &str) -> Fa
     }
 }
 
-/// Appends why a call on a file failed, by the system, and what helps.
+/// Appends why a call on a file failed, and what helps: in the words that all commands have for it, else by the system.
 fn push_call(
     text: &mut String,
     used: Use,
@@ -97,36 +97,22 @@ fn push_call(
         Use::Reads => " can't be read: ",
         Use::Saves => " can't be saved: ",
     })?;
-    write!(text, "{error}")?;
-    text.push_str(match used {
-        Use::Reads => read_cure(error.kind()),
-        Use::Saves => save_cure(error.kind()),
-    })
-}
-
-/// The cure if a file can't be read.
-fn read_cure(kind: ErrorKind) -> &'static str {
-    match kind {
-        ErrorKind::NotFound | ErrorKind::NotADirectory =>
-            "; name a file that is there, `ls` shows which",
-        ErrorKind::PermissionDenied => "; have its owner let you read it, as by `chmod`",
-        ErrorKind::IsADirectory => "; name a file in it",
-        ErrorKind::FileTooLarge => "; a deck has at most 4,194,304 bytes: take the source alone",
-        _ => "; see whether its disk is at work, or take a copy",
+    let reason = Reason(*error);
+    write!(text, "{reason}")?;
+    if call_words(error.kind()).is_empty() {
+        text.push_str(cure_of(used, error.kind()))?;
     }
+    Ok(())
 }
 
-/// The cure if a file can't be saved.
-fn save_cure(kind: ErrorKind) -> &'static str {
-    match kind {
-        ErrorKind::NotFound | ErrorKind::NotADirectory =>
-            "; make its folder first, or save elsewhere",
-        ErrorKind::PermissionDenied | ErrorKind::ReadOnlyFilesystem =>
-            "; have the folder's owner let you write there, as by `chmod`, or save elsewhere",
-        ErrorKind::IsADirectory => "; name a file in it",
-        ErrorKind::StorageFull | ErrorKind::QuotaExceeded =>
-            "; make space on its disk, or save elsewhere",
-        _ => "; see whether its disk is at work, or save elsewhere",
+/// The cure of a failed call, if the system has the reason.
+fn cure_of(used: Use, kind: ErrorKind) -> &'static str {
+    match (used, kind) {
+        (Use::Reads, ErrorKind::FileTooLarge) => {
+            "; a deck has at most 4,194,304 bytes: take the source alone"
+        }
+        (Use::Reads, _) => "; see whether its disk is at work, or take a copy",
+        (Use::Saves, _) => "; see whether its disk is at work, or save elsewhere",
     }
 }
 
@@ -163,10 +149,16 @@ pub fn of_pack(rt: &HostRuntime, used: Use, fault: &FileFault, path: &str) -> Fa
         FileFault::Stream(StandardStream::Error) => Fault::StandardError,
         FileFault::Stream(stream) => refused_or_memory(is_stream(rt.alloc(), *stream, path)),
         FileFault::Talk(stream) => refused_or_memory(is_talk(rt.alloc(), *stream, path)),
-        FileFault::Unsynced(error) => file_or_memory(format!(in rt.alloc();
-            "the pack is saved in {shown}, but may not survive a power cut, because its folder can't be brought to the disk: {error}"
-        )),
+        FileFault::Unsynced(error) => file_or_memory(unsynced(rt.alloc(), error, path)),
     }
+}
+
+/// The sentence about a pack whose folder can't be brought to the disk.
+fn unsynced(alloc: Global, error: &io::Error, path: &str) -> Result<String, AllocError> {
+    let (shown, reason) = (Shown(path), Reason(*error));
+    format!(in alloc;
+        "the pack is saved in {shown}, but may not survive a power cut, because its folder can't be brought to the disk: {reason}"
+    )
 }
 
 /// Why a file isn't replaced by a pack.

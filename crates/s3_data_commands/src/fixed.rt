@@ -10,6 +10,7 @@ use s3_layout::SourceLayout;
 use s3_load::{LoadFault, Reason, ValueFault};
 use s3_paper_commands::words::{Choice, Takes, Word};
 use s3_record_types::ChosenRecords;
+use s3_refusals::{Shown, wide_text};
 use s3_unload::{FixedForm, UnloadFault};
 use std::alloc::{AllocError, Global};
 
@@ -38,7 +39,7 @@ pub const LINE_FEEDS: Word = Word {
 /// The record length if no layout is given.
 pub const RECORD_LENGTH: Word = Word {
     name: "record-length",
-    takes: Takes::Number("N", 1, 1_024),
+    takes: Takes::Value("N"),
     help: "The record length in place of a layout, 1 to 1024: a file without a key; needs --as ebcdic or ascii",
 };
 
@@ -58,12 +59,12 @@ pub fn fixed_form(rt: &HostRuntime, matches: &ArgMatches<'_>) -> Result<Option<F
     }
 }
 
-/// Refuses options about the cells and the types of a table.
+/// Refuses options about the cells of a table.
 pub fn refuse_cells(rt: &HostRuntime, matches: &ArgMatches<'_>) -> Result<(), Fault> {
-    if has_cells(matches) || matches.get_str("type").is_some() {
+    if has_cells(matches) {
         return Err(wrong_words(
             rt.alloc(),
-            "--type and the options for cells are for tables, and ebcdic and ascii have none; leave them out, or give a layout and --as csv",
+            "--delimiter, --safe-cells, --decimal and --date-fields are for tables, and ebcdic and ascii have no cells; leave them out, or give a layout and --as csv",
         ));
     }
     Ok(())
@@ -77,7 +78,7 @@ fn has_cells(matches: &ArgMatches<'_>) -> bool {
         || matches.get_str("delimiter").is_some()
 }
 
-/// Refuses options about the cells of a table that only `load` has.
+/// Refuses options about the cells of a table that only `load` has, and the type whose codes it puts into rows.
 pub fn refuse_loaded_cells(rt: &HostRuntime, matches: &ArgMatches<'_>) -> Result<(), Fault> {
     if matches.get_flag("fill")
         || matches.get_flag("capitals")
@@ -88,26 +89,49 @@ pub fn refuse_loaded_cells(rt: &HostRuntime, matches: &ArgMatches<'_>) -> Result
             "--fill, --capitals and --thousands are for tables, and ebcdic and ascii have none; leave them out, or load a table",
         ));
     }
+    if matches.get_str("type").is_some() {
+        return Err(wrong_words(
+            rt.alloc(),
+            "--type puts the codes of a type into the rows of a table, and records in ebcdic and ascii have their own; leave it out: a layout may have several types",
+        ));
+    }
     refuse_cells(rt, matches)
 }
 
 /// The layout of records of the length that the options give, without fields and without a key.
 pub fn layout_of_length(rt: &HostRuntime, matches: &ArgMatches<'_>) -> Result<SourceLayout, Fault> {
-    match matches.get_one::<u16>("record-length") {
-        Some(record_length) if 1 <= record_length && record_length <= LONGEST_RECORD => {
-            Ok(SourceLayout {
-                layout: Layout {
-                    record_length,
-                    fields: Vec::new(rt.alloc()),
-                },
-                key: None,
-                records: ChosenRecords::All,
-            })
-        }
-        _ => Err(wrong_words(
+    let Some(text) = matches.get_str("record-length") else {
+        return Err(wrong_words(
             rt.alloc(),
             "load needs a layout; name a deck with the source by --layout, or with --as ebcdic or --as ascii give --record-length",
-        )),
+        ));
+    };
+    Ok(SourceLayout {
+        layout: Layout {
+            record_length: length_in(rt, text)?,
+            fields: Vec::new(rt.alloc()),
+        },
+        key: None,
+        records: ChosenRecords::All,
+    })
+}
+
+/// The record length that a text gives.
+fn length_in(rt: &HostRuntime, text: &str) -> Result<u16, Fault> {
+    match text.parse::<u16>() {
+        Ok(length) if 1 <= length && length <= LONGEST_RECORD => Ok(length),
+        _ => Err(no_length(rt.alloc(), text)),
+    }
+}
+
+/// The refusal of a text that is no record length.
+fn no_length(alloc: Global, text: &str) -> Fault {
+    let text = Shown(text);
+    match format!(in alloc;
+        "--record-length {text} is no record length; give the bytes of a record, a number from 1 to 1024"
+    ) {
+        Ok(sentence) => Fault::Usage(sentence),
+        Err(_) => Fault::NoMemory,
     }
 }
 
@@ -117,9 +141,10 @@ pub fn test_length(
     matches: &ArgMatches<'_>,
     form: Option<FixedForm>,
 ) -> Result<(), Fault> {
-    if matches.get_one::<u16>("record-length").is_none() {
+    let Some(text) = matches.get_str("record-length") else {
         return Ok(());
-    }
+    };
+    length_in(rt, text)?;
     if form.is_none() {
         return Err(wrong_words(
             rt.alloc(),
@@ -133,6 +158,54 @@ pub fn test_length(
         ));
     }
     Ok(())
+}
+
+/// Whether records in a form are characters of ASCII.
+pub fn is_ascii(form: FixedForm) -> bool {
+    match form {
+        FixedForm::Ascii | FixedForm::AsciiLines => true,
+        FixedForm::Ebcdic | FixedForm::EbcdicLines => false,
+    }
+}
+
+/// Why records have no characters of ASCII, by the bytes with which they begin, and what helps; `None` for other records.
+pub fn beginning_sentence(alloc: Global, records: &[u8]) -> Result<Option<String>, AllocError> {
+    if records.starts_with(&[0xef, 0xbb, 0xbf]) {
+        return Ok(Some(String::from_str(
+            alloc,
+            "the records begin with a byte order mark (EF BB BF), which is no part of them; leave it out, as by `tail -c +4 FILE`",
+        )?));
+    }
+    match wide_text(records) {
+        None => Ok(None),
+        Some(wide) => {
+            let family = wide.family();
+            // by the name of its family, `iconv` leaves the mark out
+            let name = if has_wide_mark(records) {
+                family
+            } else {
+                wide.name()
+            };
+            Ok(Some(format!(in alloc;
+                "the records are in {family}; convert them by `iconv -f {name} -t UTF-8 FILE > NEW`"
+            )?))
+        }
+    }
+}
+
+/// Whether a text in UTF-16 or UTF-32 begins with a byte order mark.
+fn has_wide_mark(text: &[u8]) -> bool {
+    text.starts_with(&[0xff, 0xfe])
+        || text.starts_with(&[0xfe, 0xff])
+        || text.starts_with(&[0, 0, 0xfe, 0xff])
+}
+
+/// What helps if there is no record at all, which would empty the file.
+pub fn no_records_sentence(alloc: Global) -> Result<String, AllocError> {
+    String::from_str(
+        alloc,
+        "there is no record; give the records by < FILE or by a pipe; a table with a heading alone makes an empty file",
+    )
 }
 
 /// Why a record has no characters, in which it was to be written.
@@ -186,14 +259,23 @@ fn count_of(fault: &LoadFault) -> u64 {
     }
 }
 
-/// What is wrong with a record.
-pub fn record_sentence(alloc: Global, fault: &ValueFault) -> Result<String, AllocError> {
+/// What is wrong with a record in a form.
+pub fn record_sentence(
+    alloc: Global,
+    form: FixedForm,
+    fault: &ValueFault,
+) -> Result<String, AllocError> {
     let mut text = String::new(alloc);
-    push_record(&mut text, fault.line, &fault.reason)?;
+    push_record(&mut text, form, fault.line, &fault.reason)?;
     Ok(text)
 }
 
-fn push_record(text: &mut String, number: u64, reason: &Reason) -> Result<(), AllocError> {
+fn push_record(
+    text: &mut String,
+    form: FixedForm,
+    number: u64,
+    reason: &Reason,
+) -> Result<(), AllocError> {
     write!(text, "record {number}")?;
     match reason {
         Reason::SameKey(other, key) => push_same_key(text, *other, key),
@@ -202,7 +284,7 @@ fn push_record(text: &mut String, number: u64, reason: &Reason) -> Result<(), Al
             push_key(text, key)?;
             text.push_str(" already; leave the record out")
         }
-        _ => push_fixed(text, reason),
+        _ => push_fixed(text, form, reason),
     }
 }
 
@@ -216,12 +298,12 @@ fn push_same_key(text: &mut String, other: u64, key: &[u8]) -> Result<(), AllocE
 }
 
 /// Appends what is wrong with the bytes of a record, after its number.
-pub fn push_fixed(text: &mut String, reason: &Reason) -> Result<(), AllocError> {
+fn push_fixed(text: &mut String, form: FixedForm, reason: &Reason) -> Result<(), AllocError> {
     match reason {
-        Reason::Short(length, wanted) => push_short(text, *length, *wanted),
+        Reason::Short(length, wanted) => push_short(text, form, *length, *wanted),
         Reason::Long(length, wanted) => write!(
             text,
-            ": the line has {length} characters, and a record has {wanted}; shorten the line"
+            ": the line has {length} characters, and a record has {wanted}; give the right record length, or shorten the line"
         ),
         Reason::NoLineFeed(wanted, byte) => write!(
             text,
@@ -232,12 +314,21 @@ pub fn push_fixed(text: &mut String, reason: &Reason) -> Result<(), AllocError> 
     }
 }
 
-fn push_short(text: &mut String, length: usize, wanted: usize) -> Result<(), AllocError> {
+fn push_short(
+    text: &mut String,
+    form: FixedForm,
+    length: usize,
+    wanted: usize,
+) -> Result<(), AllocError> {
     let bytes = if length == 1 { "byte" } else { "bytes" };
     write!(
         text,
-        ": the input ends after {length} {bytes} of its {wanted}; give the right record length, or --line-feeds if the records are lines"
-    )
+        ": the input ends after {length} {bytes} of its {wanted}; give the right record length, or "
+    )?;
+    text.push_str(match form {
+        FixedForm::EbcdicLines | FixedForm::AsciiLines => "the rest of the record",
+        FixedForm::Ebcdic | FixedForm::Ascii => "--line-feeds if the records are lines",
+    })
 }
 
 /// Appends that a byte is no character of a card, and what mends it.

@@ -1,4 +1,4 @@
-//! What the options of `unload` and `load` give: layouts and delimiters.
+//! What options give: layouts and delimiters.
 ghost use Rattle.std.specs.Prelude.{◌≤◌, length, IfOk, IfSome};
 
 use crate::fault::{Fault, Use, of_call, of_pack};
@@ -11,7 +11,7 @@ use s3_cards::ebcdic::{AMPERSAND, ASTERISK, SLASH};
 use s3_cards::{Card, CardFault, Deck, DeckFault, Name};
 use s3_decks::{CardRange, DeckText, Statements, encoding_of, jobs_of};
 use s3_host_files::{keep_apart, read_within};
-use s3_layout::{Choice, LayoutFault, SourceLayout, read_layout};
+use s3_layout::{Choice, LayoutFault, SourceLayout, read_layout, read_types, read_whole};
 use s3_lines::indicator::Indicator;
 use s3_paper_commands::{is_plain_text, tell_punched};
 use s3_punch::{Begun, Part, Punched, punch};
@@ -41,11 +41,131 @@ pub fn layout_of(
     matches: &ArgMatches<'_>,
     path: &str,
 ) -> Result<SourceLayout, Fault> {
+    source_layout(rt, matches, path, false)
+}
+
+/// The length, the key and the type of the whole records that the options name, by the source in the deck at a path. The source may have
+/// several types, and needs no fields.
+pub fn whole_records_of(
+    rt: &HostRuntime,
+    matches: &ArgMatches<'_>,
+    path: &str,
+) -> Result<SourceLayout, Fault> {
+    source_layout(rt, matches, path, true)
+}
+
+/// The layout of the source in the deck at a path, with fields or for whole records.
+fn source_layout(
+    rt: &HostRuntime,
+    matches: &ArgMatches<'_>,
+    path: &str,
+    is_whole: bool,
+) -> Result<SourceLayout, Fault> {
     let choice = choice_of(rt, matches)?;
     let text = text_at(rt, path)?;
     let deck = deck_of(rt, &text)?;
-    match source_of(rt, &deck)? {
-        Some(source) => layout_in(rt, path, &text, &deck, source, choice),
+    let source = source_in(rt, path, &deck)?;
+    match layout_in(rt, &deck, source, choice, is_whole) {
+        Ok(layout) => Ok(layout),
+        Err(fault) => Err(layout_fault(rt, path, &text, &deck, source, &fault)),
+    }
+}
+
+/// The layout of a source in a deck, with fields or for whole records.
+fn layout_in(
+    rt: &HostRuntime,
+    deck: &Deck,
+    source: CardRange,
+    choice: Choice,
+    is_whole: bool,
+) -> Result<SourceLayout, LayoutFault>
+    requires order { source.from ≤ source.to }
+    requires within { source.to ≤ length deck.now }
+{
+    if is_whole {
+        read_whole(rt.alloc(), deck, source.from, source.to, choice)
+    } else {
+        read_layout(rt.alloc(), deck, source.from, source.to, choice)
+    }
+}
+
+/// The layouts of a file's records, one for each record type that has fields: of the source in the deck at a path, the file on disk
+/// that has the file's label as its name, or else the only one.
+pub fn layouts_of(
+    rt: &HostRuntime,
+    path: &str,
+    label: &str,
+    name: Name,
+) -> Result<Vec<SourceLayout>, Fault> {
+    let text = text_at(rt, path)?;
+    let deck = deck_of(rt, &text)?;
+    let source = source_in(rt, path, &deck)?;
+    match layouts_in(rt, &deck, source, name) {
+        Ok(layouts) => Ok(layouts),
+        Err(LayoutFault::SeveralFiles) => Err(refused(Words::of_file(path, 0, label).fill(
+            rt.alloc(),
+            "the first source in {path} has several files on DISK, and none is {label}; give a source whose F sheet has that name, or one file alone",
+        ))),
+        Err(fault) => Err(layout_fault(rt, path, &text, &deck, source, &fault)),
+    }
+}
+
+/// The layouts of the record types that have fields.
+fn layouts_in(
+    rt: &HostRuntime,
+    deck: &Deck,
+    source: CardRange,
+    name: Name,
+) -> Result<Vec<SourceLayout>, LayoutFault>
+    requires order { source.from ≤ source.to }
+    requires within { source.to ≤ length deck.now }
+{
+    let (file, types) = file_and_types(rt, deck, source, name)?;
+    let mut layouts = Vec::new(rt.alloc());
+    for indicator in &types {
+        let choice = Choice {
+            file,
+            record_type: Some(*indicator),
+        };
+        match read_layout(rt.alloc(), deck, source.from, source.to, choice) {
+            Ok(layout) => layouts.push(layout)?,
+            Err(LayoutFault::NoFields) => {}
+            Err(fault) => return Err(fault),
+        }
+    }
+    if layouts.is_empty() {
+        return Err(LayoutFault::NoFields);
+    }
+    Ok(layouts)
+}
+
+/// The file of a source by its name, if it has the name, and the record types of this file or of the only one.
+fn file_and_types(
+    rt: &HostRuntime,
+    deck: &Deck,
+    source: CardRange,
+    name: Name,
+) -> Result<(Option<Name>, Vec<Indicator>), LayoutFault>
+    requires order { source.from ≤ source.to }
+    requires within { source.to ≤ length deck.now }
+{
+    match read_types(rt.alloc(), deck, source.from, source.to, Some(name)) {
+        Ok(types) => Ok((Some(name), types)),
+        Err(LayoutFault::OtherFile) => {
+            let types = read_types(rt.alloc(), deck, source.from, source.to, None)?;
+            Ok((None, types))
+        }
+        Err(fault) => Err(fault),
+    }
+}
+
+/// The first source in the deck at a path.
+fn source_in(rt: &HostRuntime, path: &str, deck: &Deck) -> Result<CardRange, Fault>
+    ensures order { IfOk result (λ source. source.from ≤ source.to) }
+    ensures within { IfOk result (λ source. source.to ≤ length deck.now) }
+{
+    match source_of(rt, deck)? {
+        Some(source) => Ok(source),
         None => Err(refused(Words::of_path(path).fill(
             rt.alloc(),
             "the deck {path} has no source: no job of it compiles one, and it doesn't begin with the cards of one; give the deck of a program, or the cards of its source alone",
@@ -53,27 +173,22 @@ pub fn layout_of(
     }
 }
 
-/// The layout of a source in a deck. Each diagnostic of its cards is reported.
-fn layout_in(
+/// Why a source in a deck is no layout. Each diagnostic of its cards is reported.
+fn layout_fault(
     rt: &HostRuntime,
     path: &str,
     text: &DeckText<'_>,
     deck: &Deck,
     source: CardRange,
-    choice: Choice,
-) -> Result<SourceLayout, Fault>
+    fault: &LayoutFault,
+) -> Fault
     requires order { source.from ≤ source.to }
     requires within { source.to ≤ length deck.now }
 {
-    match read_layout(rt.alloc(), deck, source.from, source.to, choice) {
-        Ok(layout) => Ok(layout),
-        Err(fault) => {
-            if let LayoutFault::Card { .. } = fault {
-                tell_cards(rt, text, deck, source);
-            }
-            Err(refused(layout_sentence(rt.alloc(), path, &fault)))
-        }
+    if let LayoutFault::Card { .. } = fault {
+        tell_cards(rt, text, deck, source);
     }
+    refused(layout_sentence(rt.alloc(), path, fault))
 }
 
 /// Tells each diagnostic of the cards of a source, a line each.
@@ -273,10 +388,10 @@ fn filled(from: usize, to: usize, count: usize) -> Option<CardRange>
 
 /// Whether a card is a statement of a job.
 fn is_statement(card: &Card) -> bool {
-    card[0] == SLASH && card[1] == SLASH
+    card.starts_with(&[SLASH, SLASH])
 }
 
 /// Whether a card ends a source: `/*` or `/&`.
 fn ends_source(card: &Card) -> bool {
-    card[0] == SLASH && matches!(card[1], ASTERISK | AMPERSAND)
+    card.starts_with(&[SLASH, ASTERISK]) || card.starts_with(&[SLASH, AMPERSAND])
 }

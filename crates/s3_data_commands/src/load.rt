@@ -5,13 +5,14 @@ use crate::cells::{Reading, with_cells};
 use crate::fault::Fault;
 use crate::filled::{Words, push_shown_name};
 use crate::fixed::{
-    AS_ASCII, AS_EBCDIC, LINE_FEEDS, RECORD_LENGTH, fixed_form, fixed_load_sentence,
-    layout_of_length, record_sentence, refuse_loaded_cells, test_length,
+    AS_ASCII, AS_EBCDIC, LINE_FEEDS, RECORD_LENGTH, beginning_sentence, fixed_form,
+    fixed_load_sentence, is_ascii, layout_of_length, no_records_sentence, record_sentence,
+    refuse_loaded_cells, test_length,
 };
-use crate::inputs::{delimiter_of, layout_of};
+use crate::inputs::{delimiter_of, layout_of, whole_records_of};
 use crate::journaling::{OpenJournal, journal_for, unmade_if_refused};
 use crate::load_sentences::{
-    TOO_LONG, heading_sentence, load_sentence, utf16_words, value_sentence,
+    TOO_LONG, heading_sentence, load_sentence, value_sentence, wide_sentence,
 };
 use crate::pack_words::{
     Save, keep_input, label_of, level_of, no_room_sentence, number_of, pack_to_change, refused,
@@ -228,7 +229,7 @@ impl<'a> LoadWords<'a> {
 
 fn load_table(rt: &HostRuntime, matches: &ArgMatches<'_>) -> Result<(), Fault> {
     let words = LoadWords::read(rt, matches)?;
-    let layout = layout_by(rt, matches, words.source)?;
+    let layout = layout_by(rt, matches, &words)?;
     let (pack, locked) = pack_to_change(rt, matches, words.path, words.save)?;
     if let Some(source) = words.source {
         keep_input(rt, words.save, source)?;
@@ -248,16 +249,19 @@ fn load_table(rt: &HostRuntime, matches: &ArgMatches<'_>) -> Result<(), Fault> {
     )
 }
 
-/// The layout of the source in a deck, with the cells that the options ask for; if no deck is named, one of the record length that
-/// they give.
+/// The layout of the source in a deck, with the cells that the options ask for; for records of a fixed length only their length and
+/// their key; if no deck is named, one of the record length that the options give.
 fn layout_by(
     rt: &HostRuntime,
     matches: &ArgMatches<'_>,
-    source: Option<&str>,
+    words: &LoadWords<'_>,
 ) -> Result<SourceLayout, Fault> {
-    let Some(source) = source else {
+    let Some(source) = words.source else {
         return layout_of_length(rt, matches);
     };
+    if words.form.is_some() {
+        return whole_records_of(rt, matches, source);
+    }
     let reading = Reading {
         capitals: matches.get_flag("capitals"),
         thousands: matches.get_str("thousands"),
@@ -306,17 +310,32 @@ fn append_once<'a>(
     Ok((loaded, journal, Work::Append(added)))
 }
 
-/// The table of standard input, or its records of a fixed length. Too long an input is refused, and so is a table in UTF-16.
+/// The table of standard input, or its records of a fixed length. Too long an input is refused, and so is one in UTF-16 or UTF-32, or
+/// without a record of a fixed length.
 fn table_of(rt: &HostRuntime, words: &LoadWords<'_>) -> Result<Vec<u8>, Fault> {
     match read_input(rt.alloc(), rt.stdin()) {
-        Ok(records) if words.form.is_some() => Ok(records),
-        Ok(table) => match utf16_words(&table) {
+        Ok(table) => match input_sentence(rt.alloc(), words, &table)? {
             None => Ok(table),
-            Some(sentence) => Err(refused(String::from_str(rt.alloc(), sentence))),
+            Some(sentence) => Err(Fault::Refused(sentence)),
         },
         Err(InputFault::TooLong) => Err(refused(String::from_str(rt.alloc(), TOO_LONG))),
         Err(InputFault::Failed) => Err(fault_of(rt, words, &LoadFault::File)),
         Err(InputFault::NoMemory) => Err(Fault::NoMemory),
+    }
+}
+
+/// Why an input isn't loaded: it has no record, or it is in an encoding that must be converted; `None` for any other input. Records in
+/// EBCDIC may have any bytes.
+fn input_sentence(
+    alloc: Global,
+    words: &LoadWords<'_>,
+    input: &[u8],
+) -> Result<Option<String>, AllocError> {
+    match words.form {
+        None => wide_sentence(alloc, input),
+        Some(_) if input.is_empty() => Ok(Some(no_records_sentence(alloc)?)),
+        Some(form) if is_ascii(form) => beginning_sentence(alloc, input),
+        Some(_) => Ok(None),
     }
 }
 
@@ -672,10 +691,9 @@ fn fault_sentence(
     fault: &ValueFault,
     words: &LoadWords<'_>,
 ) -> Result<String, AllocError> {
-    if words.form.is_some() {
-        record_sentence(alloc, fault)
-    } else {
-        value_sentence(alloc, fault, words.has_comma)
+    match words.form {
+        Some(form) => record_sentence(alloc, form, fault),
+        None => value_sentence(alloc, fault, words.has_comma),
     }
 }
 

@@ -1,7 +1,6 @@
 //! Sentences of refusals of `load`: what is wrong, where, and what mends it.
 
 use crate::filled::{Words, push_name};
-use crate::fixed::push_fixed;
 use crate::pack_words::{DAMAGED, NO_LABEL, label_words, mount_words};
 use s3_cards::{Name, host_byte};
 use s3_cells::{CellFault, place_without_character};
@@ -10,7 +9,7 @@ use s3_lines::indicator::Indicator;
 use s3_lines::sheet::{CodePart, RecordCode};
 use s3_load::{HeadingFault, LoadFault, Reason, ValueFault};
 use s3_record_types::TypeFault;
-use s3_refusals::Shown;
+use s3_refusals::{Shown, wide_text};
 use std::alloc::{AllocError, Global};
 
 /// The characters that other programs put between the cells of a table, each with what to report if a table has it.
@@ -27,27 +26,18 @@ const DELIMITER_CURES: [(u8, &str); 3] = [
 pub const TOO_LONG: &str =
     "standard input has more than 268,435,456 bytes, and a pack can't hold so large a table; see what the < or the pipe gives, or load the table in parts, the further ones by --append";
 
-/// The refusal of a table in UTF-16 that has the low byte of each character first.
-const UTF16_LOW_FIRST: &str =
-    "the table is in UTF-16; save it as CSV in UTF-8, or convert it by `iconv -f UTF-16LE -t UTF-8 TABLE > NEW`";
-
-/// The refusal of a table in UTF-16 that has the high byte of each character first.
-const UTF16_HIGH_FIRST: &str =
-    "the table is in UTF-16; save it as CSV in UTF-8, or convert it by `iconv -f UTF-16BE -t UTF-8 TABLE > NEW`";
-
 /// How many characters of a cell are shown.
 const MOST_SHOWN: usize = 40;
 
-/// Why a table in UTF-16 isn't loaded, and how to convert it; `None` for any other table. UTF-16 has a byte order mark, or a NUL as one
-/// of its first two bytes.
-pub fn utf16_words(table: &[u8]) -> Option<&'static str> {
-    match table {
-        [0xff, 0xfe, ..] => Some(UTF16_LOW_FIRST),
-        [0xfe, 0xff, ..] => Some(UTF16_HIGH_FIRST),
-        [high, low, ..] if *high != 0 && *low == 0 => Some(UTF16_LOW_FIRST),
-        [high, low, ..] if *high == 0 && *low != 0 => Some(UTF16_HIGH_FIRST),
-        _ => None,
-    }
+/// Why a table with two or four bytes a character isn't loaded, and how to convert it; `None` for any other table.
+pub fn wide_sentence(alloc: Global, table: &[u8]) -> Result<Option<String>, AllocError> {
+    let Some(wide) = wide_text(table) else {
+        return Ok(None);
+    };
+    let (family, name) = (wide.family(), wide.name());
+    Ok(Some(format!(in alloc;
+        "the table is in {family}; save it as CSV in UTF-8, or convert it by `iconv -f {name} -t UTF-8 TABLE > NEW`"
+    )?))
 }
 
 /// Why a label can't be used by a load.
@@ -248,8 +238,9 @@ fn push_reason(text: &mut String, reason: &Reason, has_comma: bool) -> Result<()
             text.push_str(" already; leave the row out")
         }
         Reason::OtherType(fault) => push_other_type(text, *fault),
+        // only records of a fixed length have these
         Reason::Short(..) | Reason::Long(..) | Reason::NoLineFeed(..) | Reason::NoCode(..) => {
-            push_fixed(text, reason)
+            Ok(())
         }
     }
 }

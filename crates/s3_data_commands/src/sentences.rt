@@ -101,6 +101,24 @@ pub fn others_sentence<'a>(
         .fill(alloc, sentence)
 }
 
+/// The sentence that reports how many records of a file are of other types than those that are written whole.
+pub fn other_records_sentence<'a>(
+    alloc: Global,
+    path: &'a str,
+    area: u16,
+    label: &'a str,
+    others: u32,
+) -> Result<String, AllocError> {
+    let sentence = if others == 1 {
+        "1 record of {label} in area {area} of {path} is of another type and isn't written; unload without --type writes all records"
+    } else {
+        "{number} records of {label} in area {area} of {path} are of other types and aren't written; unload without --type writes all records"
+    };
+    Words::of_file(path, area, label)
+        .with_number(u64::from(others))
+        .fill(alloc, sentence)
+}
+
 /// Why standard output took nothing, or not all.
 pub fn output_sentence(alloc: Global) -> Result<String, AllocError> {
     String::from_str(

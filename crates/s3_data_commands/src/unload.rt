@@ -6,9 +6,9 @@ use crate::fault::Fault;
 use crate::fixed::{
     AS_ASCII, AS_EBCDIC, LINE_FEEDS, fixed_form, hidden_place, hidden_sentence, refuse_cells,
 };
-use crate::inputs::{delimiter_of, layout_of};
+use crate::inputs::{delimiter_of, layout_of, whole_records_of};
 use crate::pack_words::{area_number, label_of, pack_of, tell, wrong_words};
-use crate::sentences::{others_sentence, unload_sentence};
+use crate::sentences::{other_records_sentence, others_sentence, unload_sentence};
 use crate::words::{
     AREA, DATE_FIELDS, DECIMAL, DELIMITER, LABEL, LAYOUT, LAYOUT_FILE, LAYOUT_TYPE, PACK,
     SAFE_CELLS,
@@ -16,9 +16,11 @@ use crate::words::{
 use clap::ArgMatches;
 use s3_cards::{LevelId, Name};
 use s3_host_files::StandardOutput;
+use s3_layout::SourceLayout;
 use s3_paper_commands::status::{DONE, FILE_WRONG, OPTIONS_WRONG, PERSON_NEEDED, REFUSED};
 use s3_paper_commands::words::{Choice, CommandWords, Example, Status, Takes, Word, value_of};
-use s3_unload::{Area, FixedForm, LineForm, UnloadFault};
+use s3_record_types::ChosenRecords;
+use s3_unload::{Area, FixedForm, LineForm, UnloadFault, find_file};
 use std::alloc::Global;
 
 /// The forms in which records are written.
@@ -113,7 +115,14 @@ fn unload_file(rt: &HostRuntime, matches: &ArgMatches<'_>) -> Result<(), Fault> 
     let path = value_of(matches, "pack");
     if let Some(form) = fixed_form(rt, matches)? {
         refuse_cells(rt, matches)?;
-        return unload_fixed(rt, path, number, label, name, form);
+        test_choice(rt, matches)?;
+        let file = PackFile {
+            path,
+            area: number,
+            label,
+            name,
+        };
+        return unload_fixed(rt, matches, file, form);
     }
     let form = form_of(rt, matches)?;
     test_words(rt, matches, form)?;
@@ -134,26 +143,94 @@ fn unload_file(rt: &HostRuntime, matches: &ArgMatches<'_>) -> Result<(), Fault> 
     }
 }
 
-/// Writes the records of a file in a form of a fixed length.
+/// A file of a pack, as the options name it.
+#[derive(Clone, Copy)]
+struct PackFile<'a> {
+    /// The file of the pack.
+    path: &'a str,
+    /// 0 for the masters, 1 or 2 for a level.
+    area: u16,
+    /// The label.
+    label: &'a str,
+    /// The label as a name.
+    name: Name,
+}
+
+/// Writes the records of a file in a form of a fixed length: all of them, or those of the type that the options name.
 fn unload_fixed(
     rt: &HostRuntime,
-    path: &str,
-    area: u16,
-    label: &str,
-    name: Name,
+    matches: &ArgMatches<'_>,
+    file: PackFile<'_>,
     form: FixedForm,
 ) -> Result<(), Fault> {
+    let PackFile {
+        path,
+        area,
+        label,
+        name: _,
+    } = file;
+    let layout = chosen_layout(rt, matches)?;
     let pack = pack_of(rt, path)?;
-    match s3_unload::unload_fixed(
-        rt.alloc(),
-        &pack,
-        area_of(area),
-        name,
-        form,
-        &mut StandardOutput::new(rt),
-    ) {
-        Ok(()) => Ok(()),
+    match unload_chosen(rt, &pack, file, form, &layout) {
+        Ok(0) => Ok(()),
+        Ok(others) => tell(
+            rt,
+            other_records_sentence(rt.alloc(), path, area, label, others),
+        ),
         Err(fault) => Err(fixed_fault(rt.alloc(), path, area, label, &fault)),
+    }
+}
+
+/// The layout that chooses the records, if the options name their type.
+fn chosen_layout(
+    rt: &HostRuntime,
+    matches: &ArgMatches<'_>,
+) -> Result<Option<SourceLayout>, Fault> {
+    match (matches.get_str("type"), matches.get_str("layout")) {
+        (Some(_), Some(source)) => Ok(Some(whole_records_of(rt, matches, source)?)),
+        _ => Ok(None),
+    }
+}
+
+/// Writes the records of a file of a pack that a layout chooses, all if there is none. Returns how many it leaves out.
+fn unload_chosen(
+    rt: &HostRuntime,
+    pack: &[u8],
+    file: PackFile<'_>,
+    form: FixedForm,
+    layout: &Option<SourceLayout>,
+) -> Result<u32, UnloadFault> {
+    let all = ChosenRecords::All;
+    let chosen = match layout {
+        Some(layout) => {
+            test_length(rt.alloc(), pack, file, layout.layout.record_length)?;
+            &layout.records
+        }
+        None => &all,
+    };
+    s3_unload::unload_fixed(
+        rt.alloc(),
+        pack,
+        area_of(file.area),
+        file.name,
+        form,
+        chosen,
+        &mut StandardOutput::new(rt),
+    )
+}
+
+/// Refuses a file whose records have another length than those of the layout.
+fn test_length(
+    alloc: Global,
+    pack: &[u8],
+    file: PackFile<'_>,
+    record_length: u16,
+) -> Result<(), UnloadFault> {
+    let (_store, label) = find_file(alloc, pack, area_of(file.area), file.name)?;
+    if label.record_length == record_length {
+        Ok(())
+    } else {
+        Err(UnloadFault::OtherLength(label.record_length))
     }
 }
 
@@ -247,13 +324,8 @@ fn form_of(rt: &HostRuntime, matches: &ArgMatches<'_>) -> Result<Option<LineForm
     }
 }
 
-/// Refuses options that would have no effect: those that choose in a layout if there is none, and a delimiter if there are no
-/// cells.
-fn test_words(
-    rt: &HostRuntime,
-    matches: &ArgMatches<'_>,
-    form: Option<LineForm>,
-) -> Result<(), Fault> {
+/// Refuses options that choose in a layout if there is none.
+fn test_choice(rt: &HostRuntime, matches: &ArgMatches<'_>) -> Result<(), Fault> {
     let chooses = matches.get_str("file").is_some() || matches.get_str("type").is_some();
     if chooses && matches.get_str("layout").is_none() {
         return Err(wrong_words(
@@ -261,6 +333,17 @@ fn test_words(
             "--file and --type choose in a layout; name a deck with the source by --layout, or leave them out",
         ));
     }
+    Ok(())
+}
+
+/// Refuses options that would have no effect: those that choose in a layout if there is none, and a delimiter if there are no
+/// cells.
+fn test_words(
+    rt: &HostRuntime,
+    matches: &ArgMatches<'_>,
+    form: Option<LineForm>,
+) -> Result<(), Fault> {
+    test_choice(rt, matches)?;
     let is_styled = matches.get_flag("safe-cells")
         || matches.get_str("decimal").is_some()
         || matches.get_str("date-fields").is_some();

@@ -183,6 +183,7 @@ fn page_of<'x>(
 ) -> Result<Vec<u8>, AllocError> {
     let day = Day {
         title: book.title.as_bytes(),
+        given: book.given.as_bytes(),
         status: book.status.as_bytes(),
         summary: book.summary.as_bytes(),
         turns: book.turns,
@@ -223,6 +224,7 @@ fn jobs_of(alloc: Global, owned: &[BookJob]) -> Result<Vec<Job<'_>>, AllocError>
             level: job.level,
             number: job.number,
             program: job.program.as_bytes(),
+            kind: job.kind.as_bytes(),
             first: job.first,
             last: job.last,
             lines: job.lines,

@@ -11,6 +11,8 @@ pub struct BookJob {
     pub number: u64,
     /// Its program.
     pub program: String,
+    /// Whether it is a compile job or a run job, in words.
+    pub kind: &'static str,
     /// How many turns both levels had taken when it began.
     pub first: u64,
     /// How many turns both levels had taken when it was over.
@@ -41,8 +43,10 @@ pub struct BookHalt {
 pub struct DayBook {
     /// The title.
     pub title: String,
+    /// What the day was begun with: the pack, the decks and the dates of their jobs, a line each.
+    pub given: String,
     /// What became of the day.
-    pub status: &'static str,
+    pub status: String,
     /// The summary of both levels.
     pub summary: String,
     /// How many turns both levels have taken.

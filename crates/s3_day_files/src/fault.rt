@@ -4,13 +4,14 @@ ghost use Rattle.std.specs.Prelude.{◌≤◌};
 use s3_cards::LevelId;
 use s3_cli::{CliFault, tell};
 use s3_command_line::OUT_OF_MEMORY;
-use s3_host_files::{FileFault, Hindrance, StandardStream};
+use s3_host_files::{FileFault, Hindrance, StandardStream, is_pack_at};
 use s3_journal_files::JournalRefusal;
 use s3_paper_commands::status::{FILE_FAILED, REFUSED, WRONG_WORDS};
 use s3_refusals::{Reason, Shown};
 use std::alloc::{AllocError, AllocFailed};
 use std::io;
 use std::io::Write;
+use std::path::Path;
 
 /// The refusal of a file with too many bytes.
 const TOO_LARGE: &str =
@@ -186,6 +187,7 @@ impl<'a> DayFault<'a> {
             | DayFault::Stream(_, StandardStream::Error)
             | DayFault::Unsynced(_) => FILE_FAILED,
             DayFault::Journal(refusal) => refusal.status(),
+            DayFault::Cli(fault) => fault.status(),
             _ => REFUSED,
         }
     }
@@ -302,10 +304,29 @@ fn write_stream<W: Write>(writer: &mut W, name: &str, stream: StandardStream) ->
 
 /// Reports why an output can't be written, and gives the fault.
 pub fn unwritten<'a>(rt: &HostRuntime, name: &'a str, error: &io::Error) -> DayFault<'a> {
-    if error.kind() == io::ErrorKind::OutOfMemory {
-        return DayFault::Cli(OUT_OF_MEMORY);
+    match error.kind() {
+        io::ErrorKind::OutOfMemory => return DayFault::Cli(OUT_OF_MEMORY),
+        io::ErrorKind::AlreadyExists => tell_appeared(rt, name),
+        _ => {
+            let (shown, reason) = (Shown(name), Reason(*error));
+            let _ = writeln!(rt.stderr(), "{shown} can't be written: {reason}");
+        }
     }
-    let (shown, reason) = (Shown(name), Reason(*error));
-    let _ = writeln!(rt.stderr(), "{shown} can't be written: {reason}");
     DayFault::File(name)
+}
+
+/// Reports a file that appeared during the day in the place of an output.
+fn tell_appeared(rt: &HostRuntime, name: &str) {
+    let shown = Shown(name);
+    let _ = if is_pack_at(rt, Path::new(name)) {
+        writeln!(
+            rt.stderr(),
+            "{shown} can't be written: it is a pack by now; name another file"
+        )
+    } else {
+        writeln!(
+            rt.stderr(),
+            "{shown} can't be written: it is there by now, and wasn't when the day began; give another name, or --overwrite to write over it"
+        )
+    };
 }

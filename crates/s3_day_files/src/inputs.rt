@@ -3,8 +3,9 @@
 use crate::begun::{named_file, words_kept};
 use crate::fault::DayFault;
 use crate::level_deck::LevelDeck;
+use crate::log_line::line_sentence;
 use crate::order::Order;
-use crate::strays::{ReadDecks, look_for_strays};
+use crate::strays::{ListedDecks, look_for_strays};
 use crate::taking_up::take_up;
 use s3_cards::LevelId;
 use s3_command_line::new_pack;
@@ -149,12 +150,13 @@ impl<'a> Decks<'a> {
         take_up(rt, order, LevelId::Two, &mut self.two)
     }
 
-    /// Reads both decks, and reports jobs that continue over statements of later jobs. `None` if the day isn't begun for them.
+    /// Reads both decks, lists their jobs, and reports those that continue over statements of later jobs. `None` if the day isn't begun
+    /// for them.
     pub fn look(
         &self,
         rt: &HostRuntime,
         order: &Order<'a>,
-    ) -> Result<Option<ReadDecks>, DayFault<'a>> {
+    ) -> Result<Option<ListedDecks>, DayFault<'a>> {
         look_for_strays(rt, order, &self.one, &self.two)
     }
 }
@@ -230,7 +232,8 @@ pub fn read_log<'a>(rt: &HostRuntime, path: &'a str) -> Result<DayLog, DayFault<
         Ok(log) => Ok(log),
         Err(LogFault::NoMemory) => Err(DayFault::from(AllocError)),
         Err(LogFault::Line(line)) => {
-            let (path, words) = (Shown(path), line_words(rt, text, line));
+            let words = line_words(rt, text, line)?;
+            let path = Shown(path);
             let _ = writeln!(rt.stderr(), "{path}: line {line} {words}");
             Err(DayFault::Redo)
         }
@@ -238,13 +241,27 @@ pub fn read_log<'a>(rt: &HostRuntime, path: &'a str) -> Result<DayLog, DayFault<
 }
 
 /// Why a text is no log, by its first line that is refused: the end of a sentence that begins with the line.
-fn line_words(rt: &HostRuntime, text: &str, line: usize) -> &'static str {
+fn line_words(rt: &HostRuntime, text: &str, line: usize) -> Result<String, AllocError> {
     if line <= 1 {
-        "isn't the first line of a log; give the whole file that --log wrote"
+        String::from_str(
+            rt.alloc(),
+            "isn't the first line of a log; give the whole file that --log wrote",
+        )
     } else if begins_log(rt, text, line) {
-        "begins a second log; give each log in a file of its own"
+        String::from_str(
+            rt.alloc(),
+            "begins a second log; give each log in a file of its own",
+        )
     } else {
-        "is no line of a log"
+        line_sentence(rt.alloc(), first_line_of(text_from(text, line)))
+    }
+}
+
+/// The first line of a text, without its end.
+fn first_line_of(text: &str) -> &str {
+    match text.split_once('\n') {
+        Some((line, _after)) => line,
+        None => text,
     }
 }
 

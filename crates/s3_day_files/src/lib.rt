@@ -17,6 +17,7 @@ mod journal_list;
 mod keeping;
 mod kept_packs;
 mod level_deck;
+mod log_line;
 mod order;
 mod outputs;
 mod paper;
@@ -37,6 +38,6 @@ pub use outputs::{
     KeptOutputs, Output, Outputs, remove_made, test_decks, test_journal, test_outputs, write_deck,
 };
 pub use paper::{Form, Paper};
-pub use strays::ReadDecks;
+pub use strays::{ListedDecks, ReadDecks};
 pub use taking_up::list_jobs;
 pub use watch::Watch;

@@ -34,15 +34,32 @@ pub struct ReadDecks {
     pub two: ReadDeck,
 }
 
-/// Reads both decks.
-pub fn read_decks<'a>(
+/// The decks of a day, and the jobs of each, listed once; none of a deck that can't be read.
+#[derive(Drop)]
+pub struct ListedDecks {
+    /// Both decks.
+    pub read: ReadDecks,
+    /// Level 1's jobs.
+    pub jobs1: Vec<JobEntry>,
+    /// Level 2's jobs.
+    pub jobs2: Vec<JobEntry>,
+}
+
+/// Reads both decks, and lists their jobs.
+pub fn list_decks<'a>(
     rt: &HostRuntime,
     one: &DayDeck<'a>,
     two: &DayDeck<'a>,
-) -> Result<ReadDecks, AllocError> {
+) -> Result<ListedDecks, AllocError> {
     let one = ReadDeck::read(rt.alloc(), one.text())?;
     let two = ReadDeck::read(rt.alloc(), two.text())?;
-    Ok(ReadDecks { one, two })
+    let jobs1 = jobs_of(rt.alloc(), &one.cards)?;
+    let jobs2 = jobs_of(rt.alloc(), &two.cards)?;
+    Ok(ListedDecks {
+        read: ReadDecks { one, two },
+        jobs1,
+        jobs2,
+    })
 }
 
 /// Reads both decks, and reports their jobs that continue over statements of later jobs, one a line. `None` if the day isn't begun: if
@@ -52,8 +69,8 @@ pub fn look_for_strays<'a>(
     order: &Order<'a>,
     one: &DayDeck<'a>,
     two: &DayDeck<'a>,
-) -> Result<Option<ReadDecks>, DayFault<'a>> {
-    let decks = read_decks(rt, one, two)?;
+) -> Result<Option<ListedDecks>, DayFault<'a>> {
+    let decks = list_decks(rt, one, two)?;
     let count = report_strays(rt, one, two, &decks)?;
     if is_begun(rt, order, count)? {
         Ok(Some(decks))
@@ -84,27 +101,27 @@ pub fn report_strays<'a>(
     rt: &HostRuntime,
     one: &DayDeck<'a>,
     two: &DayDeck<'a>,
-    decks: &ReadDecks,
+    decks: &ListedDecks,
 ) -> Result<usize, AllocError> {
-    let of_one = report_cards(rt, LevelId::One, one, &decks.one.cards)?;
-    let of_two = report_cards(rt, LevelId::Two, two, &decks.two.cards)?;
+    let of_one = report_cards(rt, LevelId::One, one, &decks.read.one.cards, &decks.jobs1)?;
+    let of_two = report_cards(rt, LevelId::Two, two, &decks.read.two.cards, &decks.jobs2)?;
     Ok(of_one.saturating_add(of_two))
 }
 
-/// Reports these jobs of the deck of a level, given its cards. How many they are.
+/// Reports these jobs of the deck of a level, given its cards and its jobs. How many they are.
 fn report_cards<'a>(
     rt: &HostRuntime,
     level: LevelId,
     deck: &DayDeck<'a>,
     cards: &Deck,
+    jobs: &[JobEntry],
 ) -> Result<usize, AllocError> {
-    let jobs = jobs_of(rt.alloc(), cards)?;
-    if !have_strays(rt, cards, &jobs)? {
+    if !have_strays(rt, cards, jobs)? {
         return Ok(0);
     }
     let places = deck.with_places(rt.alloc())?;
     let mut text = String::new(rt.alloc());
-    let count = push_strays(&mut text, rt.alloc(), &places, cards, &jobs)?;
+    let count = push_strays(&mut text, rt.alloc(), &places, cards, jobs)?;
     let number = level.number();
     let _ = writeln!(rt.stderr(), "level {number}:");
     let _ = rt.stderr().write_all(text.as_bytes());

@@ -2,7 +2,7 @@
 
 use crate::fault::DayFault;
 use crate::order::Order;
-use crate::strays::{read_decks, report_strays};
+use crate::strays::{list_decks, report_strays};
 use s3_cards::{CardFault, Deck, DeckFault, LevelId};
 use s3_deck_json::push_jobs_of_deck;
 use s3_decks::{
@@ -125,7 +125,7 @@ pub fn list_jobs<'a>(
     if let Err(error) = StandardOutput::new(rt).write_all(text.as_slice()) {
         return Err(DayFault::of_output(&error));
     }
-    let decks = read_decks(rt, one, two)?;
+    let decks = list_decks(rt, one, two)?;
     report_strays(rt, one, two, &decks)?;
     Ok(())
 }

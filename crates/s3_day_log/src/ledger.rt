@@ -1,13 +1,12 @@
 //! The jobs of a level's deck, as they begin and end.
-ghost use Rattle.std.specs.Prelude.{◌≡◌, ◌<◌, ◌-◌, [], ◌∷◌, ◌++◌, length, drop, map, true, false, None, if◌then◌else◌, OnOk};
+ghost use Rattle.std.specs.Prelude.{◌≡◌, ◌<◌, ◌-◌, [], ◌∷◌, ◌++◌, length, drop, true, false, None, if◌then◌else◌, OnOk};
 ghost use Rattle.s3_ocl.specs.Streams.{jobs_from};
-ghost use Rattle.s3_decks.specs.Inner.Days.{said};
 ghost use Rattle.s3_solo.specs.World.{World};
 ghost use Rattle.s3_level.specs.Inner.Holds.{Around, Holds};
 ghost use Rattle.s3_day_log.specs.Inner.Endings.{Begins, begins_next, begun_by, behind_reply, closed, endings, has_open_job, has_passed, is_open_behind, overs, overs_behind, stands_still};
 
 use s3_cards::{Deck, Name};
-use s3_decks::{JobEntry, Statements, jobs_of, program_of};
+use s3_decks::{JobEntry, Statements, program_of};
 use s3_level::Level;
 use s3_ocl::JobCards;
 use s3_operator::{HaltCode, is_at_start};
@@ -62,27 +61,18 @@ pub struct Ledger {
 }
 
 impl Ledger {
-    /// A ledger without jobs.
-    pub fn new(alloc: Global) -> Ledger
-        ensures jobs { result.jobs.items ≡ [] }
+    /// The jobs of a deck, as `jobs_of` lists them, before the first one is begun.
+    pub fn new(alloc: Global, jobs: Vec<JobEntry>) -> Ledger
+        ensures jobs { result.jobs.items ≡ jobs.items }
         ensures begun { result.begun.items ≡ [] }
     {
         Ledger {
-            jobs: Vec::new(alloc),
+            jobs,
             begun: Vec::new(alloc),
             place: 0,
             is_open: false,
             counted: 0,
         }
-    }
-
-    /// Takes the jobs of a deck, before the first one is begun.
-    pub fn read(&mut self, alloc: Global, deck: &Deck) -> Result<(), AllocError>
-        ensures jobs { OnOk result (map (λ entry. said entry.statements) self.new.jobs.items ≡ jobs_from deck.now 0) }
-        ensures begun { self.new.begun.items ≡ self.old.begun.items }
-    {
-        self.jobs = jobs_of(alloc, deck)?;
-        Ok(())
     }
 
     /// The jobs that were begun, in order. The first one is job 1.

@@ -1,10 +1,12 @@
 //! Statements among the cards of a job that has begun: the next job's, if the end of this one is missing.
+ghost use Rattle.std.specs.List.{list_any};
 ghost use Rattle.std.specs.Prelude.{◌≡◌, IfOk, drop, slice_get};
 ghost use Rattle.s3_ocl.specs.Cards.{first_word as first_word_spec, is_statement as is_statement_spec, word_of};
 ghost use Rattle.s3_ocl.specs.Jobs.{holds_at};
+ghost use Rattle.s3_ocl.specs.Words.{reads};
 ghost use Rattle.s3_ocl.specs.declared.words.TheConstants.{LOAD as load_word, RUN as run_word};
 ghost use Rattle.s3_decks.specs.Inner.Days.{said};
-ghost use Rattle.s3_decks.specs.Inner.Strays.{has_keyword, is_known_statement as is_known_statement_spec, is_load_or_run as is_load_or_run_spec, later_loads as later_loads_spec, places_of, strays};
+ghost use Rattle.s3_decks.specs.Inner.Strays.{has_keyword, is_known_statement as is_known_statement_spec, is_load_or_run as is_load_or_run_spec, keywords, later_loads as later_loads_spec, places_of, strays};
 
 use crate::job_list::{JobEntry, Statements};
 use s3_cards::ebcdic::{BLANK, SLASH};
@@ -102,13 +104,18 @@ fn is_load_or_run_at(deck: &Deck, place: usize) -> bool
 fn is_known_statement(card: &Card) -> bool
     ensures { result ≡ is_known_statement_spec card.now }
 {
-    let word = keyword_of(card);
-    is_statement(card)
-        && (word == LOAD.as_slice()
-            || word == FILE.as_slice()
-            || word == DATE.as_slice()
-            || word == SWITCH.as_slice()
-            || word == RUN.as_slice())
+    is_statement(card) && is_known_keyword(keyword_of(card))
+}
+
+/// Whether a word is the keyword of a statement.
+fn is_known_keyword(word: &[u8]) -> bool
+    ensures { result ≡ list_any (reads word.now) keywords }
+{
+    word == LOAD.as_slice()
+        || word == FILE.as_slice()
+        || word == DATE.as_slice()
+        || word == SWITCH.as_slice()
+        || word == RUN.as_slice()
 }
 
 /// Whether a card is a LOAD or a RUN statement.

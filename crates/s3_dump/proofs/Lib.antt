@@ -1,2 +1,3 @@
 pub mod DumpLemmas
+pub mod NoteLemmas
 pub mod WriterLemmas

@@ -1,3 +1,4 @@
 -- What the contracts of a run and of a session don't reach: words of inner functions, of proofs and of other calls.
 pub mod Dumps
+pub mod Notes
 pub mod Writing

@@ -3,11 +3,15 @@
 //! `specs/Inner/Dumps.antt` specifies which bytes a text represents. A dump is proved to represent the bytes of its
 //! pack, and is refused only if memory is (`dump`). So `restore` makes these bytes again unless memory is refused
 //! (`a_dump_is_restored`). `restore` is proved to give the bytes that a text represents, and to report a text that
-//! represents none with its first wrong line. Only tested: where the lines of a dump begin and end, and what its
-//! notes say.
+//! represents none with its first wrong line. The notes about a record are proved to be its fields by the layout, with the
+//! values that `unload` shows (`specs/Inner/Notes.antt`), and the layout to be the first of the file with the record's length
+//! and type. Only tested: where the lines of a dump begin and end, which bytes are a record, how many records have no
+//! layout, and what the other notes say.
 #![tactic(auto)]
 
 mod fault;
+mod fields;
+mod laid;
 mod laws;
 mod notes;
 mod pieces;
@@ -15,6 +19,8 @@ mod reading;
 mod writing;
 
 pub use fault::RestoreFault;
+pub use fields::{bytes_of, push_name, push_value};
+pub use laid::{FileLayout, Unlaid};
 pub use laws::a_dump_is_restored;
-pub use pieces::dump;
+pub use pieces::{DumpedPack, dump};
 pub use reading::restore;

@@ -3,6 +3,8 @@ ghost use Rattle.std.specs.Prelude.{◌≡◌, ◌<◌, Some, IfOk, OnOk};
 ghost use Rattle.s3_dump.specs.Inner.Dumps.{restored};
 ghost use Rattle.s3_dump.specs.Inner.Writing.{Keeps};
 
+use crate::fields::write_fields;
+use crate::laid::{FileLayout, Laid, Unlaid};
 use crate::notes::{after_note, header_note, records_note, sector_note, slot_note, spool_note};
 use crate::writing::Writer;
 use s3_cards::{LevelId, Name};
@@ -41,26 +43,53 @@ struct Run {
     records: usize,
 }
 
-/// A pack as a text that represents its bytes. Refused only if memory is.
+/// A pack as a text.
+#[derive(Drop)]
+pub struct DumpedPack {
+    /// The text.
+    pub text: Vec<u8>,
+    /// The files with layouts that have records of other types, which have no fields in the text.
+    pub unlaid: Vec<Unlaid>,
+}
+
+/// A pack as a text that represents its bytes. A record that has one of these layouts has notes with its fields. Refused only if
+/// memory is.
 #[tactic(auto, using(crate::proofs::WriterLemmas::keeps_on))]
-pub fn dump(alloc: Global, pack: &[u8]) -> Result<Vec<u8>, AllocError>
-    ensures { IfOk result (λ text. restored text.items ≡ Some pack.now) }
+pub fn dump(
+    alloc: Global,
+    pack: &[u8],
+    layouts: &[FileLayout<'_>],
+) -> Result<DumpedPack, AllocError>
+    ensures { IfOk result (λ dump. restored dump.text.items ≡ Some pack.now) }
 {
     let mut writer = Writer::new(alloc, pack);
-    writer.note("a dump of `bureau`: [codes], *zeros, # notes")?;
-    write_pieces(alloc, pack, &mut writer)?;
+    let mut laid = Laid {
+        layouts,
+        unlaid: Vec::new(alloc),
+    };
+    writer.note(b"a dump of `bureau`: [codes], *zeros, # notes")?;
+    write_pieces(alloc, pack, &mut writer, &mut laid)?;
     write_sectors(alloc, &mut writer, pack.len())?;
-    writer.ended()
+    let Laid { layouts: _, unlaid } = laid;
+    Ok(DumpedPack {
+        text: writer.ended()?,
+        unlaid,
+    })
 }
 
 /// Writes what a pack has in its areas; nothing if it can't be mounted.
 #[tactic(auto, using(crate::proofs::WriterLemmas::keeps_all, crate::proofs::WriterLemmas::keeps_then))]
-fn write_pieces(alloc: Global, pack: &[u8], writer: &mut Writer<'_>) -> Result<(), AllocError>
+fn write_pieces(
+    alloc: Global,
+    pack: &[u8],
+    writer: &mut Writer<'_>,
+    laid: &mut Laid<'_>,
+) -> Result<(), AllocError>
     ensures { OnOk result (Keeps writer.old writer.new) }
 {
     let store = MemoryStore::from_bytes(Vec::from_slice(alloc, pack)?);
     match Pack::over(alloc, store) {
-        Ok(Pack { pool: _pool, areas }) => write_areas(alloc, &areas, writer),
+        Ok(Pack { pool: _pool, areas }) => write_areas(alloc, &areas, writer, laid),
         Err(
             Refused {
                 pool: _pool,
@@ -72,7 +101,12 @@ fn write_pieces(alloc: Global, pack: &[u8], writer: &mut Writer<'_>) -> Result<(
 
 /// Writes the header, the slots, the spool blocks and the files.
 #[tactic(auto, using(crate::proofs::WriterLemmas::keeps_all, crate::proofs::WriterLemmas::keeps_then))]
-fn write_areas(alloc: Global, areas: &AreaSlots, writer: &mut Writer<'_>) -> Result<(), AllocError>
+fn write_areas(
+    alloc: Global,
+    areas: &AreaSlots,
+    writer: &mut Writer<'_>,
+    laid: &mut Laid<'_>,
+) -> Result<(), AllocError>
     ensures { OnOk result (Keeps writer.old writer.new) }
 {
     let note = header_note(alloc, &areas.header())?;
@@ -86,7 +120,7 @@ fn write_areas(alloc: Global, areas: &AreaSlots, writer: &mut Writer<'_>) -> Res
     sort_runs(&mut runs)?;
     for run in &runs {
         write_sectors(alloc, writer, run.from)?;
-        write_run(alloc, writer, run)?;
+        write_run(alloc, writer, run, &runs, laid)?;
     }
     Ok(())
 }
@@ -145,7 +179,11 @@ fn write_spool(alloc: Global, writer: &mut Writer<'_>) -> Result<(), AllocError>
     ensures { OnOk result (Keeps writer.old writer.new) }
 {
     for block in 0..SPARE - SPOOL {
-        let note = spool_note(alloc, block, writer.next(4))?;
+        let note = spool_note(
+            alloc,
+            block,
+            writer.bytes(writer.place(), writer.place().saturating_add(4)),
+        )?;
         writer.write_part((SPOOL + block + 1) * SECTOR, note.as_str())?;
     }
     Ok(())
@@ -176,13 +214,19 @@ fn sector_end(place: usize, to: usize) -> usize
 
 /// Writes a run of a file: its records, a line each, and the sectors after them.
 #[tactic(auto, using(crate::proofs::WriterLemmas::keeps_all, crate::proofs::WriterLemmas::keeps_then))]
-fn write_run(alloc: Global, writer: &mut Writer<'_>, run: &Run) -> Result<(), AllocError>
+fn write_run(
+    alloc: Global,
+    writer: &mut Writer<'_>,
+    run: &Run,
+    runs: &[Run],
+    laid: &mut Laid<'_>,
+) -> Result<(), AllocError>
     ensures { OnOk result (Keeps writer.old writer.new) }
 {
     let after = run.records.saturating_sub(run.before);
     let records_end = run.from.saturating_add(after).min(run.to);
     if run.from < records_end {
-        write_records(alloc, writer, run, records_end)?;
+        write_records(alloc, writer, run, runs, laid, records_end)?;
     }
     write_rest(alloc, writer, run)
 }
@@ -193,6 +237,8 @@ fn write_records(
     alloc: Global,
     writer: &mut Writer<'_>,
     run: &Run,
+    runs: &[Run],
+    laid: &mut Laid<'_>,
     end: usize,
 ) -> Result<(), AllocError>
     ensures { OnOk result (Keeps writer.old writer.new) }
@@ -200,14 +246,67 @@ fn write_records(
     let long = run.record_length.max(1);
     let number = run.before / long;
     let note = records_note(alloc, run.area, run.name, number.saturating_add(1))?;
-    writer.note(note.as_str())?;
+    writer.note(note.as_bytes())?;
     // the end in the run of the record with which it begins
     let mut next = run.from.saturating_add(long - run.before % long);
     while next < end {
-        writer.write_record(next)?;
+        write_record(alloc, writer, run, runs, laid, next)?;
         next = next.saturating_add(long);
     }
-    writer.write_record(end)
+    write_record(alloc, writer, run, runs, laid, end)
+}
+
+/// Writes a record up to a place, with notes about its fields if it begins here and has a layout.
+#[tactic(auto, using(crate::proofs::NoteLemmas::fields_lie, crate::proofs::WriterLemmas::keeps_all, crate::proofs::WriterLemmas::keeps_then))]
+fn write_record(
+    alloc: Global,
+    writer: &mut Writer<'_>,
+    run: &Run,
+    runs: &[Run],
+    laid: &mut Laid<'_>,
+    to: usize,
+) -> Result<(), AllocError>
+    ensures { OnOk result (Keeps writer.old writer.new) }
+{
+    if laid.has_file(run.area, run.name) && begins_record(run, writer.place()) {
+        let bytes = record_at(alloc, writer, run, runs)?;
+        if let Some(layout) = laid.layout_of(run.area, run.name, &bytes)? {
+            write_fields(alloc, writer, &layout.fields, &bytes)?;
+        }
+    }
+    writer.write_record(to)
+}
+
+/// Whether a record begins at a place of a run; the first one may have begun in the run before.
+fn begins_record(run: &Run, place: usize) -> bool {
+    let before = run.before.saturating_add(place.saturating_sub(run.from));
+    before % run.record_length.max(1) == 0
+}
+
+/// The bytes of the record that begins at the place, which may go on in the next run of the file.
+fn record_at(
+    alloc: Global,
+    writer: &Writer<'_>,
+    run: &Run,
+    runs: &[Run],
+) -> Result<Vec<u8>, AllocError> {
+    let from = writer.place();
+    let to = from.saturating_add(run.record_length);
+    let mut bytes = Vec::from_slice(alloc, writer.bytes(from, to.min(run.to)))?;
+    if run.to < to {
+        if let Some(next) = runs.iter().find(|next| goes_on_in(run, next)) {
+            let more = writer.bytes(next.from, next.from.saturating_add(to - run.to));
+            bytes.extend_from_slice(more)?;
+        }
+    }
+    Ok(bytes)
+}
+
+/// Whether a run is the next one of a run's file.
+fn goes_on_in(run: &Run, next: &Run) -> bool {
+    next.area == run.area
+        && next.name == run.name
+        && next.before == run.before.saturating_add(run.to.saturating_sub(run.from))
 }
 
 /// Writes what a run has after its records.

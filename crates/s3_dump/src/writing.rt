@@ -1,6 +1,7 @@
 //! The lines of a dump as they are written: codes, runs of zeros, and notes before them.
-ghost use Rattle.std.specs.Prelude.{◌≡◌, ◌≤◌, ◌<◌, ◌+◌, ◌-◌, ◌^◌, ◌++◌, ◌∷◌, ℕ, List, [], decimal, drop, length, replicate, take, Some, IfOk, OnOk};
+ghost use Rattle.std.specs.Prelude.{◌≡◌, ◌≤◌, ◌<◌, ◌+◌, ◌-◌, ◌^◌, ◌++◌, ◌∷◌, ℕ, List, [], decimal, drop, filter, length, replicate, take, Some, IfOk, OnOk};
 ghost use Rattle.s3_dump.specs.Inner.Dumps.{hex_value, most_zeros, restored};
+ghost use Rattle.s3_dump.specs.Inner.Notes.{AddsNotes, digit_of, is_noted, note_line};
 ghost use Rattle.s3_dump.specs.Inner.Writing.{AddsBytes, AddsLines, IsUpTo, Keeps, reads};
 
 use crate::reading::{MOST_ZEROS, Mode};
@@ -37,9 +38,9 @@ impl<'a> Writer<'a> {
         self.place
     }
 
-    /// The bytes of the pack from the place on, at most so many.
-    pub fn next(&self, count: usize) -> &'a [u8] {
-        taken(self.pack, self.place, self.place.saturating_add(count))
+    /// The bytes of the pack from a place up to another one; the pack may end before.
+    pub fn bytes(&self, from: usize, to: usize) -> &'a [u8] {
+        taken(self.pack, from, to)
     }
 
     /// Writes the bytes up to a place: a note, if there is one, and a line of codes, unless all of them are zeros.
@@ -67,8 +68,9 @@ impl<'a> Writer<'a> {
 
     /// Writes a note, after the zeros that have no line yet.
     #[tactic(auto, using(crate::proofs::WriterLemmas::note_kept))]
-    pub fn note(&mut self, note: &str) -> Result<(), AllocError>
-        ensures { OnOk result (Keeps self.old self.new) }
+    pub fn note(&mut self, note: &[u8]) -> Result<(), AllocError>
+        ensures keeps { OnOk result (Keeps self.old self.new) }
+        ensures note { OnOk result (AddsNotes self.old self.new (note_line note.now)) }
     {
         push_zeros(&mut self.text, self.zeros)?;
         push_note(&mut self.text, note)?;
@@ -101,7 +103,7 @@ impl<'a> Writer<'a> {
             return Ok(());
         }
         push_zeros(&mut self.text, self.zeros)?;
-        push_note(&mut self.text, note)?;
+        push_note(&mut self.text, note.as_bytes())?;
         push_codes(&mut self.text, codes)?;
         self.zeros = 0;
         Ok(())
@@ -146,15 +148,16 @@ fn used_in(bytes: &[u8]) -> usize
 
 /// Appends a line for a note; none for an empty text.
 #[tactic(auto, using(crate::proofs::WriterLemmas::adds_nothing, crate::proofs::WriterLemmas::note_read, crate::proofs::WriterLemmas::note_begun))]
-fn push_note(text: &mut Vec<u8>, note: &str) -> Result<(), AllocError>
-    ensures { OnOk result (AddsLines text.old.items text.new.items []) }
+fn push_note(text: &mut Vec<u8>, note: &[u8]) -> Result<(), AllocError>
+    ensures lines { OnOk result (AddsLines text.old.items text.new.items []) }
+    ensures note { OnOk result (text.new.items ≡ text.old.items ++ note_line note.now) }
 {
     if note.is_empty() {
         return Ok(());
     }
     push(text, b'#')?;
     push(text, b' ')?;
-    for byte in note.as_bytes() {
+    for byte in note {
         push_noted(text, *byte)?;
     }
     push(text, b'\n')?;
@@ -164,7 +167,8 @@ fn push_note(text: &mut Vec<u8>, note: &str) -> Result<(), AllocError>
 /// Appends a byte of a note; not the end of a line, after which the note would end.
 #[tactic(auto, using(crate::proofs::WriterLemmas::one_more_noted))]
 fn push_noted(text: &mut Vec<u8>, byte: u8) -> Result<(), AllocError>
-    ensures { OnOk result ((before : List ℕ) → reads text.old.items Mode.Note before → reads text.new.items Mode.Note before) }
+    ensures read { OnOk result ((before : List ℕ) → reads text.old.items Mode.Note before → reads text.new.items Mode.Note before) }
+    ensures noted { OnOk result (text.new.items ≡ text.old.items ++ filter is_noted (byte ∷ [])) }
 {
     if byte == b'\n' {
         return Ok(());
@@ -176,7 +180,8 @@ fn push_noted(text: &mut Vec<u8>, byte: u8) -> Result<(), AllocError>
 /// Appends lines for so many zeros.
 #[tactic(auto, using(crate::proofs::WriterLemmas::no_run, crate::proofs::WriterLemmas::one_more_run, crate::proofs::WriterLemmas::all_runs))]
 fn push_zeros(text: &mut Vec<u8>, zeros: u64) -> Result<(), AllocError>
-    ensures { OnOk result (AddsLines text.old.items text.new.items (replicate zeros 0)) }
+    ensures lines { OnOk result (AddsLines text.old.items text.new.items (replicate zeros 0)) }
+    ensures none { OnOk result (zeros ≡ 0 → text.new.items ≡ text.old.items) }
 {
     let mut left = zeros;
     while left > 0 {
@@ -258,9 +263,10 @@ fn push(text: &mut Vec<u8>, byte: u8) -> Result<(), AllocError>
 
 /// The hexadecimal digit of a number below 16.
 #[tactic(auto, using(crate::proofs::WriterLemmas::low_digit, crate::proofs::WriterLemmas::high_digit))]
-fn digit(number: u8) -> u8
+pub fn digit(number: u8) -> u8
     requires { number < 16 }
-    ensures { hex_value result ≡ Some number }
+    ensures value { hex_value result ≡ Some number }
+    ensures digit { result ≡ digit_of number }
 {
     if number < 10 {
         b'0' + number

@@ -1,12 +1,12 @@
 //! An entry of a sheet.
 
+use crate::span::Span;
+
 /// An entry of a sheet: columns of a card that are read together.
 #[derive(Clone, Copy)]
 pub struct Entry {
-    /// Its first column, from 1.
-    pub from: usize,
-    /// Its last column.
-    pub to: usize,
+    /// Its columns.
+    pub columns: Span,
     /// Its name, as IBM's sheets print it.
     pub name: &'static str,
     /// What may be in it, in words.
@@ -15,19 +15,18 @@ pub struct Entry {
     pub values: &'static [&'static str],
 }
 
-/// An entry: `sheet_entry!(15 to 15: "file type", "I, O or U", ["I", "O", "U"])`, or without the list if the texts are too many.
+/// An entry: `sheet_entry!(TYPE: "file type", "I, O or U", ["I", "O", "U"])`, or without the list if the texts are too many.
 #[macro_export]
 macro_rules! sheet_entry {
-    ($from:literal to $to:literal: $name:expr, $allowed:expr, [$($value:literal),* $(,)?]) => {
+    ($columns:path: $name:expr, $allowed:expr, [$($value:literal),* $(,)?]) => {
         $crate::Entry {
-            from: $from,
-            to: $to,
+            columns: $columns,
             name: $name,
             allowed: $allowed,
             values: &[$($value),*],
         }
     };
-    ($from:literal to $to:literal: $name:expr, $allowed:expr) => {
-        $crate::sheet_entry!($from to $to: $name, $allowed, [])
+    ($columns:path: $name:expr, $allowed:expr) => {
+        $crate::sheet_entry!($columns: $name, $allowed, [])
     };
 }

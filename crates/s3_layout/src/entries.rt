@@ -1,9 +1,9 @@
 //! The types of records of a file, and the lines of their fields.
-ghost use Rattle.std.specs.Prelude.{◌≡◌, ◌++◌, Some, None, IfOk, OnOk};
+ghost use Rattle.std.specs.Prelude.{◌≡◌, ◌++◌, true, Some, None, IfOk, OnOk};
 ghost use Rattle.std.specs.List.{list_any};
 ghost use Rattle.s3_lines.specs.Indicators.{same_indicator};
 ghost use Rattle.s3_layout.specs.Inner.Files.{Chooses};
-ghost use Rattle.s3_layout.specs.Inner.Entries.{behind as behind_spec, behind_input as behind_input_spec, begun as begun_spec, chosen_type as chosen_type_spec, entries_from, first as first_spec, is_meant as is_meant_spec, is_taken as is_taken_spec, taken, types_from};
+ghost use Rattle.s3_layout.specs.Inner.Entries.{behind as behind_spec, behind_input as behind_input_spec, begun as begun_spec, chosen_type as chosen_type_spec, entries_from, first as first_spec, has_named, is_meant as is_meant_spec, is_taken as is_taken_spec, taken, types_from};
 
 use crate::fault::LayoutFault;
 use s3_cards::Name;
@@ -133,6 +133,22 @@ pub fn chosen_type(
     }
 }
 
+/// Refuses a type that is named, if the file doesn't have it.
+pub fn test_type(
+    alloc: Global,
+    lines: &[Line],
+    file: Name,
+    record_type: Option<Indicator>,
+) -> Result<(), LayoutFault>
+    ensures { OnOk result (has_named record_type (types_from file first_spec lines.now) ≡ true) }
+{
+    let types = types_of(alloc, lines, file)?;
+    match record_type {
+        Some(named) if !has_type(&types, named) => Err(LayoutFault::OtherType),
+        _ => Ok(()),
+    }
+}
+
 /// The type that is named, if it is there.
 fn named_type(types: &[Indicator], named: Indicator) -> Result<Option<Indicator>, LayoutFault>
     ensures { result ≡ chosen_type_spec (Some named) types.now }
@@ -163,7 +179,7 @@ fn only_type(types: &[Indicator]) -> Result<Option<Indicator>, LayoutFault>
 }
 
 /// The indicators of the types of records that a file has.
-fn types_of(alloc: Global, lines: &[Line], file: Name) -> Result<Vec<Indicator>, AllocError>
+pub fn types_of(alloc: Global, lines: &[Line], file: Name) -> Result<Vec<Indicator>, AllocError>
     ensures { IfOk result (λ types. types.items ≡ types_from file first_spec lines.now) }
 {
     let mut types = Vec::new(alloc);

@@ -2,7 +2,8 @@
 //!
 //! A layout is proved to have exactly the fields of the lines for the chosen file and type of records, the record length and the
 //! key of the file's line, and the types of the file with their record identification codes (`IsLayoutOf`). Each field is within
-//! the records, and has a form that a program can read. Each call is proved to be safe and to return. Only tested: when a layout
+//! the records, and has a form that a program can read. A layout of whole records has the same without fields (`IsWholeOf`).
+//! `read_types` is proved to give the indicators of a file's types. Each call is proved to be safe and to return. Only tested: when a layout
 //! is refused, that no two of its fields have the same name, and the texts of refusals.
 #![tactic(auto)]
 
@@ -15,4 +16,4 @@ mod reading;
 
 pub use choosing::Choice;
 pub use fault::LayoutFault;
-pub use reading::{SourceLayout, read_layout};
+pub use reading::{SourceLayout, read_layout, read_types, read_whole};

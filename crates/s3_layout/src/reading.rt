@@ -1,15 +1,16 @@
 //! The layout that a source describes.
 ghost use Rattle.std.specs.Prelude.{◌≤◌, length, slice_range, IfOk};
 ghost use Rattle.s3_sheets.specs.Lines.{lines_of};
-ghost use Rattle.s3_layout.specs.Inner.Layouts.{IsLayoutOf};
+ghost use Rattle.s3_layout.specs.Inner.Layouts.{AreTypesOf, IsLayoutOf, IsWholeOf};
 
 use crate::choosing::{Choice, chosen_file};
 use crate::columns::fields_of;
-use crate::entries::{chosen_type, entries_meant};
+use crate::entries::{chosen_type, entries_meant, test_type, types_of};
 use crate::fault::LayoutFault;
 use crate::kinds::chosen_records;
-use s3_cards::Deck;
+use s3_cards::{Deck, Name};
 use s3_cells::Layout;
+use s3_lines::indicator::Indicator;
 use s3_lines::sheet::KeyField;
 use s3_record_types::ChosenRecords;
 use s3_sheets::{SheetFault, read_sheets};
@@ -18,7 +19,8 @@ use std::alloc::Global;
 /// How the records of a file are laid out, where their key lies, and which of them are meant.
 #[derive(Drop)]
 pub struct SourceLayout {
-    /// The records: their length by the F sheet, and the fields of the I sheet in the order of their cards, at least one.
+    /// The records: their length by the F sheet, and the fields of the I sheet in the order of their cards, at least one; of whole records
+    /// none.
     pub layout: Layout,
     /// The place of the key, if the file is addressed by keys and has an index.
     pub key: Option<KeyField>,
@@ -59,6 +61,58 @@ pub fn read_layout(
         key: file.key,
         records,
     })
+}
+
+/// The whole records of the file that is chosen, of the type that is named, or of all types: their length and their key, by the source on
+/// these cards of a deck, from place `from` up to but without `to`. The source may have several types, and needs no fields.
+pub fn read_whole(
+    alloc: Global,
+    deck: &Deck,
+    from: usize,
+    to: usize,
+    choice: Choice,
+) -> Result<SourceLayout, LayoutFault>
+    requires order { from ≤ to }
+    requires within { to ≤ length deck.now }
+    ensures { IfOk result (IsWholeOf choice (lines_of from (slice_range deck.now from to))) }
+{
+    let lines = match read_sheets(alloc, deck, from, to) {
+        Ok(lines) => lines,
+        Err(fault) => return Err(first_fault(&fault)),
+    };
+    let file = chosen_file(alloc, &lines, choice.file)?;
+    test_type(alloc, &lines, file.name, choice.record_type)?;
+    let records = chosen_records(alloc, &lines, file.name, choice.record_type)?;
+    Ok(SourceLayout {
+        layout: Layout {
+            record_length: file.record_length,
+            fields: Vec::new(alloc),
+        },
+        key: file.key,
+        records,
+    })
+}
+
+/// The record types of a file that the source on these cards of a deck describes, from place `from` up to but without `to`: their
+/// indicators, in the order of their lines. The file is the one on disk of a name, or without a name the only one.
+pub fn read_types(
+    alloc: Global,
+    deck: &Deck,
+    from: usize,
+    to: usize,
+    file: Option<Name>,
+) -> Result<Vec<Indicator>, LayoutFault>
+    requires order { from ≤ to }
+    requires within { to ≤ length deck.now }
+    ensures { IfOk result (AreTypesOf file (lines_of from (slice_range deck.now from to))) }
+{
+    let lines = match read_sheets(alloc, deck, from, to) {
+        Ok(lines) => lines,
+        Err(fault) => return Err(first_fault(&fault)),
+    };
+    let file = chosen_file(alloc, &lines, file)?;
+    let types = types_of(alloc, &lines, file.name)?;
+    Ok(types)
 }
 
 /// The first fault of cards.

@@ -1,9 +1,9 @@
 -- Records of a fixed length that are written, and then read.
-use Rattle.std.proofs.Common.{◌≡◌, ℕ, ◌+◌, ◌-◌, ◌<◌, ◌≤◌, List, [], ◌∷◌, ◌++◌, Bool, true, false, cond, length, map, take, drop, get_or, refl, sym, ap, ap₂, ◌∙◌, arith, subst, append_assoc, length-append, eqb-true, inl, inr}
-use Rattle.std.specs.Prelude.{Option, Some, None, is_some, unwrap_or, ◌==◌, ◌&&◌}
+use Rattle.std.proofs.Common.{◌≡◌, ℕ, ◌+◌, ◌-◌, ◌<◌, ◌≤◌, List, [], ◌∷◌, ◌++◌, Bool, true, false, cond, length, map, take, drop, get_or, slice_get, refl, sym, ap, ap₂, ◌∙◌, arith, subst, append_assoc, length-append, eqb-true, inl, inr}
+use Rattle.std.specs.Prelude.{Option, Some, None, is_some, unwrap_or, nat_le, ◌==◌, ◌&&◌}
 use Rattle.std.specs.List.{All, flat_map, list_all, slice_split}
 use Rattle.std.specs.Str.Lines.{lines, lines_of_parts, strip_carriage_return}
-use Rattle.std.proofs.lemmas.Bool.{and_parts, cases_Bool, eq-eqb, le-leb, or_right}
+use Rattle.std.proofs.lemmas.Bool.{and_parts, cases_Bool, eq-eqb, le-leb, leb-true, or_right}
 use Rattle.std.proofs.lemmas.List.{append-nil, get_or-append-add, length-map}
 use Rattle.std.proofs.lemmas.List.Elements.{All-cons, All-head, All-nil, All-tail}
 use Rattle.std.proofs.lemmas.List.Folds.{list_all_at}
@@ -12,16 +12,25 @@ use Rattle.std.proofs.Math.Seq.{drop-append_seam, take-append_seam}
 use Rattle.s3_cards.specs.Codes.{code_page, ebcdic, ebcdic_of, host_of, shown_byte}
 use Rattle.s3_cards.proofs.CodeLemmas.{both_ways}
 use Rattle.s3_cells.specs.Inner.Texts.{has_character, has_code, text_bytes}
+use Rattle.s3_slots.specs.Header.{region_of}
+use Rattle.s3_slots.specs.Slots.{slots_of}
+use Rattle.s3_slots.specs.declared.header.Header.{Header}
+use Rattle.s3_slots.specs.declared.slot.Slot.TheVariants.{Sound}
+use Rattle.s3_slots.proofs.Judging.{slots_kept}
+use Rattle.s3_slots.proofs.Keeping.{formed_parts}
+use Rattle.s3_labels.specs.Areas.{area_of}
 use Rattle.s3_unload.specs.Inner.Fixed.{fixed_of, fixed_text, is_fixed}
 use Rattle.s3_unload.specs.declared.fixed.FixedForm.{FixedForm}
 use Rattle.s3_unload.specs.declared.fixed.FixedForm.TheVariants.{Ebcdic, EbcdicLines, Ascii, AsciiLines}
 use Rattle.s3_load.specs.declared.order.Order.{Order}
 use Rattle.s3_load.specs.Inner.Filling.{records_of}
-use Rattle.s3_load.specs.Inner.FixedTexts.{AreWritable, IsLoadedFixed, ReadsAs, cut, is_piece, pieces, record_of}
+use Rattle.s3_load.specs.Inner.FixedTexts.{AreOfBytes, AreWritable, IsLoadedFixed, ReadsAs, cut, is_piece, pieces, record_of}
+use Rattle.s3_load.specs.Inner.Loaded.{HasFile}
 use Rattle.s3_load.specs.Inner.RoundTrip.{AreUnloaded, HasRecordsAgain}
-use Rattle.s3_load.proofs.Bytes.{AreBytes, from_all}
+use Rattle.s3_load.proofs.Bytes.{from_all}
 use Rattle.s3_load.proofs.FixedLemmas.{nothing_to_cut, whole_cut}
 use Rattle.s3_load.proofs.LoadedFiles.{AreWhole, loaded_file, unloaded_rows}
+use Rattle.s3_load.proofs.LoadedPacks.{own_on}
 
 -- ---- characters of codes
 -- a code with a character is the code of that character
@@ -182,16 +191,28 @@ written_read AsciiLines n records u is =
     read_by AsciiLines n (map shown_byte) (fixed_text AsciiLines records) records (lines_written records is.fits) (pieces_of AsciiLines n (map shown_byte) (λ bytes long fits. piece_in_ascii_lines n bytes long fits) records is.long is.fits)
 
 -- ---- unloaded, and then loaded
-pub written_loaded : (order : Order) (form : FixedForm) (records old new : List (List ℕ)) → order.appends ≡ false → 1 ≤ order.layout.now.record_length → AreWritable form order.layout.now.record_length records
+-- a record of a file of a pack has a byte
+some_byte : (order : Order) (added : List (List ℕ)) (header : Header) (old new : List (List ℕ)) → HasFile order added header old new → 1 ≤ order.layout.now.record_length
+some_byte order added header old new file =
+    let region = region_of order.level header in
+    let n = file.label.record_length in
+    let own : slice_get (slots_of header.format region (area_of order.level) new) file.slot ≡ Some (Sound file.label) = sym (own_on order.level header new file.slot) ∙ file.there in
+    let formed = (slots_kept header.format region (area_of order.level) new).formed file.slot file.label own in
+    let lengths = and_parts (nat_le 1 n) (nat_le n 1024) (formed_parts region file.label formed).length in
+    subst (λ long. 1 ≤ long) file.asked.long (leb-true 1 n lengths.0)
+
+pub written_loaded : (order : Order) (form : FixedForm) (records old new : List (List ℕ)) → order.appends ≡ false → AreWritable form order.layout.now.record_length records → AreOfBytes records
     → IsLoadedFixed order form (Some (fixed_text form records)) old new → HasRecordsAgain order records new
-written_loaded order form records old new anew u is loaded =
+written_loaded order form records old new anew is small loaded =
     let n = order.layout.now.record_length in
     let text = loaded.records (fixed_text form records) refl in
+    let header = loaded.has.header in
     let file = loaded.has.filled in
-    let back : records_of text.made ≡ records = text.are_records.read ∙ sym (written_read form n records u is).read in
-    let whole : AreWhole n records = record { long = is.long; bytes = λ k d low. from_all (get_or records k d) (is.small k d low) } in
+    let some = some_byte order (records_of loaded.rows) header old new file in
+    let back : records_of text.made ≡ records = text.are_records.read ∙ sym (written_read form n records some is).read in
+    let whole : AreWhole n records = record { long = is.long; bytes = λ k d low. from_all (get_or records k d) (small k d low) } in
     record {
       label = file.label;
-      file = loaded_file order (records_of loaded.rows) loaded.has.header old new file;
-      unloaded = subst (AreUnloaded order file.label new) back (unloaded_rows order text.made loaded.rows loaded.has.header old new anew file text.same text.unkeyed text.keyed (subst (AreWhole n) (sym back) whole));
+      file = loaded_file order (records_of loaded.rows) header old new file;
+      unloaded = subst (AreUnloaded order file.label new) back (unloaded_rows order text.made loaded.rows header old new anew file text.same text.unkeyed text.keyed (subst (AreWhole n) (sym back) whole));
     }

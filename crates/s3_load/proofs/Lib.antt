@@ -18,3 +18,4 @@ pub mod Marks
 pub mod OwnerLemmas
 pub mod ReadAgain
 pub mod QuoteLemmas
+pub mod ReasonLemmas

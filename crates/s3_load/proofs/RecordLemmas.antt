@@ -10,12 +10,13 @@ use Rattle.s3_store.specs.Bytes.{part}
 use Rattle.s3_store.specs.Inner.Bytes.{SameOutside, with_part}
 use Rattle.s3_store.proofs.SectorParts.{length-with_part, outside-with_part, part-with_part}
 use Rattle.s3_files.proofs.PartLemmas.{part-after, part-before}
-use Rattle.s3_cells.specs.Inner.Fields.{LiesIn, Takes, field_bytes, zeroed}
+use Rattle.s3_cells.specs.Inner.Fields.{IsNotTaken, LiesIn, Takes, field_bytes, zeroed}
 use Rattle.s3_cells.specs.Inner.Values.{GetsValue}
 use Rattle.s3_cells.specs.declared.field.Field.{Field}
 use Rattle.s3_record_types.specs.Inner.Chosen.{is_chosen}
 use Rattle.s3_record_types.specs.declared.chosen.ChosenRecords.{ChosenRecords}
 use Rattle.s3_load.specs.Inner.Columns.{AreNamed, LieApart, has_byte, is_covered, is_inside, left_out, overlap}
+use Rattle.s3_load.specs.Inner.Reasons.{HasTried, Tries}
 use Rattle.s3_load.specs.Inner.Records.{HasTaken, IsRecordOf, empty_record, with_zeros}
 
 pub field_lies : (fields : List Field) (n i : ℕ) (f : Field) → All (LiesIn n) fields → i < length fields → f ≡ get_or fields i f → LiesIn n f
@@ -123,6 +124,61 @@ one_more_taken columns cells start old new i f h is apart lies before takes =
           let last : has_byte place f ≡ false = ap (has_byte place) is ∙ or_right (is_inside (take i columns) place) (has_byte place (get_or columns i f)) both in
           byte_kept place f old new last well.outside ∙ before.rest place (or_left (is_inside (take i columns) place) (has_byte place (get_or columns i f)) both);
     }
+
+-- ---- .. and those whose cells aren't taken
+pub none_tried : (columns : List Field) (cells : List (List ℕ)) (bytes : List ℕ) → HasTried columns cells bytes 0 bytes
+none_tried columns cells bytes = record { long = refl; each = λ k d h. absurd (omega arith); rest = λ place h. refl }
+
+not_both : (field : Field) (cell bytes : List ℕ) → GetsValue field.kind cell field.width bytes → IsNotTaken field cell → ⊥
+not_both field cell bytes got not_taken = let held = got.held in let refused = not_taken got.value got.said in absurd (cc (sym held ∙ refused))
+
+one_more_taken_of : (columns : List Field) (cells : List (List ℕ)) (start old new : List ℕ) (i : ℕ) (f : Field) → i < length columns → f ≡ get_or columns i f → LieApart columns → LiesIn (length old) f
+    → HasTried columns cells start i old → Takes f (get_or cells i []) old new → HasTried columns cells start (i + 1) new
+one_more_taken_of columns cells start old new i f h is apart lies before takes =
+    let well = takes_well f (get_or cells i []) old new lies takes in
+    record {
+      long = well.long ∙ before.long;
+      each = λ k d low. elim (cases_eq k i) [
+        | inl here ↦
+            let one : get_or columns k d ≡ f = ap (λ n. get_or columns n d) here ∙ get_or_default columns i d f h ∙ sym is in
+            let cell : get_or cells i [] ≡ get_or cells k [] = ap (λ n. get_or cells n []) (sym here) in
+            inl (subst (λ (g : Field). GetsValue g.kind (get_or cells k []) g.width (field_bytes g new)) (sym one) (subst (λ c. GetsValue f.kind c f.width (field_bytes f new)) cell well.got))
+        | inr other ↦
+            let less : k < i = omega arith in
+            let beside : overlap (get_or columns k d) f ≡ false = ap (overlap (get_or columns k d)) (is ∙ get_or_default columns i f d h) ∙ apart k i d less h in
+            elim (before.each k d less) [
+              | inl got ↦ inl (subst (λ b. GetsValue (get_or columns k d).kind (get_or cells k []) (get_or columns k d).width b) (sym (part_kept (get_or columns k d) f old new beside well.outside)) got)
+              | inr refused ↦ inr refused
+            ]
+      ];
+      rest = λ place stays. elim (cases_Bool (has_byte place f)) [
+        | inl has ↦
+            let refused : IsNotTaken (get_or columns i f) (get_or cells i []) = stays i f (omega arith) (ap (has_byte place) (sym is) ∙ has) in
+            absurd (not_both f (get_or cells i []) (field_bytes f new) well.got (subst (λ (g : Field). IsNotTaken g (get_or cells i [])) (sym is) refused))
+        | inr out ↦ byte_kept place f old new out well.outside ∙ before.rest place (λ k d low. stays k d (omega arith))
+      ];
+    }
+
+one_more_refused : (columns : List Field) (cells : List (List ℕ)) (start old : List ℕ) (i : ℕ) (f : Field) → i < length columns → f ≡ get_or columns i f → HasTried columns cells start i old
+    → IsNotTaken f (get_or cells i []) → HasTried columns cells start (i + 1) old
+one_more_refused columns cells start old i f h is before refused = record {
+  long = before.long;
+  each = λ k d low. elim (cases_eq k i) [
+    | inl here ↦
+        let one : get_or columns k d ≡ f = ap (λ n. get_or columns n d) here ∙ get_or_default columns i d f h ∙ sym is in
+        let cell : get_or cells i [] ≡ get_or cells k [] = ap (λ n. get_or cells n []) (sym here) in
+        inr (subst (λ (g : Field). IsNotTaken g (get_or cells k [])) (sym one) (subst (λ c. IsNotTaken f c) cell refused))
+    | inr other ↦ before.each k d (omega arith)
+  ];
+  rest = λ place stays. before.rest place (λ k d low. stays k d (omega arith));
+}
+
+pub one_more_tried : (columns : List Field) (cells : List (List ℕ)) (start old new : List ℕ) (i : ℕ) (f : Field) → i < length columns → f ≡ get_or columns i f → LieApart columns → LiesIn (length old) f
+    → HasTried columns cells start i old → Tries f (get_or cells i []) old new → HasTried columns cells start (i + 1) new
+one_more_tried columns cells start old new i f h is apart lies before tries = elim tries [
+  | inl takes ↦ one_more_taken_of columns cells start old new i f h is apart lies before takes
+  | inr refused ↦ subst (λ bytes. HasTried columns cells start (i + 1) bytes) (sym refused.1) (one_more_refused columns cells start old i f h is before refused.0)
+]
 
 -- faults that are told stay told
 pub still_told : (old new : ℕ) → (new ≡ 0 → old ≡ 0) → 0 < old → 0 < new

@@ -9,3 +9,4 @@ pub mod Loaded
 pub mod Tables
 pub mod RoundTrip
 pub mod Quotes
+pub mod Reasons

@@ -19,6 +19,8 @@
 //! - a table that was loaded into a new file is unloaded again: the file's records, as `unload` takes them, are one for each row,
 //!   in the order of their keys, or, without a key, in the order of the rows; each shows the value of the row's cell in each
 //!   column (`what_is_loaded_is_unloaded`);
+//! - no row is reported without a reason: a cell of it goes over the end of a line, or isn't taken into its column's field; or it has
+//!   too many or too few cells; or its record isn't of the chosen type, with that type's codes in it (`record_of`, `read_rows`);
 //! - records that were unloaded and then loaded into a new file are the same records, in the order of their keys, or, without a key,
 //!   in their old order, if the layout has each byte of a record, its fields have different names, and each value can be shown
 //!   (`what_is_unloaded_is_loaded`). Neither theorem covers records that are appended, or a pack on which an earlier slot of the

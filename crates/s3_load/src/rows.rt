@@ -1,10 +1,12 @@
 //! Rows of a table as records.
-ghost use Rattle.std.specs.Prelude.{◌≡◌, ◌<◌, ◌⊎◌, true, length, replicate, OnOk, IfOk, IfSome, IfNone};
-ghost use Rattle.std.specs.List.{All};
+ghost use Rattle.std.specs.Prelude.{◌≡◌, ◌<◌, ◌⊎◌, [], true, length, replicate, OnOk, IfOk, IfSome, IfNone};
+ghost use Rattle.std.specs.List.{All, Contains, list_any};
 ghost use Rattle.csv.specs.Records.{fields_of};
 ghost use Rattle.s3_cells.specs.Inner.Fields.{LiesIn, Takes};
 ghost use Rattle.s3_record_types.specs.Inner.Chosen.{is_chosen};
 ghost use Rattle.s3_load.specs.Inner.Columns.{LieApart};
+ghost use Rattle.s3_load.specs.Inner.Quotes.{is_line_end as ends_line};
+ghost use Rattle.s3_load.specs.Inner.Reasons.{HasTried, IsCellFault, IsColumnFault, IsOfOtherType, IsRowFault, Reports, Tries};
 ghost use Rattle.s3_load.specs.Inner.Records.{HasTaken, IsRecordOf, with_zeros};
 
 use crate::columns::{Columns, cell_at, has_byte};
@@ -82,7 +84,8 @@ pub struct Faults {
 impl Faults {
     /// None yet.
     pub fn new(alloc: Global) -> Faults
-        ensures { result.count ≡ 0 }
+        ensures count { result.count ≡ 0 }
+        ensures none { result.first.items ≡ [] }
     {
         Faults {
             first: Vec::new(alloc),
@@ -91,8 +94,10 @@ impl Faults {
     }
 
     /// Adds one.
+    #[tactic(auto, using(crate::proofs::ReasonLemmas::one_reported, crate::proofs::ReasonLemmas::full_reported))]
     pub fn add(&mut self, fault: ValueFault) -> Result<(), AllocError>
-        ensures { 0 < self.new.count }
+        ensures some { 0 < self.new.count }
+        ensures adds { OnOk result (Reports (λ other. other ≡ fault) self.old self.new) }
     {
         self.count = self.count.saturating_add(1);
         if self.first.len() < MOST_FAULTS {
@@ -104,6 +109,7 @@ impl Faults {
 
 /// The record of a row; what is wrong with the row is added to the faults. None if the row has too many or too few cells, a cell
 /// that goes over the end of a line, or a key that isn't taken: such a row isn't compared with others.
+#[tactic(auto, using(crate::proofs::ReasonLemmas::shape_reported))]
 pub fn record_of(
     alloc: Global,
     order: &Order<'_>,
@@ -118,6 +124,7 @@ pub fn record_of(
     ensures row { IfOk result (λ row. faults.new.count ≡ 0 → IfSome row (λ row. IsRecordOf order.now.layout.now.record_length columns.now.fields.items columns.now.filled.items order.now.chosen.now (fields_of cells.now) row.bytes.items)) }
     ensures none { IfOk result (λ row. IfNone row (0 < faults.new.count)) }
     ensures before { OnOk result (faults.new.count ≡ 0 → faults.old.count ≡ 0) }
+    ensures reported { OnOk result (Reports (IsRowFault order.now.layout.now.record_length columns.now.fields.items columns.now.filled.items order.now.chosen.now (fields_of cells.now)) faults.old faults.new) }
 {
     let line = line_of(cells, lines);
     if let Some(cell) = cell_over_lines(cells) {
@@ -146,19 +153,30 @@ pub fn record_of(
 }
 
 /// The first cell of a row that goes over the end of a line, if there is one.
-fn cell_over_lines(cells: &ByteRecord) -> Option<&[u8]> {
+#[tactic(auto, using(crate::proofs::ReasonLemmas::is_listed))]
+fn cell_over_lines(cells: &ByteRecord) -> Option<&[u8]>
+    ensures listed { IfSome result (λ cell. Contains (fields_of cells.now) cell.now) }
+    ensures over { IfSome result (λ cell. list_any ends_line cell.now ≡ true) }
+{
     for column in 0..cells.len() {
         let cell = cell_at(cells, column);
-        if cell.iter().any(|byte| is_line_end(*byte)) {
+        if goes_over_line(cell) {
             return Some(cell);
         }
     }
     None
 }
 
+/// Whether a cell goes over the end of a line.
+fn goes_over_line(cell: &[u8]) -> bool
+    ensures { result ≡ list_any ends_line cell.now }
+{
+    cell.iter().any(|byte| is_line_end(*byte))
+}
+
 /// Makes the record of a row of a blank one. What is wrong with a cell, and that the record isn't of the chosen type, is added to the
 /// faults. Answers whether each field of the key has its value.
-#[tactic(auto, using(crate::proofs::RecordLemmas::is_record, crate::proofs::RecordLemmas::key_or_told))]
+#[tactic(auto, using(crate::proofs::RecordLemmas::is_record, crate::proofs::RecordLemmas::key_or_told, crate::proofs::ReasonLemmas::row_reported))]
 fn put_cells(
     alloc: Global,
     order: &Order<'_>,
@@ -176,6 +194,7 @@ fn put_cells(
     ensures row { OnOk result (faults.new.count ≡ 0 → IsRecordOf (length bytes.old) columns.now.fields.items columns.now.filled.items order.now.chosen.now (fields_of cells.now) bytes.new) }
     ensures key { IfOk result (λ has_key. has_key ≡ true ⊎ (0 < faults.new.count)) }
     ensures before { OnOk result (faults.new.count ≡ 0 → faults.old.count ≡ 0) }
+    ensures reported { OnOk result (Reports (IsRowFault (length bytes.old) columns.now.fields.items columns.now.filled.items order.now.chosen.now (fields_of cells.now)) faults.old faults.new) }
 {
     fill(&columns.filled, bytes);
     order.chosen.put_codes(bytes);
@@ -202,6 +221,7 @@ fn tell_other_type(
 ) -> Result<(), AllocError>
     ensures is_meant { OnOk result (faults.new.count ≡ 0 → is_chosen chosen.now bytes.now ≡ true) }
     ensures before { OnOk result (faults.new.count ≡ 0 → faults.old.count ≡ 0) }
+    ensures reported { OnOk result (Reports (IsOfOtherType chosen.now bytes.now) faults.old faults.new) }
 {
     match chosen.fault_in(bytes) {
         None => Ok(()),
@@ -248,6 +268,8 @@ fn take_cells(
     ensures taken { OnOk result (faults.new.count ≡ 0 → HasTaken fields.now (fields_of cells.now) bytes.old (length fields.now) bytes.new) }
     ensures key { IfOk result (λ has_key. has_key ≡ true ⊎ (0 < faults.new.count)) }
     ensures before { OnOk result (faults.new.count ≡ 0 → faults.old.count ≡ 0) }
+    ensures tried { OnOk result (HasTried fields.now (fields_of cells.now) bytes.old (length fields.now) bytes.new) }
+    ensures reported { OnOk result (Reports (IsColumnFault fields.now (fields_of cells.now)) faults.old faults.new) }
 {
     let mut has_key = true;
     for (column, field) in fields.iter().enumerate() {
@@ -280,6 +302,8 @@ fn take_cell(
     ensures taken { OnOk result (faults.new.count ≡ 0 → Takes field.now cell.now bytes.old bytes.new) }
     ensures key { IfOk result (λ has_key. has_key ≡ true ⊎ (0 < faults.new.count)) }
     ensures before { OnOk result (faults.new.count ≡ 0 → faults.old.count ≡ 0) }
+    ensures tried { OnOk result (Tries field.now cell.now bytes.old bytes.new) }
+    ensures reported { OnOk result (Reports (IsCellFault field.now cell.now) faults.old faults.new) }
 {
     match field.take(alloc, cell, bytes) {
         Ok(()) => Ok(true),

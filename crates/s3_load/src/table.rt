@@ -9,6 +9,7 @@ ghost use Rattle.csv.specs.declared.reader.Trim.TheVariants as trim;
 ghost use Rattle.s3_cells.specs.Inner.Fields.{LiesIn};
 ghost use Rattle.s3_load.specs.Inner.Columns.{LieApart};
 ghost use Rattle.s3_load.specs.Inner.KeyOrder.{AreInKeyOrder, ComesBefore, key_in as key_in_spec};
+ghost use Rattle.s3_load.specs.Inner.Reasons.{ReportsRow, ReportsRows};
 ghost use Rattle.s3_load.specs.Inner.Tables.{AddsRow, AreRowsOf, FindsEnd, IsReading, IsTable};
 
 use crate::columns::{Columns, read_columns};
@@ -96,6 +97,7 @@ fn read_rows<R: Read + Drop>(
     requires untrimmed { reader_trim reader.old ≡ trim.None }
     ensures rows { IfOk result (λ rows. faults.new.count ≡ 0 → (text : List ℕ) (heading : List (List ℕ)) → IsReading R.remaining (Some text) order.now.delimiter (heading ∷ []) reader.old → AreRowsOf text order.now.delimiter heading order.now.layout.now.record_length columns.now.fields.items columns.now.filled.items order.now.chosen.now rows.items) }
     ensures before { OnOk result (faults.new.count ≡ 0 → faults.old.count ≡ 0) }
+    ensures reported { OnOk result ((text : List ℕ) (heading : List (List ℕ)) → IsReading R.remaining (Some text) order.now.delimiter (heading ∷ []) reader.old → ReportsRows text order.now.delimiter heading order.now.layout.now.record_length columns.now.fields.items columns.now.filled.items order.now.chosen.now faults.old faults.new) }
 {
     let mut rows: Vec<Row> = Vec::new(alloc);
     let mut cells = ByteRecord::new(alloc);
@@ -130,6 +132,8 @@ fn read_row<R: Read + Drop>(
     ensures ready { OnOk result (Ready reader.new) }
     ensures untrimmed { OnOk result (reader_trim reader.new ≡ trim.None) }
     ensures before { OnOk result (faults.new.count ≡ 0 → faults.old.count ≡ 0) }
+    ensures reported { IfOk result (λ found. found ≡ true → ReportsRow R.remaining order.now.layout.now.record_length columns.now.fields.items columns.now.filled.items order.now.chosen.now reader.old reader.new faults.old faults.new) }
+    ensures silent { IfOk result (λ found. found ≡ false → faults.new ≡ faults.old) }
 {
     if !next_row(reader, cells)? {
         return Ok(false);

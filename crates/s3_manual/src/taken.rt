@@ -9,6 +9,7 @@ pub fn shown(takes: Takes) -> Option<&'static str> {
         Takes::Files | Takes::FollowingFiles => Some("FILE"),
         Takes::Value(shown)
         | Takes::Needed(shown)
+        | Takes::Values(shown)
         | Takes::OneOf(shown, _)
         | Takes::NeededOneOf(shown, _)
         | Takes::Following(shown)
@@ -30,7 +31,7 @@ pub fn is_needed(takes: Takes) -> bool {
 pub fn is_repeated(takes: Takes) -> bool {
     matches!(
         takes,
-        Takes::Files | Takes::FollowingFiles | Takes::Following(_)
+        Takes::Values(_) | Takes::Files | Takes::FollowingFiles | Takes::Following(_)
     )
 }
 

@@ -1,25 +1,43 @@
 //! The page of the day, `index.html` of a book.
 
 use crate::day::{Over, OwnDesk};
-use crate::pages::{Making, push_file, write_bytes};
+use crate::pages::{Making, push_date, push_file, write_bytes};
 use s3_cards::LevelId;
+use s3_cards::ebcdic::DIGIT_0;
 use s3_day_book::{BookHalt, BookJob, DayBook, page_of_day};
-use s3_day_files::{DayFault, Form, Paper};
+use s3_day_files::{DayFault, Form, Order, Paper};
 use s3_decks::push_name;
 use s3_operating::{LevelEnd, NotedHalt, PrintedJob, Replier, Verdict};
+use s3_refusals::Shown;
 use std::alloc::{AllocError, Global};
 use std::io::Write;
+
+/// The date of a job if none was set.
+const NO_DATE: [u8; 6] = [DIGIT_0; 6];
+
+/// What became of a day and its pack, as the page shows it.
+#[derive(Clone, Copy)]
+pub struct Outcome {
+    /// The exit status of the day.
+    pub status: u8,
+    /// Whether the pack is saved.
+    pub is_saved: bool,
+}
 
 /// Writes the page of the day.
 pub fn write_index<'n>(
     rt: &HostRuntime,
-    paper: Paper<'n>,
+    order: &Order<'n>,
     making: Making,
     desk: &OwnDesk<'_>,
     over: &Over,
+    outcome: Outcome,
 ) -> Result<(), DayFault<'n>> {
+    let Some(paper) = order.paper else {
+        return Ok(());
+    };
     let alloc = rt.alloc();
-    let book = book_of(alloc, desk, over)?;
+    let book = book_of(alloc, order, desk, over, outcome)?;
     let page = match page_of_day(alloc, &book, &over.before, &over.day.run.pack) {
         Ok(page) => page,
         // both packs were mounted before, so only memory can be refused
@@ -37,7 +55,13 @@ fn index_path(alloc: Global, paper: Paper<'_>) -> Result<String, AllocError> {
 }
 
 /// What the desk has of a day.
-fn book_of(alloc: Global, desk: &OwnDesk<'_>, over: &Over) -> Result<DayBook, AllocError> {
+fn book_of(
+    alloc: Global,
+    order: &Order<'_>,
+    desk: &OwnDesk<'_>,
+    over: &Over,
+    outcome: Outcome,
+) -> Result<DayBook, AllocError> {
     let mut jobs = Vec::new(alloc);
     push_jobs(alloc, &mut jobs, desk, LevelId::One, over.closing.one)?;
     push_jobs(alloc, &mut jobs, desk, LevelId::Two, over.closing.two)?;
@@ -46,7 +70,8 @@ fn book_of(alloc: Global, desk: &OwnDesk<'_>, over: &Over) -> Result<DayBook, Al
     push_halts(alloc, &mut halts, desk, LevelId::Two)?;
     Ok(DayBook {
         title: String::from_str(alloc, "Book of the day")?,
-        status: words_of(over.closing.verdict),
+        given: given_of(alloc, order, desk)?,
+        status: status_of(alloc, order, over.closing.verdict, outcome)?,
         summary: String::from_str(alloc, over.closing.summary.as_str())?,
         turns: desk.turns(),
         jobs,
@@ -54,15 +79,108 @@ fn book_of(alloc: Global, desk: &OwnDesk<'_>, over: &Over) -> Result<DayBook, Al
     })
 }
 
-/// The status of a day, and what it means. The pack isn't saved yet.
+/// The status of a day, what it means, and whether its pack is saved.
+fn status_of(
+    alloc: Global,
+    order: &Order<'_>,
+    verdict: Verdict,
+    outcome: Outcome,
+) -> Result<String, AllocError> {
+    let mut text = String::new(alloc);
+    let status = outcome.status;
+    let words = words_of(verdict);
+    write!(text, "Status {status}: ")?;
+    match order.save {
+        None => write!(text, "{words}. Nothing is saved: there is no --save.")?,
+        Some(_) if !outcome.is_saved => write!(text, "the pack isn't saved; {words}.")?,
+        Some(path) => push_saved(&mut text, words, path)?,
+    }
+    Ok(text)
+}
+
+fn push_saved(text: &mut String, words: &str, path: &str) -> Result<(), AllocError> {
+    let path = Shown(path);
+    write!(text, "{words}. The pack is saved in {path}.")
+}
+
+/// How both levels ended.
 fn words_of(verdict: Verdict) -> &'static str {
     match verdict {
-        Verdict::Clean => "Status 0: both levels are done, and each job came to its end.",
-        Verdict::Passed => {
-            "Status 5: both levels are done, and a job was passed over or ended by a reply."
-        }
-        Verdict::Unfinished => "Status 4: a level isn't done.",
+        Verdict::Clean => "both levels are done, and each job came to its end",
+        Verdict::Passed => "both levels are done, and a job was passed over or ended by a reply",
+        Verdict::Unfinished => "a level isn't done",
     }
+}
+
+/// What the day was begun with: its pack, its decks and the dates of its jobs.
+fn given_of(alloc: Global, order: &Order<'_>, desk: &OwnDesk<'_>) -> Result<String, AllocError> {
+    let mut text = String::new(alloc);
+    push_pack(&mut text, order.pack)?;
+    push_deck(&mut text, LevelId::One, &order.deck1)?;
+    push_deck(&mut text, LevelId::Two, &order.deck2)?;
+    push_dates(&mut text, desk)?;
+    Ok(text)
+}
+
+fn push_pack(text: &mut String, pack: Option<&str>) -> Result<(), AllocError> {
+    match pack {
+        Some(path) => {
+            let path = Shown(path);
+            write!(text, "Pack: {path}\n")
+        }
+        None => text.push_str("Pack: a new one\n"),
+    }
+}
+
+/// Appends the files of a level's deck.
+fn push_deck(text: &mut String, level: LevelId, files: &[&str]) -> Result<(), AllocError> {
+    let number = level.number();
+    write!(text, "Deck of level {number}: ")?;
+    if files.is_empty() {
+        text.push_str("none")?;
+    }
+    for (place, file) in files.iter().enumerate() {
+        push_file_name(text, place, *file)?;
+    }
+    text.push('\n')
+}
+
+/// Appends the name of a file after so many others.
+fn push_file_name(text: &mut String, place: usize, name: &str) -> Result<(), AllocError> {
+    if place > 0 {
+        text.push_str(", ")?;
+    }
+    let name = Shown(name);
+    write!(text, "{name}")
+}
+
+/// Appends the dates of the jobs of both levels, one after another.
+fn push_dates(text: &mut String, desk: &OwnDesk<'_>) -> Result<(), AllocError> {
+    let one = desk.printed_jobs(LevelId::One)?;
+    let two = desk.printed_jobs(LevelId::Two)?;
+    text.push_str("Dates of its jobs:")?;
+    let after_one = push_dates_of(text, NO_DATE, &one)?;
+    let last = push_dates_of(text, after_one, &two)?;
+    if last == NO_DATE {
+        text.push_str(" none")?;
+    }
+    text.push('\n')
+}
+
+/// Appends the date of each job that has another one than the job before it, given the last date that is there. Returns the last one.
+fn push_dates_of(
+    text: &mut String,
+    before: [u8; 6],
+    jobs: &[PrintedJob],
+) -> Result<[u8; 6], AllocError> {
+    let mut last = before;
+    for job in jobs {
+        if job.date != NO_DATE && job.date != last {
+            push_date(text, job.date)?;
+            last = job.date;
+        }
+    }
+    Ok(last)
 }
 
 /// Appends the jobs of a level, given how it ended.
@@ -80,6 +198,7 @@ fn push_jobs(
             level,
             number: job.number as u64,
             program: program_of(alloc, job)?,
+            kind: kind_of(job),
             first: turns.first,
             last: turns.last,
             lines: job.lines,
@@ -98,6 +217,15 @@ fn program_of(alloc: Global, job: &PrintedJob) -> Result<String, AllocError> {
         None => text.push_str("faulty")?,
     }
     Ok(text)
+}
+
+/// What kind of job it is.
+fn kind_of(job: &PrintedJob) -> &'static str {
+    match job.program {
+        Some(_) if job.is_compile => "compile",
+        Some(_) => "run",
+        None => "faulty",
+    }
 }
 
 /// The file of a job's report, if it printed.

@@ -1,8 +1,8 @@
 //! A day, from its first turn to what is reported at its end.
 
-use crate::book::write_index;
+use crate::book::{Outcome, write_index};
 use crate::pages::{Making, report_paper, write_paper};
-use crate::saving::{Place, end_day, end_unwritten};
+use crate::saving::{Place, end_day, end_unwritten, status_of};
 use s3_cli::{CliFault, SessionFault};
 use s3_command_line::{FILE, OUT_OF_MEMORY};
 use s3_day_files::{
@@ -13,7 +13,7 @@ use s3_day_log::{Begun, DayLog};
 use s3_desk::{Day, Printing, operate_printing};
 use s3_host_files::StandardOutput;
 use s3_operating::{Closing, Desk, Journal, Questioned, Seat, Settings, Tape, Verdict};
-use s3_refusals::Reason;
+use s3_refusals::{Reason, Shown};
 use s3_replay::Performed;
 use s3_replies::Rules;
 use s3_reports::Reports;
@@ -70,6 +70,10 @@ pub struct Over {
     pub closing: Closing,
     /// The pack before the day, if a book shows it.
     pub before: Vec<u8>,
+    /// Whether the page of the day is written.
+    pub has_index: bool,
+    /// Whether the pack is saved.
+    pub is_saved: bool,
 }
 
 impl Over {
@@ -194,19 +198,59 @@ fn hand_out<'n>(
         place,
     } = ending;
     let mut printing = printing;
+    let mut over = over;
     let written = match write_decks(rt, order, texts, deck1, deck2) {
-        Ok(()) => write_reports(rt, order, &mut printing, texts, &over, &kept),
+        Ok(()) => write_reports(rt, order, &mut printing, texts, &mut over, &kept),
         Err(fault) => Err(fault),
     };
-    end_written(
-        rt,
-        order,
-        &mut printing.operator,
-        &kept,
-        &over,
-        place,
-        written,
-    )
+    let desk = &mut printing.operator;
+    let done = end_written(rt, order, desk, &kept, &mut over, place, written);
+    end_book(rt, order, desk, &kept, &over, done)
+}
+
+/// Writes the page of the day once more, with what became of the pack, and gives the exit status.
+fn end_book<'n>(
+    rt: &HostRuntime,
+    order: &Order<'n>,
+    desk: &OwnDesk<'_>,
+    kept: &KeptOutputs,
+    over: &Over,
+    done: Result<u8, DayFault<'n>>,
+) -> Result<u8, DayFault<'n>> {
+    if !over.has_index || order.save.is_none() {
+        return done;
+    }
+    let outcome = Outcome {
+        status: match &done {
+            Ok(status) => *status,
+            Err(fault) => fault.status(),
+        },
+        is_saved: over.is_saved,
+    };
+    // the page that is replaced is that of this day
+    let making = Making {
+        overwrites: true,
+        limit: kept.limit,
+        is_reported: false,
+    };
+    let Err(fault) = write_index(rt, order, making, desk, over, outcome) else {
+        return done;
+    };
+    if done.is_err() {
+        return done;
+    }
+    tell_saved(rt, order, over.is_saved);
+    Err(fault)
+}
+
+/// Reports whether the pack is saved, after the page of the day couldn't be written.
+fn tell_saved(rt: &HostRuntime, order: &Order<'_>, is_saved: bool) {
+    if let Some(path) = order.save
+        && is_saved
+    {
+        let path = Shown(path);
+        let _ = writeln!(rt.stderr(), "the pack is saved in {path} all the same");
+    }
 }
 
 /// Saves the pack, if all outputs are written, and gives the exit status.
@@ -215,7 +259,7 @@ fn end_written<'n>(
     order: &Order<'n>,
     desk: &mut OwnDesk<'_>,
     kept: &KeptOutputs,
-    over: &Over,
+    over: &mut Over,
     place: Place<'n>,
     written: Result<(), DayFault<'n>>,
 ) -> Result<u8, DayFault<'n>> {
@@ -320,18 +364,20 @@ fn closed<'n>(
             day,
             closing,
             before,
+            has_index: false,
+            is_saved: false,
         }),
         Err(_) => Err(refusal_of(order, desk)),
     }
 }
 
-/// Writes the reports and the pages, and reports how both levels ended.
+/// Writes the reports and the pages, and reports how both levels ended. If the reports can't be written, the pages are all the same.
 fn write_reports<'n>(
     rt: &HostRuntime,
     order: &Order<'n>,
     printing: &mut PrintingDesk<'_>,
     texts: Texts<'_>,
-    over: &Over,
+    over: &mut Over,
     kept: &KeptOutputs,
 ) -> Result<(), DayFault<'n>> {
     let is_written = printing.reports.finish(&over.day.run);
@@ -344,14 +390,30 @@ fn write_reports<'n>(
         tell_size(rt, texts, desk.script_len());
     }
     test_outputs(order, desk)?;
-    if printing.reports.writer().has_lost_reader() {
+    let has_lost_reader = printing.reports.writer().has_lost_reader();
+    if has_lost_reader {
         desk.tell(
             "the reader of standard output ended before the reports did; everything else was done\n",
         );
     } else if !is_written {
         report_output_failure(rt, printing.reports.writer().failure());
-        return Err(DayFault::Cli(FILE));
     }
+    write_paper_asked(rt, order, desk, over, kept)?;
+    if is_written || has_lost_reader {
+        Ok(())
+    } else {
+        Err(DayFault::Cli(FILE))
+    }
+}
+
+/// Writes the pages, if they are asked for.
+fn write_paper_asked<'n>(
+    rt: &HostRuntime,
+    order: &Order<'n>,
+    desk: &OwnDesk<'_>,
+    over: &mut Over,
+    kept: &KeptOutputs,
+) -> Result<(), DayFault<'n>> {
     match order.paper {
         Some(paper) => {
             let making = Making {
@@ -359,23 +421,29 @@ fn write_reports<'n>(
                 limit: kept.limit,
                 is_reported: over.is_reported(order),
             };
-            write_pages(rt, paper, making, desk, over)
+            write_pages(rt, order, paper, making, desk, over)
         }
         None => Ok(()),
     }
 }
 
-/// Writes the pages of the jobs, and of a book the page of the day, and reports where they are.
+/// Writes the pages of the jobs, and of a book the page of the day, and reports where they are. The pack isn't saved yet.
 fn write_pages<'n>(
     rt: &HostRuntime,
+    order: &Order<'n>,
     paper: Paper<'n>,
     making: Making,
     desk: &OwnDesk<'_>,
-    over: &Over,
+    over: &mut Over,
 ) -> Result<(), DayFault<'n>> {
     let jobs = write_paper(rt, paper, making, desk, &over.day.run)?;
     if paper.form.is_book() {
-        write_index(rt, paper, making, desk, over)?;
+        let outcome = Outcome {
+            status: status_of(over.closing.verdict),
+            is_saved: false,
+        };
+        write_index(rt, order, making, desk, over, outcome)?;
+        over.has_index = true;
     }
     if making.is_reported {
         report_paper(rt, paper, jobs);

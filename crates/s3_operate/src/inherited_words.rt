@@ -22,7 +22,7 @@ pub fn words_again(
     log: &DayLog,
 ) -> Result<Option<Vec<String>>, AllocError> {
     let old = command_words(alloc, &log.begun.words)?;
-    match command(alloc)?.try_get_matches_from(old.as_slice()) {
+    match command(alloc, "operate")?.try_get_matches_from(old.as_slice()) {
         Ok(parsed) => whole_words(alloc, given, matches, &parsed),
         Err(_) => Ok(None),
     }

@@ -23,9 +23,9 @@ use s3_cards::LevelId;
 use s3_cli::{CliFault, RunFault, SessionFault};
 use s3_command_line::{OUT_OF_MEMORY, command, names_standard_error};
 use s3_day_files::{
-    Again, Begin, DayFault, DayJournal, DayPack, Decks, ExitZero, Given, Order, Outputs, ReadDecks,
-    begin_day, list_jobs, names, read_log, read_rules, rules_text, test_decks, test_journal,
-    test_outputs, test_same,
+    Again, Begin, DayFault, DayJournal, DayPack, Decks, ExitZero, Given, ListedDecks, Order,
+    Outputs, ReadDecks, begin_day, list_jobs, names, read_log, read_rules, rules_text, test_decks,
+    test_journal, test_outputs, test_same,
 };
 use s3_day_log::DayLog;
 use s3_labels::{Pack, Refusal, Refused};
@@ -84,7 +84,7 @@ fn operate_again(rt: &HostRuntime, matches: &ArgMatches<'_>, words: &[String], p
         Ok(None) => return refuse_log(rt, path),
         Err(_) => return refuse_for_memory(rt),
     };
-    let Ok(parser) = command(rt.alloc()) else {
+    let Ok(parser) = command(rt.alloc(), "operate") else {
         return refuse_for_memory(rt);
     };
     match parser.try_get_matches_from(whole.as_slice()) {
@@ -297,10 +297,10 @@ fn operate_read<'a>(
     again: Option<Again<'a>>,
 ) -> Result<u8, DayFault<'a>> {
     match look_at_decks(rt, order, &mut decks, again) {
-        Ok(Some(read)) => {
+        Ok(Some(listed)) => {
             let known = Known {
                 logged: again.map(|again| again.log),
-                read,
+                listed,
             };
             operate_begun(rt, order, decks, rest, known)
         }
@@ -314,8 +314,8 @@ fn operate_read<'a>(
 struct Known<'a> {
     /// The log that is done again.
     logged: Option<&'a DayLog>,
-    /// Both decks.
-    read: ReadDecks,
+    /// Both decks, and their jobs.
+    listed: ListedDecks,
 }
 
 /// Does a day, if its journal lets it begin.
@@ -387,20 +387,20 @@ fn look_at_decks<'a>(
     order: &Order<'a>,
     decks: &mut Decks<'a>,
     again: Option<Again<'a>>,
-) -> Result<Option<ReadDecks>, DayFault<'a>> {
+) -> Result<Option<ListedDecks>, DayFault<'a>> {
     if let Some(again) = again {
         test_same(rt, again, &decks.begun)?;
     }
     decks.take_up(rt, order)?;
-    let read = decks.look(rt, order)?;
+    let listed = decks.look(rt, order)?;
     if let Some(level) = level_begun_anew(order)
-        && read.is_some()
+        && listed.is_some()
         && order.redo.is_none()
         && !order.is_quiet
     {
         report_first_job(rt, level);
     }
-    Ok(read)
+    Ok(listed)
 }
 
 /// The level that begins at its first job while the other one is taken up at a line, if there is one.
@@ -436,11 +436,12 @@ fn operate_over<'a>(
         rules,
         text: _,
     } = rest;
-    let Known { logged, read } = known;
+    let Known { logged, listed } = known;
+    let ListedDecks { read, jobs1, jobs2 } = listed;
     let day = Prepared {
         begun,
-        one: Seat::new(rt.alloc(), LevelId::One, &one),
-        two: Seat::new(rt.alloc(), LevelId::Two, &two),
+        one: Seat::new(rt.alloc(), LevelId::One, &one, jobs1),
+        two: Seat::new(rt.alloc(), LevelId::Two, &two, jobs2),
         rules: &rules,
         logged,
         is_one_read: read.one.refusal.is_none(),

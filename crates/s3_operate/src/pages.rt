@@ -294,15 +294,16 @@ fn title_of(alloc: Global, level: LevelId, job: &PrintedJob) -> Result<String, A
     let number = job.number;
     write!(title, "job {number} of level {level}")?;
     if job.date.iter().any(|digit| *digit != DIGIT_0) {
+        title.push(',')?;
         push_date(&mut title, job.date)?;
     }
     Ok(title)
 }
 
-/// Appends a date, as `, 12/31/76`.
-fn push_date(title: &mut String, date: [u8; 6]) -> Result<(), AllocError> {
+/// Appends a date, as ` 12/31/76`.
+pub fn push_date(title: &mut String, date: [u8; 6]) -> Result<(), AllocError> {
     let [month1, month2, day1, day2, year1, year2] = date;
-    title.push_str(", ")?;
+    title.push(' ')?;
     push_characters(title, &[month1, month2])?;
     title.push('/')?;
     push_characters(title, &[day1, day2])?;

@@ -45,14 +45,14 @@ pub struct Place<'n> {
     pub journal: Option<DayJournal<'n>>,
 }
 
-/// Saves the pack, if that is asked for and the day allows it, reports whether it is saved, logs the end of the day, and gives the
+/// Saves the pack, if that is asked for and the day allows it, notes and reports whether it is saved, logs the end of the day, and gives the
 /// exit status.
 pub fn end_day<'n>(
     rt: &HostRuntime,
     order: &Order<'n>,
     desk: &mut OwnDesk<'_>,
     kept: &KeptOutputs,
-    over: &Over,
+    over: &mut Over,
     place: Place<'n>,
 ) -> Result<u8, DayFault<'n>> {
     if let Err(fault) = sync_script(rt, order, desk, kept) {
@@ -87,7 +87,7 @@ fn save<'n>(
     order: &Order<'n>,
     desk: &mut OwnDesk<'_>,
     kept: &KeptOutputs,
-    over: &Over,
+    over: &mut Over,
     place: Place<'n>,
     saving: Saving<'n, '_>,
 ) -> Result<u8, DayFault<'n>> {
@@ -110,6 +110,7 @@ fn save<'n>(
     let pack = saved_file(rt.alloc(), saving)?;
     let path = saving.path;
     let done = saved(rt, order, path, locked, kept.limit, &over.day.run.pack);
+    over.is_saved = matches!(done, Ok(()) | Err(FileFault::Unsynced(_)));
     end_aside(rt, &aside, &done);
     if let Some(journal) = &journal {
         journal.end_save(rt, &done);
@@ -443,7 +444,8 @@ fn saved_file(alloc: Global, saving: Saving<'_, '_>) -> Result<NamedFile, AllocE
     })
 }
 
-fn status_of(verdict: Verdict) -> u8 {
+/// The exit status of a day, by how its levels ended.
+pub fn status_of(verdict: Verdict) -> u8 {
     match verdict {
         Verdict::Clean => DONE,
         Verdict::Passed => PASSED_OVER,

@@ -142,9 +142,25 @@ impl<'a> Levels<'a> {
         let mut message = Message::new(self.alloc);
         push_summary(&mut message, &self.one, one);
         self.push_turns(&mut message, one);
+        self.push_unused(&mut message, &self.one);
         push_summary(&mut message, &self.two, two);
         self.push_turns(&mut message, two);
+        self.push_unused(&mut message, &self.two);
         message
+    }
+
+    /// Appends the next reply that a log has for a level, if no halt got it.
+    fn push_unused(&self, message: &mut Message, seat: &Seat<'_>) {
+        let Some(log) = self.settings.logged else {
+            return;
+        };
+        if let Some(reply) = log.reply(seat.level, seat.replies) {
+            message.push("  no halt got the log's next reply, ");
+            message.push_number(u64::from(reply.digit));
+            message.push(" to ");
+            message.push_letters(reply.code);
+            message.push(": compare the halts with those of the log\n");
+        }
     }
 
     /// Appends how many turns a level may take, and what to do, if it was stopped by that.

@@ -28,6 +28,10 @@ const BEFORE_HALT: &'static str = "that was typed before this question; once mor
 /// Printed for a line that was typed before another question was asked.
 const BEFORE_QUESTION: &'static str = "that was typed before it was asked; once more\n";
 
+/// Printed for a line of replies that doesn't end.
+const TOO_LONG: &'static str =
+    "a line of the replies has more than 4,194,304 bytes, so no more replies are read; give --replies - a list with a reply on each line\n";
+
 /// Asked of a person when an output fails.
 const WITHOUT: &'static str = "go on without it? yes, or no to stop the day ";
 
@@ -216,27 +220,12 @@ impl<'a, R: Read + Drop, W: Write + Drop, F: Write + Drop, C: Clock + Drop> Desk
         self.test_outputs()
     }
 
-    /// Begins the day, once: takes the decks as they were read, reports which can't be, and begins the log. `Err` is also returned for
-    /// a day that is refused.
-    fn begin<S: PackStore>(&mut self, machine: &Bureau<S>) -> Result<(), AllocError> {
+    /// Begins the day, once: reports decks that can't be read, and begins the log. `Err` is also returned for a day that is refused.
+    fn begin(&mut self) -> Result<(), AllocError> {
         if self.has_begun {
             return Ok(());
         }
-        self.levels.read(machine)?;
-        self.open_day()
-    }
-
-    /// Begins a day that had no entry.
-    fn begin_unread(&mut self) -> Result<(), AllocError> {
-        if self.has_begun {
-            return Ok(());
-        }
-        self.levels.read_texts()?;
-        self.open_day()
-    }
-
-    /// Begins a day whose decks are read.
-    fn open_day(&mut self) -> Result<(), AllocError> {
+        self.levels.find_faults()?;
         self.has_begun = true;
         self.tell_unread(LevelId::One)?;
         self.tell_unread(LevelId::Two)?;
@@ -289,7 +278,7 @@ impl<'a, R: Read + Drop, W: Write + Drop, F: Write + Drop, C: Clock + Drop> Desk
         halt: &Halt,
         evidence: &Evidence,
     ) -> Result<(), AllocError> {
-        self.begin(machine)?;
+        self.begin()?;
         self.note_jobs(machine, level)?;
         self.levels
             .seat_mut(level)
@@ -456,16 +445,23 @@ impl<'a, R: Read + Drop, W: Write + Drop, F: Write + Drop, C: Clock + Drop> Desk
             return Ok(None);
         }
         let asked_at = self.clock.milliseconds();
-        let Listed::Line(typed) = next_listed(self.levels.alloc, &mut self.reader)? else {
-            self.has_ended = true;
-            self.tell("(no more replies)\n");
-            return Ok(None);
+        let typed = match next_listed(self.levels.alloc, &mut self.reader)? {
+            Listed::Line(typed) => typed,
+            Listed::TooLong => return Ok(self.ended(TOO_LONG)),
+            Listed::Ended | Listed::Failed => return Ok(self.ended("(no more replies)\n")),
         };
         if self.is_too_soon(asked_at) {
             self.tell(before);
             return Ok(Some(Typed::Nothing));
         }
         Ok(Some(typed))
+    }
+
+    /// No more replies are read, which is reported.
+    fn ended(&mut self, why: &str) -> Option<Typed> {
+        self.has_ended = true;
+        self.tell(why);
+        None
     }
 
     /// Asks a person until the line is a yes or a no. The end of the input is a no.
@@ -592,7 +588,7 @@ impl<'a, R: Read + Drop, W: Write + Drop, F: Write + Drop, C: Clock + Drop> Desk
 
     /// Counts all entries that were performed.
     pub(crate) fn count_all(&mut self, performed: &Performed) -> Result<(), AllocError> {
-        self.begin_unread()?;
+        self.begin()?;
         self.levels.tally.count(performed.parts());
         Ok(())
     }
@@ -613,7 +609,7 @@ impl<'a, S: PackStore, R: Read + Drop, W: Write + Drop, F: Write + Drop, C: Cloc
         _papers: Papers<'_>,
         performed: &Performed,
     ) -> Result<(), AllocError> {
-        self.begin(machine)?;
+        self.begin()?;
         self.levels.tally.count(performed.parts());
         let is_halted = machine.level(level).waits().is_some();
         self.tape

@@ -79,18 +79,10 @@ impl<'a> Levels<'a> {
         }
     }
 
-    /// Takes the decks as they were read.
-    pub(crate) fn read<S: PackStore>(&mut self, machine: &Bureau<S>) -> Result<(), AllocError> {
-        self.one
-            .read(self.alloc, machine.level(LevelId::One).deck())?;
-        self.two
-            .read(self.alloc, machine.level(LevelId::Two).deck())
-    }
-
-    /// Reads the decks from their texts.
-    pub(crate) fn read_texts(&mut self) -> Result<(), AllocError> {
-        self.one.read_text(self.alloc)?;
-        self.two.read_text(self.alloc)
+    /// Finds the faults of decks that can't be read.
+    pub(crate) fn find_faults(&mut self) -> Result<(), AllocError> {
+        self.one.find_fault(self.alloc)?;
+        self.two.find_fault(self.alloc)
     }
 
     /// Takes note of jobs of a level that have begun or ended.

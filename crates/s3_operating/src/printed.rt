@@ -4,7 +4,7 @@ use crate::clock::Clock;
 use crate::desk::Desk;
 use s3_cards::ebcdic::DIGIT_0;
 use s3_cards::{LevelId, Name};
-use s3_day_log::Ledger;
+use s3_day_log::{Ledger, Purpose};
 use std::alloc::{AllocError, Global};
 use std::io::{Read, Write};
 
@@ -16,8 +16,10 @@ const NO_DATE: [u8; 6] = [DIGIT_0; 6];
 pub struct PrintedJob {
     /// Its number in the level, counted from 1 and on past 999.
     pub number: usize,
-    /// The program that it runs, if its statements name one.
+    /// The program that it compiles or runs, if its statements name one.
     pub program: Option<Name>,
+    /// Whether it compiles the program.
+    pub is_compile: bool,
     /// The date that it had: six digits mmddyy, in EBCDIC, all 0 if no job has set one.
     pub date: [u8; 6],
     /// How many lines it printed.
@@ -42,6 +44,7 @@ fn printed_jobs_of(alloc: Global, ledger: &Ledger) -> Result<Vec<PrintedJob>, Al
         jobs.push(PrintedJob {
             number: place.saturating_add(1),
             program: job.purpose.program(),
+            is_compile: matches!(job.purpose, Purpose::Compiles(_)),
             date,
             lines: job.lines,
         })?;

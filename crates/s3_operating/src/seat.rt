@@ -8,7 +8,7 @@ use crate::noted::NotedHalt;
 use s3_bureau::Halt;
 use s3_cards::{CardFault, Deck, DeckFault, LevelId};
 use s3_day_log::{Event, Ledger, Replier};
-use s3_decks::DeckText;
+use s3_decks::{DeckText, JobEntry};
 use s3_evidence::Begun as JobsOfHalts;
 use s3_level::Level;
 use s3_operator::{HaltCode, is_at_start};
@@ -55,14 +55,19 @@ pub struct Seat<'a> {
 }
 
 impl<'a> Seat<'a> {
-    /// A level with its deck, before the day.
-    pub fn new(alloc: Global, level: LevelId, deck: &'a DayDeck<'a>) -> Seat<'a> {
+    /// A level with its deck and the jobs of that, before the day.
+    pub fn new(
+        alloc: Global,
+        level: LevelId,
+        deck: &'a DayDeck<'a>,
+        jobs: Vec<JobEntry>,
+    ) -> Seat<'a> {
         Seat {
             level,
             deck,
             places: None,
             unread: None,
-            ledger: Ledger::new(alloc),
+            ledger: Ledger::new(alloc, jobs),
             shown_jobs: JobsOfHalts::new(alloc),
             halts: 0,
             waits: None,
@@ -80,20 +85,12 @@ impl<'a> Seat<'a> {
         }
     }
 
-    /// Takes the jobs of the deck, given its cards: none if it can't be read, whose fault is found then.
-    pub(crate) fn read(&mut self, alloc: Global, cards: &Deck) -> Result<(), AllocError> {
-        if cards.is_empty() && !self.deck.text().is_empty() {
+    /// Finds the fault of a deck that can't be read, which has no jobs.
+    pub(crate) fn find_fault(&mut self, alloc: Global) -> Result<(), AllocError> {
+        if self.ledger.jobs_left() == 0 {
             self.unread = fault_of(alloc, self.deck.text())?;
         }
-        self.ledger.read(alloc, cards)
-    }
-
-    /// Takes the jobs of the deck if its cards aren't in memory.
-    pub(crate) fn read_text(&mut self, alloc: Global) -> Result<(), AllocError> {
-        match Deck::read(alloc, self.deck.text()) {
-            Ok(cards) => self.read(alloc, &cards),
-            Err(_) => self.read(alloc, &Deck::empty(alloc)),
-        }
+        Ok(())
     }
 
     /// Finds the line of a file for each card of the deck, if it isn't found yet.

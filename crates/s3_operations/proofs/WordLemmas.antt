@@ -167,6 +167,10 @@ unpadded a n within = ap (λ k. a ++ replicate k 0x40) none ∙ append-nil a
     none : n - length a ≡ 0
     none = omega (arith, within)
 
+-- so texts as long as each other are compared as they are
+pub as_they_are : (a b : List ℕ) (order : Ordering) → length a ≡ length b → order ≡ slice_cmp nat_cmp a b → order ≡ text_order a b
+as_they_are a b order same is = is ∙ (λ i. slice_cmp nat_cmp (sym (unpadded a (length b) (omega (arith, same))) i) (sym (unpadded b (length a) (omega (arith, same))) i))
+
 pub left_shorter : (a b : List ℕ) (n : ℕ) → n ≡ min (length a) (length b) → length a ≤ n
     → text_order a b ≡ ordering_then (slice_cmp nat_cmp (take n a) (take n b)) (slice_cmp nat_cmp (replicate (length (drop n b)) 0x40) (drop n b))
 left_shorter a b n is least =

@@ -78,6 +78,7 @@ fn short_order(left: &[u8], right: &[u8]) -> Ordering
 }
 
 /// The order of two texts as long as each other.
+#[inline(never)]
 fn order_of_same(left: &[u8], right: &[u8]) -> Ordering
     requires { length left.now ≡ length right.now }
     ensures { result ≡ slice_cmp nat_cmp left.now right.now }
@@ -127,7 +128,8 @@ fn whole_order(left: &[u8], right: &[u8]) -> Ordering
     }
 }
 
-/// The order of two texts by their codes, the shorter one padded with blanks. Most texts differ in their first code.
+/// The order of two texts by their codes, the shorter one padded with blanks. Most texts differ in their first code, and most of the
+/// others are as long as each other.
 pub fn text_order(left: &[u8], right: &[u8]) -> Ordering
     ensures { result ≡ text_order_spec left.now right.now }
 {
@@ -136,6 +138,9 @@ pub fn text_order(left: &[u8], right: &[u8]) -> Ordering
         if order.is_ne() {
             return order;
         }
+    }
+    if left.len() == right.len() {
+        return order_of_same(left, right);
     }
     whole_order(left, right)
 }

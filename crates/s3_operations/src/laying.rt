@@ -47,18 +47,28 @@ fn lay_whole(target: &mut [u8], text: &[u8])
     target.copy_from_slice(text);
 }
 
-/// Lays a text over another one as long: one of 1 to 32 bytes by its two ends, which may lie over each other.
+/// Lays a text over another one as long: one of up to 32 bytes by its two ends, which may lie over each other.
 pub fn lay(target: &mut [u8], text: &[u8])
     requires { length target.old ≡ length text.now }
     ensures { target.new ≡ text.now }
 {
-    match text.len() {
-        1 => lay_by_ends::<1>(target, text),
-        2..=3 => lay_by_ends::<2>(target, text),
-        4..=7 => lay_by_ends::<4>(target, text),
-        8..=16 => lay_by_ends::<8>(target, text),
-        17..=32 => lay_by_ends::<16>(target, text),
-        _ => lay_whole(target, text),
+    let count = text.len();
+    if count > 7 {
+        if count <= 16 {
+            lay_by_ends::<8>(target, text);
+        } else if count <= 32 {
+            lay_by_ends::<16>(target, text);
+        } else {
+            lay_whole(target, text);
+        }
+    } else if count == 1 {
+        lay_by_ends::<1>(target, text);
+    } else if count > 3 {
+        lay_by_ends::<4>(target, text);
+    } else if count > 1 {
+        lay_by_ends::<2>(target, text);
+    } else {
+        lay_by_ends::<0>(target, text);
     }
 }
 
@@ -82,12 +92,22 @@ pub fn lay_within(bytes: &mut [u8], from: usize, end: usize, to: usize)
     requires target_within { to + (end - from) ≤ length bytes.old }
     ensures { bytes.new ≡ copy_within bytes.old from end to }
 {
-    match end - from {
-        1 => lay_within_by_ends::<1>(bytes, from, end, to),
-        2..=3 => lay_within_by_ends::<2>(bytes, from, end, to),
-        4..=7 => lay_within_by_ends::<4>(bytes, from, end, to),
-        8..=16 => lay_within_by_ends::<8>(bytes, from, end, to),
-        17..=32 => lay_within_by_ends::<16>(bytes, from, end, to),
-        _ => bytes.copy_within(from..end, to),
+    let count = end - from;
+    if count > 7 {
+        if count <= 16 {
+            lay_within_by_ends::<8>(bytes, from, end, to);
+        } else if count <= 32 {
+            lay_within_by_ends::<16>(bytes, from, end, to);
+        } else {
+            bytes.copy_within(from..end, to);
+        }
+    } else if count == 1 {
+        lay_within_by_ends::<1>(bytes, from, end, to);
+    } else if count > 3 {
+        lay_within_by_ends::<4>(bytes, from, end, to);
+    } else if count > 1 {
+        lay_within_by_ends::<2>(bytes, from, end, to);
+    } else {
+        lay_within_by_ends::<0>(bytes, from, end, to);
     }
 }

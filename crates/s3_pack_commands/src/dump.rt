@@ -1,14 +1,17 @@
 //! `bureau dump` and `bureau restore`: a pack as text, and the pack that a text represents.
 ghost use Rattle.std.specs.Prelude.{◌≤◌};
 
+use crate::dump_layouts::{asked_files, file_layouts, layouts_found};
 use clap::ArgMatches;
 use s3_data_commands::fault::{Fault, Use, of_call, of_pack};
 use s3_data_commands::filled::Words;
-use s3_data_commands::pack_words::{Save, pack_of, refuse_file_there, refused, saved, tell_done};
+use s3_data_commands::pack_words::{
+    Save, pack_of, refuse_file_there, refused, saved, tell, tell_done,
+};
 use s3_data_commands::sentences::output_sentence;
 use s3_data_commands::standard_input::{InputFault, read_input};
 use s3_data_commands::words::{OVERWRITE, PACK, SAVE};
-use s3_dump::RestoreFault;
+use s3_dump::{RestoreFault, Unlaid};
 use s3_host_files::{StandardOutput, keep_save_apart, save_new_pack};
 use s3_journal::Work;
 use s3_labels::MountFault;
@@ -16,9 +19,9 @@ use s3_listing::{ListFault, mount_slots};
 use s3_paper_commands::status::{
     DONE, FILE_WRONG, NOTHING_SAVED, OPTIONS_WRONG, PACK_SAVED, PERSON_NEEDED, REFUSED,
 };
-use s3_paper_commands::words::{CommandWords, Example, Status, value_of};
+use s3_paper_commands::words::{CommandWords, Example, Status, Takes, Word, value_of};
 use s3_refusals::{beginning_words, begins_as_pack};
-use std::alloc::Global;
+use std::alloc::{AllocError, Global};
 use std::fs;
 use std::io::{IsTerminal, Write};
 
@@ -41,16 +44,29 @@ pub const DUMP: CommandWords = CommandWords {
         },
         Status {
             number: REFUSED,
-            meaning: "the pack is refused, or memory ran out",
+            meaning: "the pack, a file or a layout is refused, or memory ran out",
         },
         OPTIONS_WRONG,
         FILE_WRONG,
     ],
-    examples: &[Example {
-        line: "bureau dump --pack shop.pack > shop.dump",
-        purpose: "Writes a pack as text, for diff or a version control system",
-    }],
-    words: &[PACK],
+    examples: &[
+        Example {
+            line: "bureau dump --pack shop.pack > shop.dump",
+            purpose: "Writes a pack as text, for diff or a version control system",
+        },
+        Example {
+            line: "bureau dump --pack shop.pack --layout CUSTOM=customers.rpg > shop.dump",
+            purpose: "Writes the fields of the records of a file, too",
+        },
+    ],
+    words: &[
+        PACK,
+        Word {
+            name: "layout",
+            takes: Takes::Values("[AREA:]LABEL=FILE"),
+            help: "A file whose fields are printed, and a deck with the RPG source whose I sheet has them",
+        },
+    ],
 };
 
 /// `bureau restore` and its options.
@@ -80,19 +96,41 @@ pub const RESTORE: CommandWords = CommandWords {
 pub fn dump_pack(rt: &HostRuntime, matches: &ArgMatches<'_>) -> u8
     ensures { result ≤ 4 }
 {
-    match print_dump(rt, value_of(matches, "pack")) {
+    match print_dump(rt, matches, value_of(matches, "pack")) {
         Ok(()) => DONE,
         Err(fault) => fault.tell(&mut rt.stderr()),
     }
 }
 
-fn print_dump(rt: &HostRuntime, path: &str) -> Result<(), Fault> {
+fn print_dump(rt: &HostRuntime, matches: &ArgMatches<'_>, path: &str) -> Result<(), Fault> {
+    let asked = asked_files(rt, matches)?;
     let pack = pack_of(rt, path)?;
-    let text = s3_dump::dump(rt.alloc(), &pack)?;
-    match StandardOutput::new(rt).write_all(text.as_slice()) {
-        Ok(()) => Ok(()),
-        Err(_) => Err(Fault::File(output_sentence(rt.alloc())?)),
+    let found = layouts_found(rt, path, &pack, &asked)?;
+    let layouts = file_layouts(rt.alloc(), &found)?;
+    let dump = s3_dump::dump(rt.alloc(), &pack, &layouts)?;
+    if StandardOutput::new(rt)
+        .write_all(dump.text.as_slice())
+        .is_err()
+    {
+        return Err(Fault::File(output_sentence(rt.alloc())?));
     }
+    for file in &dump.unlaid {
+        tell(rt, unlaid_sentence(rt.alloc(), path, file))?;
+    }
+    Ok(())
+}
+
+/// The sentence that reports how many records of a file have no fields in its dump.
+fn unlaid_sentence(alloc: Global, path: &str, file: &Unlaid) -> Result<String, AllocError> {
+    let sentence = if file.count == 1 {
+        "1 record of {field} in area {area} of {path} is printed without fields: it has the codes of no record type with fields in the layout"
+    } else {
+        "{number} records of {field} in area {area} of {path} are printed without fields: they have the codes of no record type with fields in the layout"
+    };
+    Words::of_file(path, file.area, "")
+        .with_number(u64::from(file.count))
+        .with_fields(Some(file.name), None)
+        .fill(alloc, sentence)
 }
 
 /// Runs `bureau restore`, and returns the exit status: 0 if it is done, 4 if the pack is saved and can't be used,

@@ -9,4 +9,5 @@ pub mod amend;
 mod amend_sentences;
 pub mod check;
 pub mod dump;
+mod dump_layouts;
 mod shown_record;

@@ -12,7 +12,7 @@ use s3_punch::{Begun, Punched, punch};
 use s3_refusals::begins_as_pack;
 use std::alloc::AllocError;
 use std::io;
-use std::io::ErrorKind;
+use std::io::{ErrorKind, IsTerminal, Write};
 
 /// The most bytes of a file of a deck.
 const TEXT_LIMIT: usize = 4_194_304;
@@ -110,12 +110,23 @@ impl<'a> ReadDeck<'a> {
 /// The bytes of a file of a deck, or of standard input. A pack is refused, and a file that is also standard output or standard error.
 pub fn read_deck_file<'a>(rt: &HostRuntime, name: &'a str) -> Result<Vec<u8>, CommandFault<'a>> {
     if name == STANDARD_INPUT {
+        tell_waiting(rt);
         return text_of(read_input(rt, TEXT_LIMIT), shown_name(name));
     }
     if let Some(stream) = stream_at(rt, name, &WRITTEN) {
         return Err(CommandFault::Stream(name, stream));
     }
     text_of(read_within(rt, name, TEXT_LIMIT), name)
+}
+
+/// Reports what is waited for, if standard input is a terminal.
+fn tell_waiting(rt: &HostRuntime) {
+    if rt.stdin().is_terminal() {
+        let _ = writeln!(
+            rt.stderr(),
+            "cards are read from this terminal, a line each: type them, and Control-D at their end"
+        );
+    }
 }
 
 /// The bytes that were read of a file of this name, if a deck may have them.

@@ -51,9 +51,9 @@ fn push_json(
     push_member(&mut json, "sheet", form.sheet())?;
     push_member(&mut json, "card", form.name())?;
     json.key("from")?;
-    json.u64(entry.from as u64)?;
+    json.u64(entry.columns.from as u64)?;
     json.key("to")?;
-    json.u64(entry.to as u64)?;
+    json.u64(entry.columns.to as u64)?;
     push_member(&mut json, "name", entry.name)?;
     push_member(&mut json, "allowed", entry.allowed)?;
     push_values(&mut json, entry.values)?;
@@ -87,7 +87,7 @@ fn push_values(json: &mut Writer, values: &[&str]) -> Result<(), AllocError> {
 fn push_row(text: &mut String, form: CardForm, entry: &Entry) -> Result<(), AllocError> {
     let sheet = form.sheet();
     let card = form.name();
-    let (from, to) = (entry.from, entry.to);
+    let (from, to) = (entry.columns.from, entry.columns.to);
     let (name, allowed) = (entry.name, entry.allowed);
     writeln!(
         text,

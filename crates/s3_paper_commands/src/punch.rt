@@ -10,9 +10,10 @@ use crate::words::{Choice, CommandWords, Example, Status, Takes, Word};
 use clap::ArgMatches;
 use s3_host_files::StandardOutput;
 use s3_punch::{
-    Begun, CARD_BYTES, CardByte, LineChange, PunchFault, PunchReason, Punched, punch, text_of_cards,
+    Begun, CARD_BYTES, CardByte, LineChange, PunchFault, PunchReason, Punched, is_ebcdic_deck,
+    punch, text_of_cards,
 };
-use s3_refusals::{Shown, is_shown};
+use s3_refusals::{Shown, is_shown, wide_text};
 use std::alloc::{AllocError, Global};
 use std::io::Write;
 
@@ -135,13 +136,18 @@ fn stacked<'a>(rt: &HostRuntime, matches: &ArgMatches<'a>) -> Result<WholeDeck, 
     for file in matches.get_strs("file").unwrap_or(&[]) {
         let name: &'a str = *file;
         let bytes = read_deck_file(rt, name)?;
-        let text = if matches.get_str("from").is_none() {
-            bytes
+        let is_plain = matches.get_str("from").is_none();
+        let text = if is_plain {
+            plain_text(rt, shown_name(name), bytes, &mut stacked.is_faulty)
         } else {
             text_of_ebcdic(rt, shown_name(name), &bytes, &mut stacked.is_faulty)?
         };
         let punched = punch(alloc, &text, &begun)?;
-        tell_faults(rt, shown_name(name), &punched.faults);
+        if is_plain && !punched.faults.is_empty() && is_ebcdic_deck(&text) {
+            tell_ebcdic(rt, shown_name(name));
+        } else {
+            tell_faults(rt, shown_name(name), &punched.faults);
+        }
         if matches.get_flag("report") {
             tell_changes(rt, shown_name(name), &punched.changes);
         }
@@ -149,6 +155,29 @@ fn stacked<'a>(rt: &HostRuntime, matches: &ArgMatches<'a>) -> Result<WholeDeck, 
         stacked.add(&punched)?;
     }
     Ok(stacked)
+}
+
+/// The plain text of a file. It reports a text in UTF-16 or UTF-32, notes that it is in error, and gives none of it.
+fn plain_text(rt: &HostRuntime, file: &str, bytes: Vec<u8>, is_faulty: &mut bool) -> Vec<u8> {
+    let Some(wide) = wide_text(&bytes) else {
+        return bytes;
+    };
+    *is_faulty = true;
+    let (file, family, name) = (Shown(file), wide.family(), wide.name());
+    let _ = writeln!(
+        rt.stderr(),
+        "{file}: the text is in {family}; convert it by `iconv -f {name} -t UTF-8 TEXT > NEW`, and punch that."
+    );
+    Vec::new(rt.alloc())
+}
+
+/// Reports cards in EBCDIC in place of a plain text.
+fn tell_ebcdic(rt: &HostRuntime, file: &str) {
+    let file = Shown(file);
+    let _ = writeln!(
+        rt.stderr(),
+        "{file}: the file has cards of 80 columns in EBCDIC; give --from ebcdic80."
+    );
 }
 
 /// The text of the cards of a file in EBCDIC. It reports the errors of the file, and notes that it is in error.

@@ -41,5 +41,5 @@ pub const OPTIONS_WRONG: Status = Status {
 /// The status of a failed file.
 pub const FILE_WRONG: Status = Status {
     number: FILE_FAILED,
-    meaning: "a file, standard input or standard output can't be read or written, or is in use",
+    meaning: "a file, standard input or standard output can't be read or written",
 };

@@ -87,6 +87,8 @@ pub enum Takes {
     U16Or(&'static str, &'static str),
     /// A number from 0 to 255, and its default.
     U8Or(&'static str, &'static str),
+    /// A value, and the word may be given several times.
+    Values(&'static str),
     /// A file, and the word may be given several times.
     Files,
     /// One file or more, which follow the command without a word.
@@ -102,9 +104,12 @@ impl CommandWords {
         for word in self.words {
             arguments.push(self.argument(alloc, word)?)?;
         }
-        Command::new(alloc, self.name)
-            .about(self.about)
-            .args(arguments)
+        self.parser_without_options(alloc).args(arguments)
+    }
+
+    /// A parser that has the command's name and its line of the help, and takes no options.
+    pub fn parser_without_options<'a>(&self, alloc: Global) -> Command<'a> {
+        Command::new(alloc, self.name).about(self.about)
     }
 
     /// A word as a parser has it, with its second names.
@@ -192,6 +197,7 @@ impl Takes {
                 .value_name(shown)
                 .value_parser(value_parser!(u8))
                 .default_value(default),
+            Takes::Values(shown) => argument.value_name(shown).action(ArgAction::Append),
             Takes::Files => argument.value_name("FILE").action(ArgAction::Append),
             Takes::FollowingFiles => argument
                 .value_name("FILE")

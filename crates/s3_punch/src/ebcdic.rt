@@ -1,6 +1,7 @@
 //! Decks of 80 columns in EBCDIC, as texts.
-ghost use Rattle.std.specs.Prelude.{◌≡◌, ◌++◌, IfOk, OnOk};
-ghost use Rattle.s3_punch.specs.Inner.Ebcdic.{byte_fault, byte_faults, card_line, cards_text};
+ghost use Rattle.std.specs.Prelude.{◌≡◌, ◌++◌, take, IfOk, OnOk};
+ghost use Rattle.std.specs.List.{list_all};
+ghost use Rattle.s3_punch.specs.Inner.Ebcdic.{byte_fault, byte_faults, card_line, cards_text, has_cards, has_character};
 
 use s3_cards::{push_characters, to_host, trim_end};
 use std::alloc::{AllocError, Global};
@@ -26,6 +27,24 @@ pub struct CardsText {
     pub text: Vec<u8>,
     /// The bytes that are no characters; the text has `?` in their place.
     pub faults: Vec<CardByte>,
+}
+
+/// Whether a file has cards of 80 bytes in EBCDIC, end to end: it has whole cards, and the first one has only characters of EBCDIC. A text
+/// in ASCII has a blank or a line feed there, which isn't one.
+pub fn is_ebcdic_deck(bytes: &[u8]) -> bool
+    ensures { result ≡ has_cards bytes.now }
+{
+    !bytes.is_empty() && bytes.len() % CARD_BYTES == 0 && begins_in_ebcdic(bytes)
+}
+
+/// Whether the first card has only characters of EBCDIC.
+fn begins_in_ebcdic(bytes: &[u8]) -> bool
+    ensures { result ≡ list_all has_character (take 80 bytes.now) }
+{
+    bytes
+        .iter()
+        .take(CARD_BYTES)
+        .all(|byte| to_host(*byte).is_some())
 }
 
 /// The text of cards of 80 bytes in EBCDIC, end to end.

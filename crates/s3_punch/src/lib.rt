@@ -10,7 +10,7 @@
 //!   its `//`, `/*` and `/&` cards.
 //!
 //! `text_of_cards` gives a line of characters for each card of 80 bytes in EBCDIC, and each byte that is no character, with its card
-//! and column.
+//! and column. `is_ebcdic_deck` is whether a file has whole cards of which the first has only characters of EBCDIC.
 //!
 //! `typed_column` gives the column of a plain line that has a column of its card: the same column if the line has no tabs.
 //!
@@ -35,7 +35,7 @@ mod typed;
 
 pub use change::{Changes, LineChange};
 pub use deck::{Begun, Punched, punch};
-pub use ebcdic::{CARD_BYTES, CardByte, CardsText, text_of_cards};
+pub use ebcdic::{CARD_BYTES, CardByte, CardsText, is_ebcdic_deck, text_of_cards};
 pub use fault::{PunchFault, PunchReason};
 pub use part::Part;
 pub use typed::{CardColumns, typed_column};

@@ -12,6 +12,7 @@ mod holder;
 mod packs;
 mod reasons;
 mod refused;
+mod wide;
 
 pub use closed::is_closed;
 pub use holder::holder_of;
@@ -19,3 +20,4 @@ pub use packs::{beginning_words, begins_as_pack, pack_words};
 pub use reasons::{Holder, Reason, call_words};
 pub use refused::{FileWork, Refused, Work};
 pub use s3_decks::{Shown, is_shown};
+pub use wide::{WideText, wide_text};

@@ -9,23 +9,24 @@ use Rattle.std.proofs.lemmas.Bool.{and_parts}
 use Rattle.std.proofs.lemmas.Bool.Decides.{nat_tests}
 use Rattle.s3_replies.specs.declared.typed.Typed.{Typed}
 use Rattle.s3_replies.specs.declared.listed.Listed.{Listed}
-use Rattle.s3_replies.specs.declared.listed.Listed.TheVariants.{Line}
-use Rattle.s3_replies.specs.Inner.Listed.{GivesNext, after_line, is_line_end, last_of, next_said}
+use Rattle.s3_replies.specs.declared.listed.Listed.TheVariants.{Line, TooLong}
+use Rattle.s3_replies.specs.Inner.Listed.{GivesNext, after_line, is_line_end, last_of, most, next_said}
 use Rattle.s3_replies.specs.Inner.Typed.{typed_of}
 
 abbrev pub is_inside : ℕ → Bool
 is_inside byte = not (is_line_end byte)
 
--- the bytes of a line so far, and what is kept of them
-pub record LineSoFar (old now : Option (List ℕ)) (line : List ℕ) (is_begun : Bool) : Type 0 where
+-- the bytes of a line so far, how many there are, and what is kept of them
+pub record LineSoFar (old now : Option (List ℕ)) (line : List ℕ) (is_begun : Bool) (count : ℕ) : Type 0 where
   pub passed : List ℕ
+  pub counted : length passed ≡ count
   pub read : Consumes old now passed
   pub inside : list_all is_inside passed ≡ true
   pub kept : line ≡ take 80 passed
   pub begun : is_begun ≡ not (eqb (length passed) 0)
 
-pub nothing_read : (old : Option (List ℕ)) (line : List ℕ) → line ≡ [] → LineSoFar old old line false
-nothing_read old line none = record { passed = []; read = Consumes-nil old; inside = refl; kept = none; begun = refl }
+pub nothing_read : (old : Option (List ℕ)) (line : List ℕ) → line ≡ [] → LineSoFar old old line false 0
+nothing_read old line none = record { passed = []; counted = refl; read = Consumes-nil old; inside = refl; kept = none; begun = refl }
 
 all_but_last : (p : ℕ → Bool) (xs : List ℕ) (x : ℕ) → list_all p xs ≡ true → p x ≡ true → list_all p (xs ++ x ∷ []) ≡ true
 all_but_last p [] x all last = ap (λ b. b && true) last
@@ -43,13 +44,14 @@ at_most zero xs = omega arith
 at_most (suc n) [] = omega arith
 at_most (suc n) (x ∷ xs) = let h = at_most n xs in omega arith
 
-pub one_more_byte : (old now new : Option (List ℕ)) (line after : List ℕ) (is_begun : Bool) (byte : ℕ) → LineSoFar old now line is_begun → Consumes now new (byte ∷ []) → byte ≢ 10
-    → (length line ≤ 80 → after ≡ take 80 (line ++ byte ∷ [])) → LineSoFar old new after true
-one_more_byte old now new line after is_begun byte so_far this other more =
+pub one_more_byte : (old now new : Option (List ℕ)) (line after : List ℕ) (is_begun : Bool) (count byte : ℕ) → LineSoFar old now line is_begun count → Consumes now new (byte ∷ []) → byte ≢ 10
+    → (length line ≤ 80 → after ≡ take 80 (line ++ byte ∷ [])) → LineSoFar old new after true (count + 1)
+one_more_byte old now new line after is_begun count byte so_far this other more =
     let short : length line ≤ 80 = omega (arith, ap length so_far.kept, at_most 80 so_far.passed) in
     let some : not (eqb (length (so_far.passed ++ byte ∷ [])) 0) ≡ true = let n = length-append so_far.passed (byte ∷ []) in grind (arith, nat_tests) in
     record {
       passed = so_far.passed ++ byte ∷ [];
+      counted = length-append so_far.passed (byte ∷ []) ∙ ap (λ n. n + 1) so_far.counted;
       read = Consumes-trans old now new so_far.passed (byte ∷ []) so_far.read this;
       inside = all_but_last is_inside so_far.passed byte so_far.inside (grind (arith, nat_tests));
       kept = more short ∙ ap (λ l. take 80 (l ++ byte ∷ [])) so_far.kept ∙ take_twice 80 so_far.passed (byte ∷ []);
@@ -97,10 +99,10 @@ line_at_end bytes passed rest line e inside kept =
     let behind : after_line bytes ≡ rest = ap (λ n. drop (n + 1) bytes) place ∙ ap (drop (length passed + 1)) e ∙ drop_front passed 10 rest in
     (said_of bytes line (omega (arith, ap length e, length-append passed (10 ∷ rest))) (kept ∙ ap (take 80) (sym front)), sym behind)
 
-pub line_ends : (old now new : Option (List ℕ)) (line : List ℕ) (is_begun : Bool) → LineSoFar old now line is_begun → Consumes now new (10 ∷ []) → GivesNext old new (Line (typed_of line))
-line_ends None now new line is_begun so_far this = tt
-line_ends (Some bytes) now None line is_begun so_far this = absurd (Consumes-trans (Some bytes) now None so_far.passed (10 ∷ []) so_far.read this)
-line_ends (Some bytes) now (Some rest) line is_begun so_far this =
+pub line_ends : (old now new : Option (List ℕ)) (line : List ℕ) (is_begun : Bool) (count : ℕ) → LineSoFar old now line is_begun count → Consumes now new (10 ∷ []) → GivesNext old new (Line (typed_of line))
+line_ends None now new line is_begun count so_far this = tt
+line_ends (Some bytes) now None line is_begun count so_far this = absurd (Consumes-trans (Some bytes) now None so_far.passed (10 ∷ []) so_far.read this)
+line_ends (Some bytes) now (Some rest) line is_begun count so_far this =
     let whole : bytes ≡ (so_far.passed ++ 10 ∷ []) ++ rest = Consumes-trans (Some bytes) now (Some rest) so_far.passed (10 ∷ []) so_far.read this in
     line_at_end bytes so_far.passed rest line (whole ∙ append_assoc so_far.passed (10 ∷ []) rest) so_far.inside so_far.kept
 
@@ -120,20 +122,38 @@ last_said bytes passed rest line false e none inside kept begun =
     let no_byte : length bytes ≡ 0 = let n = ap length e in let m = ap length none in let k = length-append passed rest in grind (arith, nat_tests) in
     (nothing_said bytes no_byte, none)
 
-pub list_ends : (old now new : Option (List ℕ)) (line : List ℕ) (is_begun : Bool) → LineSoFar old now line is_begun → Consumes now new [] × IsAtEnd new → GivesNext old new (last_of is_begun line)
-list_ends None now new line is_begun so_far this = tt
-list_ends (Some bytes) now None line is_begun so_far this = absurd (Consumes-trans (Some bytes) now None so_far.passed [] so_far.read this.0)
-list_ends (Some bytes) now (Some rest) line is_begun so_far this =
+pub list_ends : (old now new : Option (List ℕ)) (line : List ℕ) (is_begun : Bool) (count : ℕ) → LineSoFar old now line is_begun count → Consumes now new [] × IsAtEnd new → GivesNext old new (last_of is_begun line)
+list_ends None now new line is_begun count so_far this = tt
+list_ends (Some bytes) now None line is_begun count so_far this = absurd (Consumes-trans (Some bytes) now None so_far.passed [] so_far.read this.0)
+list_ends (Some bytes) now (Some rest) line is_begun count so_far this =
     let whole : bytes ≡ (so_far.passed ++ []) ++ rest = Consumes-trans (Some bytes) now (Some rest) so_far.passed [] so_far.read this.0 in
     last_said bytes so_far.passed rest line is_begun (whole ∙ ap (λ p. p ++ rest) (append-nil so_far.passed)) this.1 so_far.inside so_far.kept so_far.begun
 
-pub line_said : (old now new : Option (List ℕ)) (line : List ℕ) (is_begun : Bool) (byte : ℕ) (typed : Typed) → LineSoFar old now line is_begun → Consumes now new (byte ∷ []) → byte ≡ 10 → typed ≡ typed_of line → GivesNext old new (Line typed)
-line_said old now new line is_begun byte typed so_far this at_end said =
+pub line_said : (old now new : Option (List ℕ)) (line : List ℕ) (is_begun : Bool) (count byte : ℕ) (typed : Typed) → LineSoFar old now line is_begun count → Consumes now new (byte ∷ []) → byte ≡ 10 → typed ≡ typed_of line → GivesNext old new (Line typed)
+line_said old now new line is_begun count byte typed so_far this at_end said =
     let P : ℕ → Type 0 = λ b. Consumes now new (b ∷ []) in
     let Q : Typed → Type 0 = λ t. GivesNext old new (Line t) in
-    subst Q (sym said) (line_ends old now new line is_begun so_far (subst P at_end this))
+    subst Q (sym said) (line_ends old now new line is_begun count so_far (subst P at_end this))
 
-pub list_over : (old now new : Option (List ℕ)) (line : List ℕ) (is_begun : Bool) (next : Listed) → LineSoFar old now line is_begun → Consumes now new [] × IsAtEnd new → next ≡ last_of is_begun line → GivesNext old new next
-list_over old now new line is_begun next so_far this said =
+pub list_over : (old now new : Option (List ℕ)) (line : List ℕ) (is_begun : Bool) (count : ℕ) (next : Listed) → LineSoFar old now line is_begun count → Consumes now new [] × IsAtEnd new → next ≡ last_of is_begun line → GivesNext old new next
+list_over old now new line is_begun count next so_far this said =
     let Q : Listed → Type 0 = λ n. GivesNext old new n in
-    subst Q (sym said) (list_ends old now new line is_begun so_far this)
+    subst Q (sym said) (list_ends old now new line is_begun count so_far this)
+
+-- ---- a line that goes on
+-- a line has at least the bytes before its end that were read
+place_after : (passed rest : List ℕ) → list_all is_inside passed ≡ true → length passed ≤ position_or_len is_line_end (passed ++ rest)
+place_after [] rest inside = omega arith
+place_after (byte ∷ bytes) rest inside =
+    let parts : (is_inside byte ≡ true) × (list_all is_inside bytes ≡ true) = and_parts (is_inside byte) (list_all is_inside bytes) inside in
+    let next : position_or_len is_line_end (byte ∷ (bytes ++ rest)) ≡ 1 + position_or_len is_line_end (bytes ++ rest) =
+    ap (λ b. cond b (1 + position_or_len is_line_end (bytes ++ rest)) 0) parts.0 in
+    omega (arith, next, place_after bytes rest parts.1)
+
+pub goes_on : (old now : Option (List ℕ)) (line : List ℕ) (is_begun : Bool) (count : ℕ) → LineSoFar old now line is_begun count → most < count → GivesNext old now TooLong
+goes_on None now line is_begun count so_far long = tt
+goes_on (Some bytes) None line is_begun count so_far long = absurd so_far.read
+goes_on (Some bytes) (Some rest) line is_begun count so_far long =
+    let place : length so_far.passed ≤ position_or_len is_line_end (so_far.passed ++ rest) = place_after so_far.passed rest so_far.inside in
+    let same : position_or_len is_line_end bytes ≡ position_or_len is_line_end (so_far.passed ++ rest) = ap (position_or_len is_line_end) so_far.read in
+    omega (arith, place, same, so_far.counted, long)

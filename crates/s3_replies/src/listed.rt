@@ -9,6 +9,9 @@ use std::io::Read;
 /// The most bytes of a line that are kept. A longer line says nothing that an operator can say.
 const LONGEST: usize = 80;
 
+/// The most bytes of a line that are read.
+const MOST: u64 = 4_194_304;
+
 /// What a list of replies gives next.
 #[derive(Clone, Copy)]
 pub enum Listed {
@@ -18,6 +21,8 @@ pub enum Listed {
     Ended,
     /// A read failed. A line that was read in part says nothing.
     Failed,
+    /// The line has more than 4,194,304 bytes, of which so many were read.
+    TooLong,
 }
 
 /// What one byte of a reader is.
@@ -30,14 +35,14 @@ enum OneByte {
     NotRead,
 }
 
-/// What the next line of a reader says, by its first 80 bytes. The last line may have no end.
+/// What the next line of a reader says, by its first 80 bytes. The last line may have no end. A line with more than 4,194,304 bytes isn't
+/// read to its end.
 pub fn next_listed<R: Read>(alloc: Global, reader: &mut R) -> Result<Listed, AllocError>
     ensures { IfOk result (λ next. GivesNext (R.remaining reader.old) (R.remaining reader.new) next) }
 {
     let mut line = Vec::new(alloc);
     let mut is_begun = false;
-    // more than anyone types: the bound is what shows that it ends
-    for _byte in 0..u64::MAX {
+    for _byte in 0..MOST + 1 {
         match one_byte(reader) {
             OneByte::Byte(b'\n') => return Ok(Listed::Line(read_typed(&line))),
             OneByte::Byte(byte) => {
@@ -48,7 +53,7 @@ pub fn next_listed<R: Read>(alloc: Global, reader: &mut R) -> Result<Listed, All
             OneByte::NotRead => return Ok(Listed::Failed),
         }
     }
-    Ok(Listed::Failed)
+    Ok(Listed::TooLong)
 }
 
 /// What is read at the end of the list, if a line was begun.

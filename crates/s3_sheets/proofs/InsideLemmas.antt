@@ -8,6 +8,9 @@ use Rattle.std.proofs.lemmas.Bool.{cases_Bool, eqb-true}
 use Rattle.std.proofs.lemmas.Bool.Decides.{nat_tests}
 use Rattle.s3_cards.specs.declared.name.Name.{Name}
 use Rattle.s3_cards.specs.Names.{name_of, same_name}
+use Rattle.s3_entries.specs.declared.input.TheConstants as input
+use Rattle.s3_entries.specs.declared.output.TheConstants as output
+use Rattle.s3_entries.specs.declared.shared.TheConstants as shared
 use Rattle.s3_lines.specs.Inner.Ranges.{in_order_behind, record_length_in, is_within, codes_within, all_within, are_read}
 use Rattle.s3_lines.specs.declared.sheet.FileLine.{FileLine}
 use Rattle.s3_lines.specs.declared.sheet.SheetLine.TheVariants as sheet
@@ -15,8 +18,8 @@ use Rattle.s3_lines.specs.declared.sheet.Line.{Line}
 use Rattle.s3_sheets.specs.Columns.{are_blank, columns, number_of, number_between}
 use Rattle.s3_sheets.specs.Kinds.{kind_of, is_record, is_output_line}
 use Rattle.s3_sheets.specs.Lines.{card_at, sheet_line, line_at, line_of, lines_below, three_codes, file_line, field_line, output_card, output_field}
-use Rattle.s3_sheets.specs.Rules.{Blank, rule_faults, broken_by}
-use Rattle.s3_sheets.specs.Tables.{rule, rules_of, field_rules, output_field_rules}
+use Rattle.s3_sheets.specs.Rules.{rule_faults, broken_by}
+use Rattle.s3_sheets.specs.Tables.{rules_of, field_rules, output_field_rules, blank}
 use Rattle.s3_sheets.specs.Sheets.{before, faults_of, has_fault, is_at_fault, holds, pairs, exceeds, has_code_past, new_file, file_of, record_length_of, length_behind, line_length, length_for, names_position_past}
 use Rattle.s3_sheets.specs.Inner.Progress.{Kept, is_misplaced_behind, is_at_fault_behind, is_outside_behind, files_with, length_named, kept_behind}
 use Rattle.s3_sheets.specs.declared.kind.CardKind.{CardKind}
@@ -143,7 +146,7 @@ input_after kind card kept = length_behind (is_record kind) (has_code_past card 
 
 abbrev output_after : CardKind → List ℕ → Kept → Option ℕ
 output_after kind card kept =
-    length_behind (is_output_line kind) false (line_length (are_blank (columns card 7 14)) (length_named kept card) kept.output_length) kept.output_length
+    length_behind (is_output_line kind) false (line_length (are_blank (columns card shared.FILENAME)) (length_named kept card) kept.output_length) kept.output_length
 
 abbrev more_of : CardKind → List ℕ → ℕ → List Line
 more_of kind card number = option_to_list (line_at number (sheet_line kind card))
@@ -152,19 +155,19 @@ abbrev IsInsideNext : CardKind → List ℕ → ℕ → List Line → Kept → T
 IsInsideNext kind card number lines kept =
     IsInside (lines ++ more_of kind card number) (kept.files ++ option_to_list (new_file kept.files (file_of kind false card))) (input_after kind card kept) (output_after kind card kept)
 
-field_inside : (card : List ℕ) (size : Option ℕ) → NoFaults (broken_by field_rules card) → exceeds (number_of (columns card 48 51)) size ≡ false
+field_inside : (card : List ℕ) (size : Option ℕ) → NoFaults (broken_by field_rules card) → exceeds (number_of (columns card input.TO)) size ≡ false
     → is_within size (field_line card).to ≡ true
 unfolding field_rules rule_faults field_line number_between
 field_inside card size broken inside =
-    position_inside (number_of (columns card 48 51)) size
-    (number_allowed _ (none_at (λ rule. (rule_faults card rule).number) field_rules 3 (rule 1 1 Blank) broken.number (lit< tt))) inside
+    position_inside (number_of (columns card input.TO)) size
+    (number_allowed _ (none_at (λ rule. (rule_faults card rule).number) field_rules 3 (blank 1 1) broken.number (lit< tt))) inside
 
-put_inside : (card : List ℕ) (size : Option ℕ) → NoFaults (broken_by output_field_rules card) → exceeds (number_of (columns card 40 43)) size ≡ false
+put_inside : (card : List ℕ) (size : Option ℕ) → NoFaults (broken_by output_field_rules card) → exceeds (number_of (columns card output.END_POSITION)) size ≡ false
     → is_within size (output_field card).«end» ≡ true
 unfolding output_field_rules rule_faults output_field number_between
 put_inside card size broken inside =
-    position_inside (number_of (columns card 40 43)) size
-    (number_allowed _ (none_at (λ rule. (rule_faults card rule).number) output_field_rules 7 (rule 1 1 Blank) broken.number (lit< tt))) inside
+    position_inside (number_of (columns card output.END_POSITION)) size
+    (number_allowed _ (none_at (λ rule. (rule_faults card rule).number) output_field_rules 7 (blank 1 1) broken.number (lit< tt))) inside
 
 file_inside : (card : List ℕ) (number : ℕ) (lines : List Line) (files : List (Name × ℕ)) (i o : Option ℕ) → IsInside lines files i o
     → in_order_behind 0 lines ≡ true → last_sheet 0 lines ≤ 2
@@ -175,10 +178,10 @@ file_inside card number lines files i o held ordered few = filed lines number (f
 not_later : (latest : ℕ) → is_misplaced_behind File latest ≡ false → latest ≤ 2
 not_later latest placed = grind (arith, nat_tests)
 
-line_outputs : (lengths : Name → Option ℕ) (o named : Option ℕ) (card : List ℕ) (number : ℕ) → lengths (name_of (columns card 7 14)) ≡ named
-    → outputs_behind lengths o (more_of OutputLine card number) ≡ line_length (are_blank (columns card 7 14)) named o
+line_outputs : (lengths : Name → Option ℕ) (o named : Option ℕ) (card : List ℕ) (number : ℕ) → lengths (name_of (columns card shared.FILENAME)) ≡ named
+    → outputs_behind lengths o (more_of OutputLine card number) ≡ line_length (are_blank (columns card shared.FILENAME)) named o
 unfolding output_card
-line_outputs lengths o named card number e = elim (cases_Bool (are_blank (columns card 7 14))) [ inl is ↦ rw is refl | inr named' ↦ rw named' e ]
+line_outputs lengths o named card number e = elim (cases_Bool (are_blank (columns card shared.FILENAME))) [ inl is ↦ rw is refl | inr named' ↦ rw named' e ]
 
 inside_next : (kind : CardKind) (card : List ℕ) (number : ℕ) (lines : List Line) (kept : Kept)
     → IsInside lines kept.files kept.input_length kept.output_length → in_order_behind 0 lines ≡ true → last_sheet 0 lines ≡ kept.latest_sheet
@@ -195,8 +198,8 @@ inside_next File card number lines kept held ordered latest placed free inside =
     file_inside card number lines kept.files kept.input_length kept.output_length held ordered (omega (arith, latest, not_later kept.latest_sheet placed))
 inside_next Record card number lines kept held ordered latest placed free inside =
     plain lines (more_of Record card number) kept.files kept.input_length kept.output_length (input_after Record card kept) kept.output_length held (λ name. refl)
-    (both (ap (λ size. codes_within size (three_codes card)) (held.lengths (name_of (columns card 7 14))) ∙ codes_inside card (length_named kept card) inside) refl)
-    (rw inside (held.lengths (name_of (columns card 7 14)))) refl
+    (both (ap (λ size. codes_within size (three_codes card)) (held.lengths (name_of (columns card shared.FILENAME))) ∙ codes_inside card (length_named kept card) inside) refl)
+    (rw inside (held.lengths (name_of (columns card shared.FILENAME)))) refl
 inside_next RecordAnd card number lines kept held ordered latest placed free inside =
     plain lines (more_of RecordAnd card number) kept.files kept.input_length kept.output_length kept.input_length kept.output_length held (λ name. refl)
     (both (codes_inside card kept.input_length inside) refl) refl refl
@@ -210,7 +213,7 @@ inside_next Calculation card number lines kept held ordered latest placed free i
     plain lines (more_of Calculation card number) kept.files kept.input_length kept.output_length kept.input_length kept.output_length held (λ name. refl) refl refl refl
 inside_next OutputLine card number lines kept held ordered latest placed free inside =
     plain lines (more_of OutputLine card number) kept.files kept.input_length kept.output_length kept.input_length (output_after OutputLine card kept) held (λ name. refl) refl refl
-    (line_outputs (record_length_in lines) kept.output_length (length_named kept card) card number (held.lengths (name_of (columns card 7 14))))
+    (line_outputs (record_length_in lines) kept.output_length (length_named kept card) card number (held.lengths (name_of (columns card shared.FILENAME))))
 inside_next OutputAnd card number lines kept held ordered latest placed free inside =
     plain lines (more_of OutputAnd card number) kept.files kept.input_length kept.output_length kept.input_length kept.output_length held (λ name. refl) refl refl refl
 inside_next OutputOr card number lines kept held ordered latest placed free inside =
@@ -247,7 +250,7 @@ one_inside from cards n lines kept inside held is free =
     let right : is_at_fault_behind kept card ≡ false = fault_same cards n kept is ∙ not_at_fault cards n free in
     subst (λ (wrong : Bool). IsInside (lines ++ more_of kind card (from + n + 1)) (kept.files ++ option_to_list (new_file kept.files (file_of kind wrong card)))
     (length_behind (is_record kind) (wrong || has_code_past card named) named kept.input_length)
-    (length_behind (is_output_line kind) wrong (line_length (are_blank (columns card 7 14)) named kept.output_length) kept.output_length))
+    (length_behind (is_output_line kind) wrong (line_length (are_blank (columns card shared.FILENAME)) named kept.output_length) kept.output_length))
     (sym right)
     (inside_next kind card (from + n + 1) lines kept inside held.ordered held.latest placed (free_rules card free.faultless) within)
 

@@ -6,6 +6,11 @@ use Rattle.std.specs.Option.{option_to_list}
 use Rattle.std.proofs.lemmas.Bool.{cases_Bool}
 use Rattle.std.proofs.lemmas.Bool.Decides.{nat_tests}
 use Rattle.std.proofs.lemmas.List.Folds.{list_any_at}
+use Rattle.s3_entries.specs.declared.calculation.TheConstants as calculation
+use Rattle.s3_entries.specs.declared.file.TheConstants as file
+use Rattle.s3_entries.specs.declared.input.TheConstants as input
+use Rattle.s3_entries.specs.declared.output.TheConstants as output
+use Rattle.s3_entries.specs.declared.shared.TheConstants as shared
 use Rattle.s3_lines.specs.Files.{is_printer, is_by_cycle}
 use Rattle.s3_cards.specs.declared.name.Name.{Name}
 use Rattle.s3_cards.specs.Names.{begins_name, is_mark, is_word, is_name, name_of}
@@ -17,11 +22,11 @@ use Rattle.s3_lines.specs.declared.sheet.FieldOutput.{FieldOutput}
 use Rattle.s3_lines.specs.declared.sheet.OutputContent.TheVariants.{Constant as ConstantContent, Field as FieldContent}
 use Rattle.s3_lines.specs.declared.sheet.Line.{Line}
 use Rattle.s3_lines.specs.declared.sheet.OutputLine.TheVariants.{Line as LineCard, Field as OutputFieldCard}
-use Rattle.s3_sheets.specs.Columns.{are_blank, columns, column, number_of, number_between, only}
+use Rattle.s3_sheets.specs.Columns.{are_blank, columns, columns_between, column, number_of, number_between, only}
 use Rattle.s3_sheets.specs.Indicators.{indicator_of, listed}
 use Rattle.s3_sheets.specs.Entries.{constant, constant_text}
-use Rattle.s3_sheets.specs.Rules.{Blank, rule_faults, broken_by, no_faults, one_fault}
-use Rattle.s3_sheets.specs.Tables.{rule, rules_of, file_rules, output_field_rules}
+use Rattle.s3_sheets.specs.Rules.{rule_faults, broken_by, no_faults, one_fault}
+use Rattle.s3_sheets.specs.Tables.{rules_of, file_rules, output_field_rules, blank}
 use Rattle.s3_sheets.specs.Kinds.{kind_of}
 use Rattle.s3_sheets.specs.Combinations.{is_key_within, has_stray_entry, has_bad_extent, has_bad_positions, has_bad_definition, has_no_content, has_early_constant, begins_too_early, combined_faults}
 use Rattle.s3_sheets.specs.Lines.{designation_of, device_of, key_field, key_of, form_of, has_index, file_line, field_line, calculation_line, longest_name, definition_of, spacing_of, space_of, is_addition, output_card, output_field, three_conditions, sheet_line, line_at, line_of}
@@ -105,27 +110,27 @@ blanks_listed list (suc (suc (suc n))) = refl
 blank_listed : (list : IndicatorList) (entry : List ℕ) → not (are_blank entry) ≡ false → listed list entry ≡ None
 blank_listed list entry blank = ap (listed list) (all_blank entry (not_false (are_blank entry) blank)) ∙ blanks_listed list (length entry)
 
-file_passes : (card : List ℕ) → is_name (columns card 7 14) ≡ true → has_stray_entry card ≡ false → has_bad_extent card ≡ false → file_in_range (file_line card) ≡ true
+file_passes : (card : List ℕ) → is_name (columns card shared.FILENAME) ≡ true → has_stray_entry card ≡ false → has_bad_extent card ≡ false → file_in_range (file_line card) ≡ true
 unfolding has_stray_entry has_bad_extent file_line
 file_passes card named stray bad =
-    let ends : Bool = column card 17 == 0xc5 in
-    let selected : Bool = is_by_cycle (designation_of (column card 16)) in
-    let printer : Bool = is_printer (device_of (columns card 40 46)) in
-    let filled : Bool = not (are_blank (columns card 33 34)) in
-    let keyed : Bool = not (has_index card) && (not (are_blank (columns card 29 30)) || not (are_blank (columns card 35 38))) in
-    let size : ℕ = unwrap_or (number_of (columns card 24 27)) 0 in
-    let fits : Bool = is_between 1 (longest_record (device_of (columns card 40 46))) size in
-    let l : Option ℕ = number_between 1 29 (columns card 29 30) in
-    let p : Option ℕ = number_between 1 9999 (columns card 35 38) in
+    let ends : Bool = column card file.END == 0xc5 in
+    let selected : Bool = is_by_cycle (designation_of (column card file.DESIGNATION)) in
+    let printer : Bool = is_printer (device_of (columns card file.DEVICE)) in
+    let filled : Bool = not (are_blank (columns card file.OVERFLOW)) in
+    let keyed : Bool = not (has_index card) && (not (are_blank (columns card file.KEY_LENGTH)) || not (are_blank (columns card file.KEY_START))) in
+    let size : ℕ = unwrap_or (number_of (columns card file.RECORD_LENGTH)) 0 in
+    let fits : Bool = is_between 1 (longest_record (device_of (columns card file.DEVICE))) size in
+    let l : Option ℕ = number_between 1 29 (columns card file.KEY_LENGTH) in
+    let p : Option ℕ = number_between 1 9999 (columns card file.KEY_START) in
     let s = neither ((ends && not selected) || keyed) (filled && not printer) stray in
     let t = neither (ends && not selected) keyed s.0 in
     let b = neither (not fits) (has_index card && not (is_key_within size (key_of card))) bad in
-    both (both (both (both (both (both (name_given (columns card 7 14) named) (not_false fits b.0)) (key_given (has_index card) (key_field l p) size b.1))
-    (key_ranged (has_index card) l p size (number_in_range 1 29 (columns card 29 30)) (number_in_range 1 9999 (columns card 35 38)) b.1))
+    both (both (both (both (both (both (name_given (columns card shared.FILENAME) named) (not_false fits b.0)) (key_given (has_index card) (key_field l p) size b.1))
+    (key_ranged (has_index card) l p size (number_in_range 1 29 (columns card file.KEY_LENGTH)) (number_in_range 1 9999 (columns card file.KEY_START)) b.1))
     (ends_with ends selected t.0))
-    (of_printer (listed OverflowList (columns card 33 34)) filled printer (listed_passes OverflowList (columns card 33 34))
-    (blank_listed OverflowList (columns card 33 34)) s.1))
-    (listed_passes SwitchList (columns card 71 72))
+    (of_printer (listed OverflowList (columns card file.OVERFLOW)) filled printer (listed_passes OverflowList (columns card file.OVERFLOW))
+    (blank_listed OverflowList (columns card file.OVERFLOW)) s.1))
+    (listed_passes SwitchList (columns card file.CONDITION))
 
 -- ---- the I sheet
 from_one : (o : Option ℕ) → if_given (is_between 1 9999) o ≡ true → nat_le 1 (unwrap_or o 1) ≡ true
@@ -135,25 +140,25 @@ from_one (Some n) given = at_least 1 9999 n given
 field_passes : (card : List ℕ) → has_bad_positions card ≡ false → field_in_range (field_line card) ≡ true
 unfolding has_bad_positions field_line
 field_passes card bad =
-    let from : ℕ = unwrap_or (number_between 1 9999 (columns card 44 47)) 1 in
-    let to : ℕ = unwrap_or (number_between 1 9999 (columns card 48 51)) 1 in
-    let holds : Bool = shape_in_range (shape_of_positions (form_of (column card 43 == 0xd7) (columns card 52 52)) (to + 1 - from)) in
+    let from : ℕ = unwrap_or (number_between 1 9999 (columns card input.FROM)) 1 in
+    let to : ℕ = unwrap_or (number_between 1 9999 (columns card input.TO)) 1 in
+    let holds : Bool = shape_in_range (shape_of_positions (form_of (column card input.PACKED == 0xd7) (columns card input.DECIMALS)) (to + 1 - from)) in
     let p = each (nat_le from to) holds (not_false (nat_le from to && holds) bad) in
-    both (both (both (both (both (both (from_one (number_between 1 9999 (columns card 44 47)) (number_in_range 1 9999 (columns card 44 47))) p.0) p.1)
-    (level_passes 0xd3 (columns card 59 60))) (level_passes 0xd4 (columns card 61 62))) (listed_passes RecordList (columns card 63 64)))
-    (both (listed_passes RecordList (columns card 65 66)) (both (listed_passes RecordList (columns card 67 68)) (both (listed_passes RecordList (columns card 69 70)) refl)))
+    both (both (both (both (both (both (from_one (number_between 1 9999 (columns card input.FROM)) (number_in_range 1 9999 (columns card input.FROM))) p.0) p.1)
+    (level_passes 0xd3 (columns card input.CONTROL_LEVEL))) (level_passes 0xd4 (columns card input.MATCHING))) (listed_passes RecordList (columns card input.RELATION)))
+    (both (listed_passes RecordList (columns card input.PLUS)) (both (listed_passes RecordList (columns card input.MINUS)) (both (listed_passes RecordList (columns card input.ZERO)) refl)))
 
 -- ---- the C sheet
-ten_columns : (card : List ℕ) (from to : ℕ) → to - (from - 1) ≤ 10 → length (columns card from to) ≤ 10
+ten_columns : (card : List ℕ) (from to : ℕ) → to - (from - 1) ≤ 10 → length (columns_between card from to) ≤ 10
 ten_columns card from to few = omega (arith, length-take (to - (from - 1)) (drop (from - 1) card))
 
 calculation_passes : (card : List ℕ) → has_bad_definition card ≡ false → calculation_in_range (calculation_line card) ≡ true
 unfolding has_bad_definition calculation_line
 calculation_passes card bad =
-    both (both (both (both (both (time_passes (columns card 7 8)) (conditions_pass (columns card 9 11) (columns card 12 14) (columns card 15 17)))
-    (factor_passes 6 (columns card 18 27) (ten_columns card 18 27 (omega arith))))
-    (factor_passes (longest_name card) (columns card 33 42) (ten_columns card 33 42 (omega arith)))) (not_false (if_given shape_in_range (definition_of (columns card 49 51) (columns card 52 52))) bad))
-    (both (listed_passes ResultingList (columns card 54 55)) (both (listed_passes ResultingList (columns card 56 57)) (both (listed_passes ResultingList (columns card 58 59)) refl)))
+    both (both (both (both (both (time_passes (columns card calculation.CONTROL_LEVEL)) (conditions_pass (columns card calculation.INDICATOR_1) (columns card calculation.INDICATOR_2) (columns card calculation.INDICATOR_3)))
+    (factor_passes 6 (columns card calculation.FACTOR_1) (ten_columns card 18 27 (omega arith))))
+    (factor_passes (longest_name card) (columns card calculation.FACTOR_2) (ten_columns card 33 42 (omega arith)))) (not_false (if_given shape_in_range (definition_of (columns card calculation.LENGTH) (columns card calculation.DECIMALS))) bad))
+    (both (listed_passes ResultingList (columns card calculation.HIGH)) (both (listed_passes ResultingList (columns card calculation.LOW)) (both (listed_passes ResultingList (columns card calculation.EQUAL)) refl)))
 
 -- ---- the O sheet
 space_ranged : (addition : Bool) (entry : List ℕ) → if_given (is_between 0 3) (space_of addition entry) ≡ true
@@ -163,12 +168,12 @@ space_ranged false entry = number_in_range 0 3 entry
 line_passes : (card : List ℕ) → output_in_range (LineCard (output_card card)) ≡ true
 unfolding output_card spacing_of
 line_passes card =
-    both (both (both (both (space_ranged (is_addition card) (columns card 17 17)) (space_ranged (is_addition card) (columns card 18 18)))
-    (number_in_range 1 66 (columns card 19 20))) (number_in_range 1 66 (columns card 21 22)))
-    (conditions_pass (columns card 23 25) (columns card 26 28) (columns card 29 31))
+    both (both (both (both (space_ranged (is_addition card) (columns card output.SPACE_BEFORE)) (space_ranged (is_addition card) (columns card output.SPACE_AFTER)))
+    (number_in_range 1 66 (columns card output.SKIP_BEFORE))) (number_in_range 1 66 (columns card output.SKIP_AFTER)))
+    (conditions_pass (columns card output.INDICATOR_1) (columns card output.INDICATOR_2) (columns card output.INDICATOR_3))
 
 conditions_of_line : (card : List ℕ) → conditions_in_range (three_conditions card) ≡ true
-conditions_of_line card = conditions_pass (columns card 23 25) (columns card 26 28) (columns card 29 31)
+conditions_of_line card = conditions_pass (columns card output.INDICATOR_1) (columns card output.INDICATOR_2) (columns card output.INDICATOR_3)
 
 constant_fits : (entry : List ℕ) (t : Option (List ℕ)) (o : Option ℕ) → constant_text entry ≡ t → length entry ≤ 26 → is_some t ≡ true
     → begins_too_early o t ≡ false → is_some (only (is_between 1 9999) o) ≡ true
@@ -195,17 +200,17 @@ text_given true false some content given is = given
 text_given false empty some content given is = absurd cc
 
 put_passes : (card : List ℕ) → has_no_content card ≡ false → has_early_constant card ≡ false
-    → (are_blank (columns card 45 70) || is_some (constant_text (columns card 45 70))) ≡ true
-    → is_some (number_between 1 9999 (columns card 40 43)) ≡ true → output_in_range (OutputFieldCard (output_field card)) ≡ true
+    → (are_blank (columns card output.CONSTANT) || is_some (constant_text (columns card output.CONSTANT))) ≡ true
+    → is_some (number_between 1 9999 (columns card output.END_POSITION)) ≡ true → output_in_range (OutputFieldCard (output_field card)) ≡ true
 unfolding output_field has_early_constant number_between
 put_passes card content early text known =
-    let entry : List ℕ = columns card 45 70 in
-    let at : Option ℕ = number_of (columns card 40 43) in
+    let entry : List ℕ = columns card output.CONSTANT in
+    let at : Option ℕ = number_of (columns card output.END_POSITION) in
     let short : length entry ≤ 26 = omega (arith, length-take 26 (drop 44 card)) in
     both (both (conditions_of_line card) (from_one (only (is_between 1 9999) at) (only_passes (is_between 1 9999) at)))
-    (content_ranged (are_blank (columns card 32 37)) (unwrap_or (constant_text entry) []) _ (unwrap_or (only (is_between 1 9999) at) 1)
+    (content_ranged (are_blank (columns card output.FIELD_NAME)) (unwrap_or (constant_text entry) []) _ (unwrap_or (only (is_between 1 9999) at) 1)
     (λ blank. constant_fits entry (constant_text entry) at refl short
-    (text_given (are_blank (columns card 32 37)) (are_blank entry) (is_some (constant_text entry)) content text blank) early known))
+    (text_given (are_blank (columns card output.FIELD_NAME)) (are_blank entry) (is_some (constant_text entry)) content text blank) early known))
 
 -- ---- all sheets
 pub record NoFaults (faults : Faults) : Type 0 where
@@ -235,12 +240,12 @@ put_line_passes : (card : List ℕ) → NoFaults (broken_by output_field_rules c
 unfolding output_field_rules rule_faults
 put_line_passes card broken combined =
     put_passes card combined.name combined.number
-    (name_allowed _ (none_at (λ rule. (rule_faults card rule).name) output_field_rules 9 (rule 1 1 Blank) broken.name (lit< tt)))
-    (number_allowed _ (none_at (λ rule. (rule_faults card rule).number) output_field_rules 7 (rule 1 1 Blank) broken.number (lit< tt)))
+    (name_allowed _ (none_at (λ rule. (rule_faults card rule).name) output_field_rules 9 (blank 1 1) broken.name (lit< tt)))
+    (number_allowed _ (none_at (λ rule. (rule_faults card rule).number) output_field_rules 7 (blank 1 1) broken.number (lit< tt)))
 
-file_named : (card : List ℕ) → (broken_by file_rules card).name ≡ false → is_name (columns card 7 14) ≡ true
+file_named : (card : List ℕ) → (broken_by file_rules card).name ≡ false → is_name (columns card shared.FILENAME) ≡ true
 unfolding file_rules rule_faults
-file_named card broken = name_allowed _ (none_at (λ rule. (rule_faults card rule).name) file_rules 0 (rule 1 1 Blank) broken (lit< tt))
+file_named card broken = name_allowed _ (none_at (λ rule. (rule_faults card rule).name) file_rules 0 (blank 1 1) broken (lit< tt))
 
 kind_passes : (kind : CardKind) (card : List ℕ) (number : ℕ) → NoFaults (broken_by (rules_of kind) card) → NoFaults (combined_faults kind card)
     → are_in_range (option_to_list (line_at number (sheet_line kind card))) ≡ true
@@ -250,10 +255,10 @@ kind_passes Unknown card number broken combined = refl
 kind_passes Header card number broken combined = refl
 kind_passes File card number broken combined = both (file_passes card (file_named card broken.name) combined.entry combined.number) refl
 kind_passes Record card number broken combined =
-    both (both (record_indicator_passes (columns card 19 20)) (codes_pass (columns card 21 27) (columns card 28 34) (columns card 35 41))) refl
-kind_passes RecordAnd card number broken combined = both (codes_pass (columns card 21 27) (columns card 28 34) (columns card 35 41)) refl
+    both (both (record_indicator_passes (columns card input.RECORD_INDICATOR)) (codes_pass (columns card input.CODE_1) (columns card input.CODE_2) (columns card input.CODE_3))) refl
+kind_passes RecordAnd card number broken combined = both (codes_pass (columns card input.CODE_1) (columns card input.CODE_2) (columns card input.CODE_3)) refl
 kind_passes RecordOr card number broken combined =
-    both (both (record_indicator_passes (columns card 19 20)) (codes_pass (columns card 21 27) (columns card 28 34) (columns card 35 41))) refl
+    both (both (record_indicator_passes (columns card input.RECORD_INDICATOR)) (codes_pass (columns card input.CODE_1) (columns card input.CODE_2) (columns card input.CODE_3))) refl
 kind_passes Field card number broken combined = both (field_passes card combined.number) refl
 kind_passes Calculation card number broken combined = both (calculation_passes card combined.number) refl
 kind_passes OutputLine card number broken combined = both (line_passes card) refl

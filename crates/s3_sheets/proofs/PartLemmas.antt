@@ -7,12 +7,16 @@ use Rattle.std.proofs.lemmas.Bool.Decides.{nat_tests}
 use Rattle.std.proofs.lemmas.List.{map-append, take_more, take_all, get_or_default}
 use Rattle.std.proofs.lemmas.List.Elements.{filter-append}
 use Rattle.std.proofs.lemmas.List.Folds.{list_any-append}
+use Rattle.s3_entries.specs.declared.calculation.TheConstants as calculation
+use Rattle.s3_entries.specs.declared.file.TheConstants as file
+use Rattle.s3_entries.specs.declared.input.TheConstants as input
+use Rattle.s3_entries.specs.declared.output.TheConstants as output
 use Rattle.s3_lines.specs.Files.{is_printer, is_by_cycle}
 use Rattle.s3_sheets.specs.Lines.{card_at, file_line, field_line, form_of, key_field, definition_of, has_index, is_addition}
 use Rattle.s3_sheets.specs.Kinds.{kind_of}
-use Rattle.s3_sheets.specs.Rules.{no_faults, one_fault, rule_faults, allows, fault_of, is_blank_or, Blank, Number}
+use Rattle.s3_sheets.specs.Rules.{no_faults, one_fault, rule_faults, allows, fault_of, is_blank_or, Number}
 use Rattle.s3_sheets.specs.Rules as spec
-use Rattle.s3_sheets.specs.Columns.{column, columns, only, number_of, number_between}
+use Rattle.s3_sheets.specs.Columns.{column, columns, columns_between, only, number_of, number_between}
 use Rattle.s3_sheets.specs.Combinations.{combined_faults, has_stray_entry, has_bad_extent, has_bad_space, has_bad_content, has_bad_positions, has_bad_factor, has_bad_definition, has_bad_addition, has_no_content, has_early_constant, is_with_index, is_key_within, are_filled, is_of_date}
 use Rattle.s3_cards.specs.Names.{name_of}
 use Rattle.s3_cards.specs.declared.ebcdic.TheConstants.{LETTER_P}
@@ -22,7 +26,7 @@ use Rattle.s3_lines.specs.declared.sheet.KeyField.{KeyField}
 use Rattle.s3_lines.specs.declared.sheet.Shape.{Shape}
 use Rattle.s3_lines.specs.declared.sheet.Shape.TheVariants.{Alphanumeric, Numeric}
 use Rattle.s3_sheets.specs.Sheets.{before, lacks_file, exceeds, kind_at, standing_at, card_holds, faults_of, names_position_past, is_outside, length_for}
-use Rattle.s3_sheets.specs.Tables.{rules_of, rule, maybe, field_rules}
+use Rattle.s3_sheets.specs.Tables.{rules_of, maybe, field_rules, rule, blank}
 use Rattle.s3_sheets.specs.Inner.Parts.{fault_number, rule_part, combined_parts, position_parts, standing_parts, parts_with, length_at, parts_at, entry_of, fails, entries_of, entries_below, faulty_entries, has_entry, has_record_length, has_surplus_decimals, has_surplus, IsToldByEntries}
 use Rattle.s3_sheets.specs.Inner.RuleViews.{rule_view}
 use Rattle.s3_sheets.specs.Inner.Progress.{Kept, nothing_kept, length_named, kept_behind, standing_behind}
@@ -254,7 +258,7 @@ not_13 WrongNumber = refl
 
 -- where what a rule's part tells is what its fault says, so it is of all rules
 rules_told : (number : ℕ) (card : List ℕ) (says : spec.Rule → Bool)
-    → ((rule : spec.Rule) → told_by_fault number (fault_of rule.entry) (allows rule.entry (columns card rule.from rule.to)) ≡ says rule)
+    → ((rule : spec.Rule) → told_by_fault number (fault_of rule.entry) (allows rule.entry (columns_between card rule.from rule.to)) ≡ says rule)
     → (rules : List spec.Rule) → list_any (is_told number) (map (rule_part card) rules) ≡ list_any says rules
 unfolding is_told told_by_fault
 rules_told number card says same [] = refl
@@ -267,26 +271,26 @@ none_says (rule ∷ rules) = none_says rules
 rules_told_2 : (card : List ℕ) (rules : List spec.Rule) → list_any (is_told 2) (map (rule_part card) rules) ≡ list_any (λ rule. (rule_faults card rule).entry) rules
 unfolding rule_faults
 rules_told_2 card rules =
-    rules_told 2 card (λ rule. (rule_faults card rule).entry) (λ rule. entry_by_fault (fault_of rule.entry) (allows rule.entry (columns card rule.from rule.to))) rules
+    rules_told 2 card (λ rule. (rule_faults card rule).entry) (λ rule. entry_by_fault (fault_of rule.entry) (allows rule.entry (columns_between card rule.from rule.to))) rules
 
 rules_told_3 : (card : List ℕ) (rules : List spec.Rule) → list_any (is_told 3) (map (rule_part card) rules) ≡ list_any (λ rule. (rule_faults card rule).name) rules
 unfolding rule_faults
 rules_told_3 card rules =
-    rules_told 3 card (λ rule. (rule_faults card rule).name) (λ rule. name_by_fault (fault_of rule.entry) (allows rule.entry (columns card rule.from rule.to))) rules
+    rules_told 3 card (λ rule. (rule_faults card rule).name) (λ rule. name_by_fault (fault_of rule.entry) (allows rule.entry (columns_between card rule.from rule.to))) rules
 
 rules_told_4 : (card : List ℕ) (rules : List spec.Rule) → list_any (is_told 4) (map (rule_part card) rules) ≡ list_any (λ rule. (rule_faults card rule).number) rules
 unfolding rule_faults
 rules_told_4 card rules =
-    rules_told 4 card (λ rule. (rule_faults card rule).number) (λ rule. number_by_fault (fault_of rule.entry) (allows rule.entry (columns card rule.from rule.to))) rules
+    rules_told 4 card (λ rule. (rule_faults card rule).number) (λ rule. number_by_fault (fault_of rule.entry) (allows rule.entry (columns_between card rule.from rule.to))) rules
 
 rules_told_1 : (card : List ℕ) (rules : List spec.Rule) → list_any (is_told 1) (map (rule_part card) rules) ≡ false
 rules_told_1 card rules =
-    rules_told 1 card (λ rule. false) (λ rule. none_by_fault 1 (fault_of rule.entry) (allows rule.entry (columns card rule.from rule.to)) (not_1 (fault_of rule.entry))) rules
+    rules_told 1 card (λ rule. false) (λ rule. none_by_fault 1 (fault_of rule.entry) (allows rule.entry (columns_between card rule.from rule.to)) (not_1 (fault_of rule.entry))) rules
     ∙ none_says rules
 
 rules_told_13 : (card : List ℕ) (rules : List spec.Rule) → list_any (is_told 13) (map (rule_part card) rules) ≡ false
 rules_told_13 card rules =
-    rules_told 13 card (λ rule. false) (λ rule. none_by_fault 13 (fault_of rule.entry) (allows rule.entry (columns card rule.from rule.to)) (not_13 (fault_of rule.entry))) rules
+    rules_told 13 card (λ rule. false) (λ rule. none_by_fault 13 (fault_of rule.entry) (allows rule.entry (columns_between card rule.from rule.to)) (not_13 (fault_of rule.entry))) rules
     ∙ none_says rules
 
 -- ---- columns together
@@ -407,21 +411,21 @@ or_fourth false false false d e is = ap (λ x. x || e) is
 number_at_fault : (allowed : Bool) → allowed ≡ false → (if allowed then no_faults else one_fault WrongNumber).number ≡ true
 number_at_fault allowed bad = ap (λ b. (if b then no_faults else one_fault WrongNumber).number) bad
 
-first_told : (card : List ℕ) → is_some (number_between 1 9999 (columns card 44 47)) ≡ false
+first_told : (card : List ℕ) → is_some (number_between 1 9999 (columns card input.FROM)) ≡ false
     → list_any (λ rule. (rule_faults card rule).number) field_rules ≡ true
 unfolding field_rules rule_faults
 first_told card unknown =
-    or_third ((rule_faults card (rule 7 42 Blank)).number) ((rule_faults card (rule 43 43 (maybe (codes "P")))).number) ((rule_faults card (rule 44 47 (Number 1 9999))).number)
+    or_third ((rule_faults card (blank 7 42)).number) ((rule_faults card (rule input.PACKED (maybe (codes "P")))).number) ((rule_faults card (rule input.FROM (Number 1 9999))).number)
     (list_any (λ rule. (rule_faults card rule).number) (drop 3 field_rules))
-    (number_at_fault (is_some (number_between 1 9999 (columns card 44 47))) unknown)
+    (number_at_fault (is_some (number_between 1 9999 (columns card input.FROM))) unknown)
 
-last_told : (card : List ℕ) → is_some (number_between 1 9999 (columns card 48 51)) ≡ false
+last_told : (card : List ℕ) → is_some (number_between 1 9999 (columns card input.TO)) ≡ false
     → list_any (λ rule. (rule_faults card rule).number) field_rules ≡ true
 unfolding field_rules rule_faults
 last_told card unknown =
-    or_fourth ((rule_faults card (rule 7 42 Blank)).number) ((rule_faults card (rule 43 43 (maybe (codes "P")))).number) ((rule_faults card (rule 44 47 (Number 1 9999))).number)
-    ((rule_faults card (rule 48 51 (Number 1 9999))).number) (list_any (λ rule. (rule_faults card rule).number) (drop 4 field_rules))
-    (number_at_fault (is_some (number_between 1 9999 (columns card 48 51))) unknown)
+    or_fourth ((rule_faults card (blank 7 42)).number) ((rule_faults card (rule input.PACKED (maybe (codes "P")))).number) ((rule_faults card (rule input.FROM (Number 1 9999))).number)
+    ((rule_faults card (rule input.TO (Number 1 9999))).number) (list_any (λ rule. (rule_faults card rule).number) (drop 4 field_rules))
+    (number_at_fault (is_some (number_between 1 9999 (columns card input.TO))) unknown)
 
 spaces : (n x y : Bool) → ((n && x) || ((n && y) || false)) ≡ (n && (x || y))
 spaces true true y = refl
@@ -466,7 +470,7 @@ unfolding is_told has_stray_entry has_bad_content
 combined_told_2 Comment card = refl
 combined_told_2 Unknown card = refl
 combined_told_2 Header card = refl
-combined_told_2 File card = stray ((file_line card).ends_job && not (is_by_cycle (file_line card).designation)) (not (is_with_index (file_line card))) (are_filled card 29 30) (are_filled card 35 38) (are_filled card 33 34 && not (is_printer (file_line card).device))
+combined_told_2 File card = stray ((file_line card).ends_job && not (is_by_cycle (file_line card).designation)) (not (is_with_index (file_line card))) (are_filled card file.KEY_LENGTH) (are_filled card file.KEY_START) (are_filled card file.OVERFLOW && not (is_printer (file_line card).device))
 combined_told_2 Record card = refl
 combined_told_2 RecordAnd card = refl
 combined_told_2 RecordOr card = refl
@@ -475,7 +479,7 @@ combined_told_2 Calculation card = refl
 combined_told_2 OutputLine card = or_false (has_bad_addition card)
 combined_told_2 OutputAnd card = refl
 combined_told_2 OutputOr card = refl
-combined_told_2 OutputField card = content (are_filled card 45 70) (are_filled card 32 37) (are_filled card 38 38) (are_filled card 39 39) (are_filled card 44 44) (is_of_date (name_of (columns card 32 37)))
+combined_told_2 OutputField card = content (are_filled card output.CONSTANT) (are_filled card output.FIELD_NAME) (are_filled card output.EDIT_CODE) (are_filled card output.BLANK_AFTER) (are_filled card output.PACKED) (is_of_date (name_of (columns card output.FIELD_NAME)))
 
 combined_told_3 : (kind : CardKind) (card : List ℕ) → list_any (is_told 3) (combined_parts kind card) ≡ (combined_faults kind card).name
 unfolding is_told
@@ -538,29 +542,29 @@ told_by_all_4 Header card limit = refl
 told_by_all_4 File card limit =
     ap (λ b. list_any (λ rule. (rule_faults card rule).number) (rules_of File) || (b || false))
     (extent (has_record_length (file_line card)) (has_index card) (file_line card).record_length
-    (number_between 1 29 (columns card 29 30)) (number_between 1 9999 (columns card 35 38)))
+    (number_between 1 29 (columns card file.KEY_LENGTH)) (number_between 1 9999 (columns card file.KEY_START)))
 told_by_all_4 Record card limit =
     ap (λ b. list_any (λ rule. (rule_faults card rule).number) (rules_of Record) || b)
-    (three_positions (exceeds (number_of (columns card 21 24)) limit) (exceeds (number_of (columns card 28 31)) limit) (exceeds (number_of (columns card 35 38)) limit))
+    (three_positions (exceeds (number_of (columns card input.POSITION_1)) limit) (exceeds (number_of (columns card input.POSITION_2)) limit) (exceeds (number_of (columns card input.POSITION_3)) limit))
 told_by_all_4 RecordAnd card limit =
     ap (λ b. list_any (λ rule. (rule_faults card rule).number) (rules_of RecordAnd) || b)
-    (three_positions (exceeds (number_of (columns card 21 24)) limit) (exceeds (number_of (columns card 28 31)) limit) (exceeds (number_of (columns card 35 38)) limit))
+    (three_positions (exceeds (number_of (columns card input.POSITION_1)) limit) (exceeds (number_of (columns card input.POSITION_2)) limit) (exceeds (number_of (columns card input.POSITION_3)) limit))
 told_by_all_4 RecordOr card limit =
     ap (λ b. list_any (λ rule. (rule_faults card rule).number) (rules_of RecordOr) || b)
-    (three_positions (exceeds (number_of (columns card 21 24)) limit) (exceeds (number_of (columns card 28 31)) limit) (exceeds (number_of (columns card 35 38)) limit))
+    (three_positions (exceeds (number_of (columns card input.POSITION_1)) limit) (exceeds (number_of (columns card input.POSITION_2)) limit) (exceeds (number_of (columns card input.POSITION_3)) limit))
 told_by_all_4 Field card limit =
     field_told (list_any (λ rule. (rule_faults card rule).number) (rules_of Field))
-    (number_of (columns card 44 47)) (number_of (columns card 48 51)) (form_of (column card 43 == LETTER_P) (columns card 52 52)) limit
+    (number_of (columns card input.FROM)) (number_of (columns card input.TO)) (form_of (column card input.PACKED == LETTER_P) (columns card input.DECIMALS)) limit
     (first_told card) (last_told card)
 told_by_all_4 Calculation card limit =
-    ap (λ b. list_any (λ rule. (rule_faults card rule).number) (rules_of Calculation) || (b || false)) (defined_surplus (definition_of (columns card 49 51) (columns card 52 52)))
+    ap (λ b. list_any (λ rule. (rule_faults card rule).number) (rules_of Calculation) || (b || false)) (defined_surplus (definition_of (columns card calculation.LENGTH) (columns card calculation.DECIMALS)))
 told_by_all_4 OutputLine card limit =
     ap (λ b. list_any (λ rule. (rule_faults card rule).number) (rules_of OutputLine) || (b || false))
-    (spaces (not (is_addition card)) (not (is_blank_or (number_between 0 3) (columns card 17 17))) (not (is_blank_or (number_between 0 3) (columns card 18 18))))
+    (spaces (not (is_addition card)) (not (is_blank_or (number_between 0 3) (columns card output.SPACE_BEFORE))) (not (is_blank_or (number_between 0 3) (columns card output.SPACE_AFTER))))
 told_by_all_4 OutputAnd card limit = refl
 told_by_all_4 OutputOr card limit = refl
 told_by_all_4 OutputField card limit =
-    (λ i. list_any (λ rule. (rule_faults card rule).number) (rules_of OutputField) || (or_false (has_early_constant card) i || or_false (exceeds (number_of (columns card 40 43)) limit) i))
+    (λ i. list_any (λ rule. (rule_faults card rule).number) (rules_of OutputField) || (or_false (has_early_constant card) i || or_false (exceeds (number_of (columns card output.END_POSITION)) limit) i))
 
 positions_told_1 : (kind : CardKind) (card : List ℕ) (limit : Option ℕ) → list_any (is_told 1) (position_parts kind card limit) ≡ false
 unfolding is_told

@@ -6,6 +6,7 @@ use Rattle.std.specs.Option.{option_to_list}
 use Rattle.std.proofs.lemmas.Bool.Decides.{nat_tests}
 use Rattle.std.proofs.lemmas.List.{map-append, take_more}
 use Rattle.std.proofs.lemmas.List.Folds.{list_any-append}
+use Rattle.s3_entries.specs.declared.shared.TheConstants as shared
 use Rattle.s3_sheets.specs.Columns.{columns, are_blank}
 use Rattle.s3_cards.specs.Names.{name_of}
 use Rattle.s3_sheets.specs.Kinds.{kind_of, sheet_of, is_record, is_output_line}
@@ -67,7 +68,7 @@ misplaced_same OutputField earlier latest h = sym (h 5)
 lacks_same : (cards : List (List ℕ)) (n : ℕ) (kept : Kept) → IsKept cards n kept
     → lacks_its_file kept (kind_at cards n) (card_at cards n) ≡ lacks_file (kind_at cards n) (before cards n) (card_at cards n)
 lacks_same cards n kept so_far =
-    ap (λ b. is_output_line (kind_at cards n) && are_blank (columns (card_at cards n) 7 14) && not b) (sym so_far.of_lines)
+    ap (λ b. is_output_line (kind_at cards n) && are_blank (columns (card_at cards n) shared.FILENAME) && not b) (sym so_far.of_lines)
 
 pub fault_same : (cards : List (List ℕ)) (n : ℕ) (kept : Kept) → IsKept cards n kept → is_at_fault_behind kept (card_at cards n) ≡ is_at_fault cards n
 unfolding is_at_fault_behind is_at_fault
@@ -96,7 +97,7 @@ fields_same cards n kept so_far =
     (outside_same cards n kept so_far))
 
 named_same : (cards : List (List ℕ)) (n : ℕ) (kept : Kept) → IsKept cards n kept → length_named kept (card_at cards n) ≡ named_length cards n
-named_same cards n kept so_far = ap (λ known. record_length_of known (name_of (columns (card_at cards n) 7 14))) so_far.of_files
+named_same cards n kept so_far = ap (λ known. record_length_of known (name_of (columns (card_at cards n) shared.FILENAME))) so_far.of_files
 
 input_same : (cards : List (List ℕ)) (n : ℕ) (kept : Kept) → IsKept cards n kept
     → length_behind (is_record (kind_at cards n)) (is_at_fault_behind kept (card_at cards n) || has_code_past (card_at cards n) (length_named kept (card_at cards n)))
@@ -108,11 +109,11 @@ input_same cards n kept so_far = λ i.
 
 output_same : (cards : List (List ℕ)) (n : ℕ) (kept : Kept) → IsKept cards n kept
     → length_behind (is_output_line (kind_at cards n)) (is_at_fault_behind kept (card_at cards n))
-    (line_length (are_blank (columns (card_at cards n) 7 14)) (length_named kept (card_at cards n)) kept.output_length) kept.output_length
+    (line_length (are_blank (columns (card_at cards n) shared.FILENAME)) (length_named kept (card_at cards n)) kept.output_length) kept.output_length
     ≡ output_length cards (suc n)
 output_same cards n kept so_far = λ i.
     length_behind (is_output_line (kind_at cards n)) (fault_same cards n kept so_far i)
-    (line_length (are_blank (columns (card_at cards n) 7 14)) (named_same cards n kept so_far i) (so_far.of_output i)) (so_far.of_output i)
+    (line_length (are_blank (columns (card_at cards n) shared.FILENAME)) (named_same cards n kept so_far i) (so_far.of_output i)) (so_far.of_output i)
 
 behind_later : (sheet a b : ℕ) → (is_behind sheet a || is_behind sheet b) ≡ is_behind sheet (max a b)
 behind_later sheet a b = grind (arith, nat_tests)

@@ -5,15 +5,20 @@ use Rattle.std.specs.Cmp.Lexicographic.{pointwise}
 use Rattle.std.specs.Int.Digits.{number_from_digits}
 use Rattle.s3_cards.specs.declared.ebcdic.TheConstants.{DIGIT_0}
 use Rattle.s3_cards.specs.Names.{is_blank, is_digit}
+use Rattle.s3_entries.specs.declared.span.Span.{Span}
 use Rattle.s3_lines.specs.Ranges.{is_between}
 
 -- the columns from one to another, both counted from 1
-abbrev pub columns : List ℕ → ℕ → ℕ → List ℕ
-columns card from to = slice_range card (from - 1) to
+abbrev pub columns_between : List ℕ → ℕ → ℕ → List ℕ
+columns_between card from to = slice_range card (from - 1) to
 
--- the column of a number, counted from 1
-abbrev pub column : List ℕ → ℕ → ℕ
-column card number = slice_index card (number - 1)
+-- the columns of an entry
+abbrev pub columns : List ℕ → Span → List ℕ
+columns card entry = columns_between card entry.from entry.to
+
+-- what is in an entry of one column
+abbrev pub column : List ℕ → Span → ℕ
+column card entry = slice_index card (entry.from - 1)
 
 abbrev pub same_codes : List ℕ → List ℕ → Bool
 same_codes a b = pointwise nat_eq a b

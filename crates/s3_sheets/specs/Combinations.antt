@@ -1,5 +1,9 @@
 -- What several columns of a card show together.
 use Rattle.std.specs.Prelude.{ℕ, ◌+◌, ◌-◌, List, Bool, false, ◌&&◌, ◌||◌, not, Option, Some, None, length, nat_lt, nat_le}
+use Rattle.s3_entries.specs.declared.calculation.TheConstants as calculation
+use Rattle.s3_entries.specs.declared.file.TheConstants as file
+use Rattle.s3_entries.specs.declared.output.TheConstants as output
+use Rattle.s3_entries.specs.declared.span.Span.{Span}
 use Rattle.s3_lines.specs.Files.{is_printer, is_by_cycle}
 use Rattle.s3_cards.specs.Names.{name_of, same_name}
 use Rattle.s3_cards.specs.declared.name.Name.{Name}
@@ -16,9 +20,9 @@ use Rattle.s3_sheets.specs.declared.kind.CardKind.{CardKind}
 use Rattle.s3_sheets.specs.declared.kind.CardKind.TheVariants.{Comment, Unknown, Header, File, Record, RecordAnd, RecordOr, Field, Calculation, OutputLine, OutputAnd, OutputOr, OutputField}
 use Rattle.s3_sheets.specs.declared.faults.Faults.{Faults}
 
--- whether some columns are filled
-abbrev pub are_filled : List ℕ → ℕ → ℕ → Bool
-are_filled card from to = not (are_blank (columns card from to))
+-- whether some columns of an entry are filled
+abbrev pub are_filled : List ℕ → Span → Bool
+are_filled card entry = not (are_blank (columns card entry))
 
 -- ---- the F sheet
 abbrev pub is_with_index : FileLine → Bool
@@ -28,10 +32,10 @@ is_with_index file = file.is_keyed && file.is_indexed
 -- indicator for print files
 unfoldable pub has_stray_entry : List ℕ → Bool
 has_stray_entry card =
-    let file : FileLine = file_line card in
-    (file.ends_job && not (is_by_cycle file.designation))
-    || (not (is_with_index file) && (are_filled card 29 30 || are_filled card 35 38))
-    || (are_filled card 33 34 && not (is_printer file.device))
+    let line : FileLine = file_line card in
+    (line.ends_job && not (is_by_cycle line.designation))
+    || (not (is_with_index line) && (are_filled card file.KEY_LENGTH || are_filled card file.KEY_START))
+    || (are_filled card file.OVERFLOW && not (is_printer line.device))
 
 -- whether a key lies in a record
 abbrev pub is_key_within : ℕ → Option KeyField → Bool
@@ -53,21 +57,21 @@ has_bad_positions card =
 
 -- ---- the C sheet
 unfoldable pub has_bad_factor : List ℕ → Bool
-has_bad_factor card = not (is_blank_or (factor_of (longest_name card)) (columns card 33 42))
+has_bad_factor card = not (is_blank_or (factor_of (longest_name card)) (columns card calculation.FACTOR_2))
 
 -- a result has 1 to 256 characters, or with decimals 1 to 15 digits; without a length it isn't defined
 unfoldable pub has_bad_definition : List ℕ → Bool
-has_bad_definition card = not (if_given shape_in_range (definition_of (columns card 49 51) (columns card 52 52)))
+has_bad_definition card = not (if_given shape_in_range (definition_of (columns card calculation.LENGTH) (columns card calculation.DECIMALS)))
 
 -- ---- the O sheet
 -- 16 to 18 have ADD, or 16 is blank and 17 and 18 have spaces
 unfoldable pub has_bad_addition : List ℕ → Bool
-has_bad_addition card = not (is_addition card) && are_filled card 16 16
+has_bad_addition card = not (is_addition card) && are_filled card output.BEFORE_SPACES
 
 unfoldable pub has_bad_space : List ℕ → Bool
 has_bad_space card =
     not (is_addition card)
-    && (not (is_blank_or (number_between 0 3) (columns card 17 17)) || not (is_blank_or (number_between 0 3) (columns card 18 18)))
+    && (not (is_blank_or (number_between 0 3) (columns card output.SPACE_BEFORE)) || not (is_blank_or (number_between 0 3) (columns card output.SPACE_AFTER)))
 
 -- UDATE, UMONTH, UDAY, UYEAR
 abbrev pub is_of_date : Name → Bool
@@ -77,13 +81,13 @@ is_of_date name = is_reserved name && not (same_name name page)
 -- packed field, B on a field of the date
 unfoldable pub has_bad_content : List ℕ → Bool
 has_bad_content card =
-    (are_filled card 45 70 && (are_filled card 32 37 || are_filled card 38 38 || are_filled card 39 39 || are_filled card 44 44))
-    || (are_filled card 32 37 && are_filled card 38 38 && are_filled card 44 44)
-    || (are_filled card 39 39 && is_of_date (name_of (columns card 32 37)))
+    (are_filled card output.CONSTANT && (are_filled card output.FIELD_NAME || are_filled card output.EDIT_CODE || are_filled card output.BLANK_AFTER || are_filled card output.PACKED))
+    || (are_filled card output.FIELD_NAME && are_filled card output.EDIT_CODE && are_filled card output.PACKED)
+    || (are_filled card output.BLANK_AFTER && is_of_date (name_of (columns card output.FIELD_NAME)))
 
 -- neither a field nor a constant
 abbrev pub has_no_content : List ℕ → Bool
-has_no_content card = are_blank (columns card 32 37) && are_blank (columns card 45 70)
+has_no_content card = are_blank (columns card output.FIELD_NAME) && are_blank (columns card output.CONSTANT)
 
 -- a constant begins at position 1 or later
 abbrev pub begins_too_early : Option ℕ → Option (List ℕ) → Bool
@@ -92,7 +96,7 @@ begins_too_early (Some end) None = false
 begins_too_early None text = false
 
 unfoldable pub has_early_constant : List ℕ → Bool
-has_early_constant card = begins_too_early (number_of (columns card 40 43)) (constant_text (columns card 45 70))
+has_early_constant card = begins_too_early (number_of (columns card output.END_POSITION)) (constant_text (columns card output.CONSTANT))
 
 -- ---- all sheets
 -- what is wrong with columns of a card together

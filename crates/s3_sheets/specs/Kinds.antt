@@ -2,36 +2,38 @@
 use Rattle.std.specs.Prelude.{ℕ, List, Bool, true, false, ◌==◌, ◌&&◌, if◌then◌else◌, codes}
 use Rattle.s3_cards.specs.declared.ebcdic.TheConstants.{ASTERISK, LETTER_C, LETTER_F, LETTER_H, LETTER_I, LETTER_O}
 use Rattle.s3_cards.specs.Codes.{ebcdic}
+use Rattle.s3_entries.specs.declared.output.TheConstants as output
+use Rattle.s3_entries.specs.declared.shared.TheConstants as shared
 use Rattle.s3_sheets.specs.Columns.{column, columns, are_blank, same_codes}
 use Rattle.s3_sheets.specs.declared.kind.CardKind.{CardKind}
 use Rattle.s3_sheets.specs.declared.kind.CardKind.TheVariants.{Comment, Unknown, Header, File, Record, RecordAnd, RecordOr, Field, Calculation, OutputLine, OutputAnd, OutputOr, OutputField}
 
 -- AND in 14-16, with the name columns before it blank
 unfoldable pub says_and : List ℕ → Bool
-says_and card = are_blank (columns card 7 13) && same_codes (columns card 14 16) (ebcdic (codes "AND"))
+says_and card = are_blank (columns card shared.BEFORE_GROUP) && same_codes (columns card shared.GROUP) (ebcdic (codes "AND"))
 
 -- OR in 14-16, with the name columns before it blank
 unfoldable pub says_or : List ℕ → Bool
-says_or card = are_blank (columns card 7 13) && same_codes (columns card 14 16) (ebcdic (codes "OR "))
+says_or card = are_blank (columns card shared.BEFORE_GROUP) && same_codes (columns card shared.GROUP) (ebcdic (codes "OR "))
 
 abbrev pub input_kind : List ℕ → CardKind
 input_kind card =
     if says_and card then RecordAnd
     else if says_or card then RecordOr
-    else if are_blank (columns card 7 14) then Field
+    else if are_blank (columns card shared.FILENAME) then Field
     else Record
 
 abbrev pub output_kind : List ℕ → CardKind
 output_kind card =
     if says_and card then OutputAnd
     else if says_or card then OutputOr
-    else if are_blank (columns card 7 15) then OutputField
+    else if are_blank (columns card output.FILENAME_AND_TYPE) then OutputField
     else OutputLine
 
 unfoldable pub kind_of : List ℕ → CardKind
 kind_of card =
-    let form : ℕ = column card 6 in
-    if column card 7 == ASTERISK then Comment
+    let form : ℕ = column card shared.FORM_TYPE in
+    if column card shared.COMMENT == ASTERISK then Comment
     else if form == LETTER_H then Header
     else if form == LETTER_F then File
     else if form == LETTER_I then input_kind card

@@ -7,6 +7,12 @@ use Rattle.s3_cards.specs.Names.{name_of}
 use Rattle.s3_cards.specs.declared.name.Name.{Name}
 use Rattle.s3_edit.specs.Codes.{code_of as edit_code_of}
 use Rattle.s3_edit.specs.declared.code.EditCode.{EditCode}
+use Rattle.s3_entries.specs.declared.calculation.TheConstants as calculation
+use Rattle.s3_entries.specs.declared.file.TheConstants as file
+use Rattle.s3_entries.specs.declared.header.TheConstants as header
+use Rattle.s3_entries.specs.declared.input.TheConstants as input
+use Rattle.s3_entries.specs.declared.output.TheConstants as output
+use Rattle.s3_entries.specs.declared.shared.TheConstants as shared
 use Rattle.s3_sheets.specs.Columns.{column, columns, are_blank, same_codes, number_of, number_between}
 use Rattle.s3_sheets.specs.Indicators.{listed, level_behind, condition_of}
 use Rattle.s3_sheets.specs.Entries.{constant, constant_text, factor_of, code_of, time_of, operation_of}
@@ -74,30 +80,30 @@ device_of entry =
 
 -- A in 31 and I in 32
 abbrev pub has_index : List ℕ → Bool
-has_index card = (column card 31 == LETTER_A) && (column card 32 == LETTER_I)
+has_index card = (column card file.ADDRESS_TYPE == LETTER_A) && (column card file.ORGANIZATION == LETTER_I)
 
 abbrev pub key_field : Option ℕ → Option ℕ → Option KeyField
 key_field (Some length) (Some start) = Some (record { length = length; start = start })
 key_field _ _ = None
 
 abbrev pub key_of : List ℕ → Option KeyField
-key_of card = if has_index card then key_field (number_between 1 29 (columns card 29 30)) (number_between 1 9999 (columns card 35 38)) else None
+key_of card = if has_index card then key_field (number_between 1 29 (columns card file.KEY_LENGTH)) (number_between 1 9999 (columns card file.KEY_START)) else None
 
 unfoldable pub file_line : List ℕ → FileLine
 file_line card = record {
-  name = name_of (columns card 7 14);
-  usage = use_of (column card 15);
-  designation = designation_of (column card 16);
-  ends_job = column card 17 == LETTER_E;
-  record_length = number_or_zero (columns card 24 27);
-  is_random = column card 28 == LETTER_R;
-  is_keyed = column card 31 == LETTER_A;
-  is_indexed = column card 32 == LETTER_I;
+  name = name_of (columns card shared.FILENAME);
+  usage = use_of (column card file.TYPE);
+  designation = designation_of (column card file.DESIGNATION);
+  ends_job = column card file.END == LETTER_E;
+  record_length = number_or_zero (columns card file.RECORD_LENGTH);
+  is_random = column card file.MODE == LETTER_R;
+  is_keyed = column card file.ADDRESS_TYPE == LETTER_A;
+  is_indexed = column card file.ORGANIZATION == LETTER_I;
   key = key_of card;
-  overflow = listed OverflowList (columns card 33 34);
-  device = device_of (columns card 40 46);
-  has_additions = column card 66 == LETTER_A;
-  condition = listed SwitchList (columns card 71 72);
+  overflow = listed OverflowList (columns card file.OVERFLOW);
+  device = device_of (columns card file.DEVICE);
+  has_additions = column card file.ADDITION == LETTER_A;
+  condition = listed SwitchList (columns card file.CONDITION);
 }
 
 -- ---- the I sheet
@@ -105,7 +111,7 @@ abbrev pub record_indicator : List ℕ → Indicator
 record_indicator entry = unwrap_or (listed RecordList entry) (General 1)
 
 abbrev pub three_codes : List ℕ → List (Option RecordCode)
-three_codes card = code_of (columns card 21 27) ∷ code_of (columns card 28 34) ∷ code_of (columns card 35 41) ∷ []
+three_codes card = code_of (columns card input.CODE_1) ∷ code_of (columns card input.CODE_2) ∷ code_of (columns card input.CODE_3) ∷ []
 
 -- with decimals a number, else characters
 abbrev pub form_of : Bool → List ℕ → FieldForm
@@ -115,20 +121,20 @@ form_of packed decimals =
 
 unfoldable pub field_line : List ℕ → FieldLine Name
 field_line card = record {
-  name = name_of (columns card 53 58);
-  from = unwrap_or (number_between 1 9999 (columns card 44 47)) 1;
-  to = unwrap_or (number_between 1 9999 (columns card 48 51)) 1;
-  form = form_of (column card 43 == LETTER_P) (columns card 52 52);
-  control_level = level_behind LETTER_L (columns card 59 60);
-  match_level = level_behind LETTER_M (columns card 61 62);
-  relation = listed RecordList (columns card 63 64);
-  indicators = listed RecordList (columns card 65 66) ∷ listed RecordList (columns card 67 68) ∷ listed RecordList (columns card 69 70) ∷ [];
+  name = name_of (columns card input.FIELD_NAME);
+  from = unwrap_or (number_between 1 9999 (columns card input.FROM)) 1;
+  to = unwrap_or (number_between 1 9999 (columns card input.TO)) 1;
+  form = form_of (column card input.PACKED == LETTER_P) (columns card input.DECIMALS);
+  control_level = level_behind LETTER_L (columns card input.CONTROL_LEVEL);
+  match_level = level_behind LETTER_M (columns card input.MATCHING);
+  relation = listed RecordList (columns card input.RELATION);
+  indicators = listed RecordList (columns card input.PLUS) ∷ listed RecordList (columns card input.MINUS) ∷ listed RecordList (columns card input.ZERO) ∷ [];
 }
 
 -- ---- the C sheet
 -- how long a name in factor 2 may be: CHAIN has a file there
 abbrev pub longest_name : List ℕ → ℕ
-longest_name card = if same_codes (columns card 28 32) (ebcdic (codes "CHAIN")) then 8 else 6
+longest_name card = if same_codes (columns card calculation.OPERATION) (ebcdic (codes "CHAIN")) then 8 else 6
 
 -- the shape that a length and decimals give; a length without decimals is one of characters
 abbrev pub definition_of : List ℕ → List ℕ → Option Shape
@@ -138,21 +144,21 @@ definition_of size decimals =
 
 unfoldable pub calculation_line : List ℕ → CalculationLine Name
 calculation_line card = record {
-  time = unwrap_or (time_of (columns card 7 8)) DetailTime;
-  conditions = condition_of (columns card 9 11) ∷ condition_of (columns card 12 14) ∷ condition_of (columns card 15 17) ∷ [];
-  factor1 = factor_of 6 (columns card 18 27);
-  operation = operation_of (columns card 28 32);
-  factor2 = factor_of (longest_name card) (columns card 33 42);
-  result = maybe_name (columns card 43 48);
-  definition = definition_of (columns card 49 51) (columns card 52 52);
-  half_adjust = column card 53 == LETTER_H;
-  indicators = listed ResultingList (columns card 54 55) ∷ listed ResultingList (columns card 56 57) ∷ listed ResultingList (columns card 58 59) ∷ [];
+  time = unwrap_or (time_of (columns card calculation.CONTROL_LEVEL)) DetailTime;
+  conditions = condition_of (columns card calculation.INDICATOR_1) ∷ condition_of (columns card calculation.INDICATOR_2) ∷ condition_of (columns card calculation.INDICATOR_3) ∷ [];
+  factor1 = factor_of 6 (columns card calculation.FACTOR_1);
+  operation = operation_of (columns card calculation.OPERATION);
+  factor2 = factor_of (longest_name card) (columns card calculation.FACTOR_2);
+  result = maybe_name (columns card calculation.RESULT);
+  definition = definition_of (columns card calculation.LENGTH) (columns card calculation.DECIMALS);
+  half_adjust = column card calculation.HALF_ADJUST == LETTER_H;
+  indicators = listed ResultingList (columns card calculation.HIGH) ∷ listed ResultingList (columns card calculation.LOW) ∷ listed ResultingList (columns card calculation.EQUAL) ∷ [];
 }
 
 -- ---- the O sheet
 abbrev pub three_conditions : List ℕ → List (Option Condition)
 three_conditions card =
-    condition_of (columns card 23 25) ∷ condition_of (columns card 26 28) ∷ condition_of (columns card 29 31) ∷ []
+    condition_of (columns card output.INDICATOR_1) ∷ condition_of (columns card output.INDICATOR_2) ∷ condition_of (columns card output.INDICATOR_3) ∷ []
 
 abbrev pub output_kind_of : ℕ → OutputKind
 output_kind_of code =
@@ -163,7 +169,7 @@ output_kind_of code =
 
 -- ADD in 16 to 18
 unfoldable pub is_addition : List ℕ → Bool
-is_addition card = same_codes (columns card 16 18) (ebcdic (codes "ADD"))
+is_addition card = same_codes (columns card output.ADDITION) (ebcdic (codes "ADD"))
 
 -- with ADD the columns of the spaces have letters of that word
 abbrev pub space_of : Bool → List ℕ → Option ℕ
@@ -171,16 +177,16 @@ space_of addition entry = if addition then None else number_between 0 3 entry
 
 unfoldable pub spacing_of : List ℕ → Spacing
 spacing_of card = record {
-  space_before = space_of (is_addition card) (columns card 17 17);
-  space_after = space_of (is_addition card) (columns card 18 18);
-  skip_before = number_between 1 66 (columns card 19 20);
-  skip_after = number_between 1 66 (columns card 21 22);
+  space_before = space_of (is_addition card) (columns card output.SPACE_BEFORE);
+  space_after = space_of (is_addition card) (columns card output.SPACE_AFTER);
+  skip_before = number_between 1 66 (columns card output.SKIP_BEFORE);
+  skip_after = number_between 1 66 (columns card output.SKIP_AFTER);
 }
 
 unfoldable pub output_card : List ℕ → OutputCard Name
 output_card card = record {
-  file = maybe_name (columns card 7 14);
-  kind = output_kind_of (column card 15);
+  file = maybe_name (columns card shared.FILENAME);
+  kind = output_kind_of (column card output.TYPE);
   is_addition = is_addition card;
   spacing = spacing_of card;
   conditions = three_conditions card;
@@ -195,18 +201,18 @@ output_form false None = Plain
 -- a field, or where its columns are blank the constant
 abbrev pub content_of : List ℕ → OutputContent Name
 content_of card =
-    if are_blank (columns card 32 37) then ConstantContent (constant (unwrap_or (constant_text (columns card 45 70)) []))
+    if are_blank (columns card output.FIELD_NAME) then ConstantContent (constant (unwrap_or (constant_text (columns card output.CONSTANT)) []))
     else FieldContent (record {
-      name = name_of (columns card 32 37);
-      form = output_form (column card 44 == LETTER_P) (edit_code_of (column card 38));
-      blank_after = column card 39 == LETTER_B;
+      name = name_of (columns card output.FIELD_NAME);
+      form = output_form (column card output.PACKED == LETTER_P) (edit_code_of (column card output.EDIT_CODE));
+      blank_after = column card output.BLANK_AFTER == LETTER_B;
     })
 
 unfoldable pub output_field : List ℕ → OutputField Name
 output_field card = record {
   conditions = three_conditions card;
   content = content_of card;
-  «end» = unwrap_or (number_between 1 9999 (columns card 40 43)) 1;
+  «end» = unwrap_or (number_between 1 9999 (columns card output.END_POSITION)) 1;
 }
 
 -- ---- all sheets
@@ -214,11 +220,11 @@ output_field card = record {
 abbrev pub sheet_line : CardKind → List ℕ → Option SheetLine
 sheet_line kind.Comment card = None
 sheet_line kind.Unknown card = None
-sheet_line kind.Header card = Some (Header (maybe_name (columns card 75 80)))
+sheet_line kind.Header card = Some (Header (maybe_name (columns card header.PROGRAM)))
 sheet_line kind.File card = Some (File (file_line card))
-sheet_line kind.Record card = Some (Input (RecordLine (name_of (columns card 7 14)) (record_indicator (columns card 19 20)) (three_codes card)))
+sheet_line kind.Record card = Some (Input (RecordLine (name_of (columns card shared.FILENAME)) (record_indicator (columns card input.RECORD_INDICATOR)) (three_codes card)))
 sheet_line kind.RecordAnd card = Some (Input (RecordAnd (three_codes card)))
-sheet_line kind.RecordOr card = Some (Input (RecordOr (record_indicator (columns card 19 20)) (three_codes card)))
+sheet_line kind.RecordOr card = Some (Input (RecordOr (record_indicator (columns card input.RECORD_INDICATOR)) (three_codes card)))
 sheet_line kind.Field card = Some (Input (FieldCard (field_line card)))
 sheet_line kind.Calculation card = Some (Calculation (calculation_line card))
 sheet_line kind.OutputLine card = Some (Output (LineCard (output_card card)))

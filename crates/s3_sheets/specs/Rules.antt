@@ -4,7 +4,7 @@ use Rattle.std.specs.List.{list_all, list_any}
 use Rattle.s3_cards.specs.declared.ebcdic.TheConstants.{BLANK, LETTER_N}
 use Rattle.s3_cards.specs.Names.{is_letter, is_name}
 use Rattle.s3_edit.specs.Codes.{code_of as edit_code_of}
-use Rattle.s3_sheets.specs.Columns.{columns, are_blank, same_codes, number_between}
+use Rattle.s3_sheets.specs.Columns.{columns_between, are_blank, same_codes, number_between}
 use Rattle.s3_sheets.specs.Entries.{constant_text, factor_of, part_of, time_of}
 use Rattle.s3_sheets.specs.Indicators.{listed, level_behind, condition_of}
 use Rattle.s3_sheets.specs.declared.indicators.IndicatorList.{IndicatorList}
@@ -105,7 +105,7 @@ both_faults a b = record { entry = a.entry || b.entry; name = a.name || b.name; 
 
 -- what is wrong by one rule
 unfoldable pub rule_faults : List ℕ → Rule → Faults
-rule_faults card rule = if allows rule.entry (columns card rule.from rule.to) then no_faults else one_fault (fault_of rule.entry)
+rule_faults card rule = if allows rule.entry (columns_between card rule.from rule.to) then no_faults else one_fault (fault_of rule.entry)
 
 -- what is wrong by some rules
 abbrev pub broken_by : List Rule → List ℕ → Faults

@@ -3,6 +3,11 @@ use Rattle.std.specs.Prelude.{ℕ, zero, suc, ◌+◌, List, [], ◌∷◌, ◌+
 use Rattle.std.specs.List.{list_any}
 use Rattle.std.specs.Map.{lookup}
 use Rattle.std.specs.Option.{option_to_list}
+use Rattle.s3_entries.specs.declared.calculation.TheConstants as calculation
+use Rattle.s3_entries.specs.declared.file.TheConstants as file
+use Rattle.s3_entries.specs.declared.input.TheConstants as input
+use Rattle.s3_entries.specs.declared.output.TheConstants as output
+use Rattle.s3_entries.specs.declared.shared.TheConstants as shared
 use Rattle.s3_sheets.specs.Columns.{columns, are_blank, number_of}
 use Rattle.s3_cards.specs.Names.{name_of, same_name}
 use Rattle.s3_sheets.specs.Kinds.{kind_of, sheet_of, is_record, is_output_line}
@@ -37,7 +42,7 @@ is_misplaced kind earlier = list_any (λ other. is_behind (sheet_of kind) (sheet
 -- ---- 3: a line card without a file
 -- an output line takes the file of the line before, so the first one names its own
 abbrev pub lacks_file : CardKind → List CardKind → List ℕ → Bool
-lacks_file kind earlier card = is_output_line kind && are_blank (columns card 7 14) && not (list_any is_output_line earlier)
+lacks_file kind earlier card = is_output_line kind && are_blank (columns card shared.FILENAME) && not (list_any is_output_line earlier)
 
 -- ---- 2 to 4: a card's own columns, which leave the positions in a record aside
 unfoldable pub faults_of : List ℕ → Faults
@@ -56,7 +61,7 @@ is_at_fault cards i =
 -- ---- the files
 -- the file that a card defines, with its record length; a card at fault defines none
 abbrev pub file_of : CardKind → Bool → List ℕ → Option (Name × ℕ)
-file_of File false card = Some (name_of (columns card 7 14), number_or_zero (columns card 24 27))
+file_of File false card = Some (name_of (columns card shared.FILENAME), number_or_zero (columns card file.RECORD_LENGTH))
 file_of _ _ card = None
 
 abbrev pub record_length_of : List (Name × ℕ) → Name → Option ℕ
@@ -80,12 +85,12 @@ exceeds _ _ = false
 
 -- the record length of the file that a card names
 abbrev pub named_length : List (List ℕ) → ℕ → Option ℕ
-named_length cards i = record_length_of (files cards i) (name_of (columns (card_at cards i) 7 14))
+named_length cards i = record_length_of (files cards i) (name_of (columns (card_at cards i) shared.FILENAME))
 
 -- whether the position of some code lies past a record
 abbrev pub has_code_past : List ℕ → Option ℕ → Bool
 has_code_past card length =
-    exceeds (number_of (columns card 21 24)) length || exceeds (number_of (columns card 28 31)) length || exceeds (number_of (columns card 35 38)) length
+    exceeds (number_of (columns card input.POSITION_1)) length || exceeds (number_of (columns card input.POSITION_2)) length || exceeds (number_of (columns card input.POSITION_3)) length
 
 -- a record or line card brings another record length, one that isn't known if the card is at fault; other cards leave it
 abbrev pub length_behind : Bool → Bool → Option ℕ → Option ℕ → Option ℕ
@@ -111,7 +116,7 @@ abbrev pub output_length : List (List ℕ) → ℕ → Option ℕ
 output_length cards zero = None
 output_length cards (suc n) =
     length_behind (is_output_line (kind_at cards n)) (is_at_fault cards n)
-    (line_length (are_blank (columns (card_at cards n) 7 14)) (named_length cards n) (output_length cards n)) (output_length cards n)
+    (line_length (are_blank (columns (card_at cards n) shared.FILENAME)) (named_length cards n) (output_length cards n)) (output_length cards n)
 
 -- the record length that the positions on a card go by; only these kinds and the output field have such positions
 abbrev pub length_for : CardKind → Option ℕ → Option ℕ → Option ℕ → Option ℕ
@@ -126,8 +131,8 @@ abbrev pub names_position_past : CardKind → List ℕ → Option ℕ → Bool
 names_position_past Record card length = has_code_past card length
 names_position_past RecordAnd card length = has_code_past card length
 names_position_past RecordOr card length = has_code_past card length
-names_position_past Field card length = exceeds (number_of (columns card 48 51)) length
-names_position_past OutputField card length = exceeds (number_of (columns card 40 43)) length
+names_position_past Field card length = exceeds (number_of (columns card input.TO)) length
+names_position_past OutputField card length = exceeds (number_of (columns card output.END_POSITION)) length
 names_position_past _ card length = false
 
 unfoldable pub is_outside : List (List ℕ) → ℕ → Bool
@@ -139,11 +144,11 @@ is_outside cards i =
 -- the field that the result of a C card is, if the card has an operation and gives it a length
 abbrev pub result_defined : List ℕ → Option Name
 result_defined card =
-    if are_blank (columns card 28 32) || are_blank (columns card 49 51) then None else maybe_name (columns card 43 48)
+    if are_blank (columns card calculation.OPERATION) || are_blank (columns card calculation.LENGTH) then None else maybe_name (columns card calculation.RESULT)
 
 -- the field that a card defines; a card at fault defines none
 abbrev pub field_of : CardKind → Bool → List ℕ → Option Name
-field_of Field false card = Some (name_of (columns card 53 58))
+field_of Field false card = Some (name_of (columns card input.FIELD_NAME))
 field_of Calculation false card = result_defined card
 field_of _ _ card = None
 

@@ -4,13 +4,24 @@
 use Rattle.std.specs.Prelude.{ℕ, List, [], ◌∷◌, codes}
 use Rattle.s3_cards.specs.declared.ebcdic.TheConstants.{LETTER_L, LETTER_M}
 use Rattle.s3_cards.specs.Codes.{ebcdic}
+use Rattle.s3_entries.specs.declared.calculation.TheConstants as calculation
+use Rattle.s3_entries.specs.declared.file.TheConstants as file
+use Rattle.s3_entries.specs.declared.header.TheConstants as header
+use Rattle.s3_entries.specs.declared.input.TheConstants as input
+use Rattle.s3_entries.specs.declared.output.TheConstants as output
+use Rattle.s3_entries.specs.declared.shared.TheConstants as shared
+use Rattle.s3_entries.specs.declared.span.Span.{Span}
 use Rattle.s3_sheets.specs.Rules.{Entry, Blank, OneOf, Letters, Listed, MaybeListed, MaybeLevel, MaybeCondition, Time, CodeTest, MaybeEditCode, Name, MaybeName, MaybeConstant, MaybeFactor, Number, MaybeNumber, CodePosition, Rule}
 use Rattle.s3_sheets.specs.declared.indicators.IndicatorList.TheVariants.{Record as RecordList, Overflow as OverflowList, Switch as SwitchList, Resulting as ResultingList}
 use Rattle.s3_sheets.specs.declared.kind.CardKind.{CardKind}
 use Rattle.s3_sheets.specs.declared.kind.CardKind.TheVariants.{Comment, Unknown, Header, File, Record, RecordAnd, RecordOr, Field, Calculation, OutputLine, OutputAnd, OutputOr, OutputField}
 
-abbrev pub rule : ℕ → ℕ → Entry → Rule
-rule from to entry = record { from = from; to = to; entry = entry }
+abbrev pub rule : Span → Entry → Rule
+rule span entry = record { from = span.from; to = span.to; entry = entry }
+
+-- columns that are no entry
+abbrev pub blank : ℕ → ℕ → Rule
+blank from to = record { from = from; to = to; entry = Blank }
 
 abbrev pub text : List ℕ → List ℕ
 text characters = ebcdic characters
@@ -21,129 +32,129 @@ maybe character = OneOf (text (codes " ") ∷ text character ∷ [])
 
 -- the program identification; nothing else is read on the H card
 unfoldable pub header_rules : List Rule
-header_rules = rule 75 80 MaybeName ∷ []
+header_rules = rule header.PROGRAM MaybeName ∷ []
 
 unfoldable pub file_rules : List Rule
 file_rules =
-    rule 7 14 Name  -- file name
-    ∷ rule 15 15 (OneOf (text (codes "I") ∷ text (codes "O") ∷ text (codes "U") ∷ []))  -- type
-    ∷ rule 16 16 (OneOf (text (codes " ") ∷ text (codes "P") ∷ text (codes "S") ∷ text (codes "C") ∷ []))  -- designation
-    ∷ rule 17 17 (maybe (codes "E"))  -- end of file
-    ∷ rule 18 18 (maybe (codes "A"))  -- sequence: ascending
-    ∷ rule 19 19 (OneOf (text (codes "F") ∷ []))  -- format
-    ∷ rule 20 23 (MaybeNumber 0 9999)  -- block length, not used
-    ∷ rule 28 28 (maybe (codes "R"))  -- mode
-    ∷ rule 29 30 (MaybeNumber 1 29)  -- key length
-    ∷ rule 31 31 (maybe (codes "A"))  -- record address type
-    ∷ rule 32 32 (maybe (codes "I"))  -- organization
-    ∷ rule 33 34 (MaybeListed OverflowList)  -- overflow indicator
-    ∷ rule 35 38 (MaybeNumber 1 9999)  -- key start
-    ∷ rule 39 39 Blank
-    ∷ rule 40 46 (OneOf (text (codes "MFCU1  ") ∷ text (codes "MFCU2  ") ∷ text (codes "PRINTER") ∷ text (codes "DISK   ") ∷ []))  -- device
-    ∷ rule 47 65 Blank
-    ∷ rule 66 66 (maybe (codes "A"))  -- addition
-    ∷ rule 67 70 Blank
-    ∷ rule 71 72 (MaybeListed SwitchList)  -- condition of the file
-    ∷ rule 73 74 Blank
+    rule shared.FILENAME Name
+    ∷ rule file.TYPE (OneOf (text (codes "I") ∷ text (codes "O") ∷ text (codes "U") ∷ []))
+    ∷ rule file.DESIGNATION (OneOf (text (codes " ") ∷ text (codes "P") ∷ text (codes "S") ∷ text (codes "C") ∷ []))
+    ∷ rule file.END (maybe (codes "E"))
+    ∷ rule file.SEQUENCE (maybe (codes "A"))  -- ascending
+    ∷ rule file.FORMAT (OneOf (text (codes "F") ∷ []))
+    ∷ rule file.BLOCK_LENGTH (MaybeNumber 0 9999)  -- not used
+    ∷ rule file.MODE (maybe (codes "R"))
+    ∷ rule file.KEY_LENGTH (MaybeNumber 1 29)
+    ∷ rule file.ADDRESS_TYPE (maybe (codes "A"))
+    ∷ rule file.ORGANIZATION (maybe (codes "I"))
+    ∷ rule file.OVERFLOW (MaybeListed OverflowList)
+    ∷ rule file.KEY_START (MaybeNumber 1 9999)
+    ∷ blank 39 39
+    ∷ rule file.DEVICE (OneOf (text (codes "MFCU1  ") ∷ text (codes "MFCU2  ") ∷ text (codes "PRINTER") ∷ text (codes "DISK   ") ∷ []))
+    ∷ blank 47 65
+    ∷ rule file.ADDITION (maybe (codes "A"))
+    ∷ blank 67 70
+    ∷ rule file.CONDITION (MaybeListed SwitchList)
+    ∷ blank 73 74
     ∷ []
 
 -- the three codes of a record line, and the columns behind them
 abbrev pub code_rules : List Rule
 code_rules =
-    rule 21 27 CodePosition
-    ∷ rule 21 27 CodeTest
-    ∷ rule 28 34 CodePosition
-    ∷ rule 28 34 CodeTest
-    ∷ rule 35 41 CodePosition
-    ∷ rule 35 41 CodeTest
-    ∷ rule 42 74 Blank
+    rule input.CODE_1 CodePosition
+    ∷ rule input.CODE_1 CodeTest
+    ∷ rule input.CODE_2 CodePosition
+    ∷ rule input.CODE_2 CodeTest
+    ∷ rule input.CODE_3 CodePosition
+    ∷ rule input.CODE_3 CodeTest
+    ∷ blank 42 74
     ∷ []
 
 unfoldable pub record_rules : List Rule
 record_rules =
-    rule 7 14 Name  -- file name
-    ∷ rule 15 16 Letters  -- sequence
-    ∷ rule 17 18 Blank
-    ∷ rule 19 20 (Listed RecordList)  -- record identifying indicator
+    rule shared.FILENAME Name
+    ∷ rule input.SEQUENCE Letters
+    ∷ blank 17 18
+    ∷ rule input.RECORD_INDICATOR (Listed RecordList)
     ∷ code_rules
 
 unfoldable pub record_and_rules : List Rule
-record_and_rules = rule 17 20 Blank ∷ code_rules
+record_and_rules = blank 17 20 ∷ code_rules
 
 unfoldable pub record_or_rules : List Rule
 record_or_rules =
-    rule 17 18 Blank
-    ∷ rule 19 20 (Listed RecordList)  -- record identifying indicator
+    blank 17 18
+    ∷ rule input.RECORD_INDICATOR (Listed RecordList)
     ∷ code_rules
 
 unfoldable pub field_rules : List Rule
 field_rules =
-    rule 7 42 Blank
-    ∷ rule 43 43 (maybe (codes "P"))  -- packed
-    ∷ rule 44 47 (Number 1 9999)  -- from
-    ∷ rule 48 51 (Number 1 9999)  -- to
-    ∷ rule 52 52 (MaybeNumber 0 9)  -- decimals
-    ∷ rule 53 58 Name  -- field
-    ∷ rule 59 60 (MaybeLevel LETTER_L)  -- control level
-    ∷ rule 61 62 (MaybeLevel LETTER_M)  -- match field
-    ∷ rule 63 64 (MaybeListed RecordList)  -- relation to a record type
-    ∷ rule 65 66 (MaybeListed RecordList)  -- plus
-    ∷ rule 67 68 (MaybeListed RecordList)  -- minus
-    ∷ rule 69 70 (MaybeListed RecordList)  -- zero or blank
-    ∷ rule 71 74 Blank
+    blank 7 42
+    ∷ rule input.PACKED (maybe (codes "P"))
+    ∷ rule input.FROM (Number 1 9999)
+    ∷ rule input.TO (Number 1 9999)
+    ∷ rule input.DECIMALS (MaybeNumber 0 9)
+    ∷ rule input.FIELD_NAME Name
+    ∷ rule input.CONTROL_LEVEL (MaybeLevel LETTER_L)
+    ∷ rule input.MATCHING (MaybeLevel LETTER_M)
+    ∷ rule input.RELATION (MaybeListed RecordList)
+    ∷ rule input.PLUS (MaybeListed RecordList)
+    ∷ rule input.MINUS (MaybeListed RecordList)
+    ∷ rule input.ZERO (MaybeListed RecordList)
+    ∷ blank 71 74
     ∷ []
 
 unfoldable pub calculation_rules : List Rule
 calculation_rules =
-    rule 7 8 Time
-    ∷ rule 9 11 MaybeCondition
-    ∷ rule 12 14 MaybeCondition
-    ∷ rule 15 17 MaybeCondition
-    ∷ rule 18 27 (MaybeFactor 6)  -- factor 1
-    ∷ rule 43 48 MaybeName  -- result
-    ∷ rule 52 52 (MaybeNumber 0 9)  -- decimals
-    ∷ rule 53 53 (maybe (codes "H"))  -- half adjust
-    ∷ rule 54 55 (MaybeListed ResultingList)
-    ∷ rule 56 57 (MaybeListed ResultingList)
-    ∷ rule 58 59 (MaybeListed ResultingList)
-    ∷ rule 60 74 Blank
+    rule calculation.CONTROL_LEVEL Time
+    ∷ rule calculation.INDICATOR_1 MaybeCondition
+    ∷ rule calculation.INDICATOR_2 MaybeCondition
+    ∷ rule calculation.INDICATOR_3 MaybeCondition
+    ∷ rule calculation.FACTOR_1 (MaybeFactor 6)
+    ∷ rule calculation.RESULT MaybeName
+    ∷ rule calculation.DECIMALS (MaybeNumber 0 9)
+    ∷ rule calculation.HALF_ADJUST (maybe (codes "H"))
+    ∷ rule calculation.HIGH (MaybeListed ResultingList)
+    ∷ rule calculation.LOW (MaybeListed ResultingList)
+    ∷ rule calculation.EQUAL (MaybeListed ResultingList)
+    ∷ rule calculation.COMMENTS Blank
     ∷ []
 
 unfoldable pub output_line_rules : List Rule
 output_line_rules =
-    rule 7 14 MaybeName  -- file name
-    ∷ rule 15 15 (OneOf (text (codes "H") ∷ text (codes "D") ∷ text (codes "T") ∷ text (codes "E") ∷ []))  -- type
-    ∷ rule 19 20 (MaybeNumber 1 66)  -- skip before
-    ∷ rule 21 22 (MaybeNumber 1 66)  -- skip after
-    ∷ rule 23 25 MaybeCondition
-    ∷ rule 26 28 MaybeCondition
-    ∷ rule 29 31 MaybeCondition
-    ∷ rule 32 74 Blank
+    rule shared.FILENAME MaybeName
+    ∷ rule output.TYPE (OneOf (text (codes "H") ∷ text (codes "D") ∷ text (codes "T") ∷ text (codes "E") ∷ []))
+    ∷ rule output.SKIP_BEFORE (MaybeNumber 1 66)
+    ∷ rule output.SKIP_AFTER (MaybeNumber 1 66)
+    ∷ rule output.INDICATOR_1 MaybeCondition
+    ∷ rule output.INDICATOR_2 MaybeCondition
+    ∷ rule output.INDICATOR_3 MaybeCondition
+    ∷ blank 32 74
     ∷ []
 
 -- AND and OR lines
 unfoldable pub output_group_rules : List Rule
 output_group_rules =
-    rule 17 22 Blank  -- spaces and skips
-    ∷ rule 23 25 MaybeCondition
-    ∷ rule 26 28 MaybeCondition
-    ∷ rule 29 31 MaybeCondition
-    ∷ rule 32 74 Blank
+    blank 17 22  -- spaces and skips
+    ∷ rule output.INDICATOR_1 MaybeCondition
+    ∷ rule output.INDICATOR_2 MaybeCondition
+    ∷ rule output.INDICATOR_3 MaybeCondition
+    ∷ blank 32 74
     ∷ []
 
 unfoldable pub output_field_rules : List Rule
 output_field_rules =
-    rule 7 22 Blank
-    ∷ rule 23 25 MaybeCondition
-    ∷ rule 26 28 MaybeCondition
-    ∷ rule 29 31 MaybeCondition
-    ∷ rule 32 37 MaybeName  -- field
-    ∷ rule 38 38 MaybeEditCode
-    ∷ rule 39 39 (maybe (codes "B"))  -- blank after
-    ∷ rule 40 43 (Number 1 9999)  -- end position
-    ∷ rule 44 44 (maybe (codes "P"))  -- packed
-    ∷ rule 45 70 MaybeConstant
-    ∷ rule 71 74 Blank
+    blank 7 22
+    ∷ rule output.INDICATOR_1 MaybeCondition
+    ∷ rule output.INDICATOR_2 MaybeCondition
+    ∷ rule output.INDICATOR_3 MaybeCondition
+    ∷ rule output.FIELD_NAME MaybeName
+    ∷ rule output.EDIT_CODE MaybeEditCode
+    ∷ rule output.BLANK_AFTER (maybe (codes "B"))
+    ∷ rule output.END_POSITION (Number 1 9999)
+    ∷ rule output.PACKED (maybe (codes "P"))
+    ∷ rule output.CONSTANT MaybeConstant
+    ∷ blank 71 74
     ∷ []
 
 abbrev pub rules_of : CardKind → List Rule

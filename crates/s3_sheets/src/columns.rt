@@ -4,20 +4,30 @@ ghost use Rattle.std.specs.Prelude.{◌≡◌, ◌<◌, ◌≤◌, ◌+◌, ◌-
 ghost use Rattle.std.specs.List.{list_all};
 ghost use Rattle.std.specs.Int.Digits.{number_from_digits_after};
 ghost use Rattle.s3_cards.specs.Names.{is_digit as digit_spec};
-ghost use Rattle.s3_sheets.specs.Columns.{columns as columns_spec, digit, number_of, number_between as number_between_spec};
+ghost use Rattle.s3_sheets.specs.Columns.{columns as columns_spec, column as column_spec, digit, number_of, number_between as number_between_spec};
 
 use s3_cards::ebcdic::DIGIT_0;
 use s3_cards::{Card, blanks_in_front, is_digit};
+use s3_entries::Span;
 
-/// The columns of a card from one to another, both counted from 1 and both taken.
-pub fn columns(card: &Card, from: usize, to: usize) -> &[u8]
-    requires start { 0 < from }
-    requires order { from ≤ to }
-    requires end { to ≤ 96 }
-    ensures value { result.now ≡ columns_spec card.now from to }
-    ensures width { length result.now ≡ to + 1 - from }
+/// The columns of an entry on a card.
+pub fn columns(card: &Card, entry: Span) -> &[u8]
+    requires start { 0 < entry.from }
+    requires order { entry.from ≤ entry.to }
+    requires end { entry.to ≤ 96 }
+    ensures value { result.now ≡ columns_spec card.now entry }
+    ensures width { length result.now ≡ entry.to + 1 - entry.from }
 {
-    &card[from - 1..to]
+    &card[entry.from - 1..entry.to]
+}
+
+/// What is in an entry of one column.
+pub fn column(card: &Card, entry: Span) -> u8
+    requires start { 0 < entry.from }
+    requires end { entry.from ≤ 96 }
+    ensures { result ≡ column_spec card.now entry }
+{
+    card[entry.from - 1]
 }
 
 /// Whether all columns are digits.

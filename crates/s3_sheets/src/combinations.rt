@@ -13,18 +13,19 @@ use crate::faults::Faults;
 use crate::kind::CardKind;
 use crate::lines::{definition, field_line, file_line, is_addition, longest_name};
 use s3_cards::{Card, Name, are_blank};
+use s3_entries::{Span, calculation, file, output};
 use s3_lines::is_reserved;
 use s3_lines::reserved::PAGE;
 use s3_lines::sheet::{Device, FieldForm, FileLine, KeyField, Shape};
 
-/// Whether some of the columns from one to another are filled.
-pub fn are_filled(card: &Card, from: usize, to: usize) -> bool
-    requires start { 0 < from }
-    requires order { from ≤ to }
-    requires end { to ≤ 96 }
-    ensures { result ≡ are_filled_spec card.now from to }
+/// Whether some of an entry's columns are filled.
+pub fn are_filled(card: &Card, entry: Span) -> bool
+    requires start { 0 < entry.from }
+    requires order { entry.from ≤ entry.to }
+    requires end { entry.to ≤ 96 }
+    ensures { result ≡ are_filled_spec card.now entry }
 {
-    !are_blank(columns(card, from, to))
+    !are_blank(columns(card, entry))
 }
 
 /// Whether a file has keys, and an index for them on the pack.
@@ -41,8 +42,9 @@ fn has_stray_entry(card: &Card) -> bool
 {
     let file = file_line(card);
     (file.ends_job && !file.is_by_cycle())
-        || (!is_with_index(&file) && (are_filled(card, 29, 30) || are_filled(card, 35, 38)))
-        || (are_filled(card, 33, 34) && !file.device.is_printer())
+        || (!is_with_index(&file)
+            && (are_filled(card, file::KEY_LENGTH) || are_filled(card, file::KEY_START)))
+        || (are_filled(card, file::OVERFLOW) && !file.device.is_printer())
 }
 
 /// The longest record of a device.
@@ -118,7 +120,7 @@ pub fn has_bad_positions(card: &Card) -> bool
 pub fn has_bad_factor(card: &Card) -> bool
     ensures { result ≡ bad_factor_spec card.now }
 {
-    let entry = columns(card, 33, 42);
+    let entry = columns(card, calculation::FACTOR_2);
     !(are_blank(entry) || factor(longest_name(card), entry).is_some())
 }
 
@@ -127,7 +129,10 @@ pub fn has_bad_factor(card: &Card) -> bool
 pub fn has_bad_definition(card: &Card) -> bool
     ensures { result ≡ bad_definition_spec card.now }
 {
-    match definition(columns(card, 49, 51), columns(card, 52, 52)) {
+    match definition(
+        columns(card, calculation::LENGTH),
+        columns(card, calculation::DECIMALS),
+    ) {
         None => false,
         Some(Shape::Alphanumeric(length)) => !is_text_in_range(length),
         Some(Shape::Numeric(digits, decimals)) => {
@@ -141,7 +146,7 @@ pub fn has_bad_definition(card: &Card) -> bool
 pub fn has_bad_addition(card: &Card) -> bool
     ensures { result ≡ bad_addition_spec card.now }
 {
-    !is_addition(card) && are_filled(card, 16, 16)
+    !is_addition(card) && are_filled(card, output::BEFORE_SPACES)
 }
 
 /// Whether the column of a space has something else than a space in its range.
@@ -157,7 +162,8 @@ fn has_bad_space(card: &Card) -> bool
     ensures { result ≡ bad_space_spec card.now }
 {
     !is_addition(card)
-        && (is_wrong_space(columns(card, 17, 17)) || is_wrong_space(columns(card, 18, 18)))
+        && (is_wrong_space(columns(card, output::SPACE_BEFORE))
+            || is_wrong_space(columns(card, output::SPACE_AFTER)))
 }
 
 /// Whether a name is UDATE, UMONTH, UDAY or UYEAR.
@@ -172,20 +178,20 @@ pub fn is_of_date(name: Name) -> bool
 fn has_bad_content(card: &Card) -> bool
     ensures { result ≡ bad_content_spec card.now }
 {
-    let is_edited = are_filled(card, 38, 38);
-    let is_blanked = are_filled(card, 39, 39);
-    let is_packed = are_filled(card, 44, 44);
-    let is_field = are_filled(card, 32, 37);
-    (are_filled(card, 45, 70) && (is_field || is_edited || is_blanked || is_packed))
+    let is_edited = are_filled(card, output::EDIT_CODE);
+    let is_blanked = are_filled(card, output::BLANK_AFTER);
+    let is_packed = are_filled(card, output::PACKED);
+    let is_field = are_filled(card, output::FIELD_NAME);
+    (are_filled(card, output::CONSTANT) && (is_field || is_edited || is_blanked || is_packed))
         || (is_field && is_edited && is_packed)
-        || (is_blanked && is_of_date(Name::of(columns(card, 32, 37))))
+        || (is_blanked && is_of_date(Name::of(columns(card, output::FIELD_NAME))))
 }
 
 /// Whether a field card has no field and no constant.
 pub fn has_no_content(card: &Card) -> bool
     ensures { result ≡ no_content_spec card.now }
 {
-    are_blank(columns(card, 32, 37)) && are_blank(columns(card, 45, 70))
+    are_blank(columns(card, output::FIELD_NAME)) && are_blank(columns(card, output::CONSTANT))
 }
 
 /// Whether a constant would begin before position 1.
@@ -204,7 +210,10 @@ fn begins_too_early(end: Option<u16>, columns: &[u8]) -> bool
 pub fn has_early_constant(card: &Card) -> bool
     ensures { result ≡ early_constant_spec card.now }
 {
-    begins_too_early(number(columns(card, 40, 43)), columns(card, 45, 70))
+    begins_too_early(
+        number(columns(card, output::END_POSITION)),
+        columns(card, output::CONSTANT),
+    )
 }
 
 /// The faults of columns of a card of this kind that are read together: a record length and its device, a key and its record,

@@ -3,10 +3,11 @@
 ghost use Rattle.std.specs.Prelude.{◌≡◌};
 ghost use Rattle.s3_sheets.specs.Kinds.{says_and as says_and_spec, says_or as says_or_spec, input_kind as input_kind_spec, output_kind as output_kind_spec, kind_of as kind_of_spec, sheet_of as sheet_of_spec, is_record as is_record_spec, is_output_line as is_output_line_spec};
 
-use crate::columns::columns;
+use crate::columns::{column, columns};
 use crate::words::{AND, OR};
 use s3_cards::ebcdic::{ASTERISK, LETTER_C, LETTER_F, LETTER_H, LETTER_I, LETTER_O};
 use s3_cards::{Card, are_blank};
+use s3_entries::{output, shared};
 
 /// What a card of a source is, by its columns 6 to 16.
 #[derive(Clone, Copy)]
@@ -44,7 +45,7 @@ pub enum CardKind {
 fn says_and(card: &Card) -> bool
     ensures { result ≡ says_and_spec card.now }
 {
-    are_blank(columns(card, 7, 13)) && columns(card, 14, 16) == AND.as_slice()
+    are_blank(columns(card, shared::BEFORE_GROUP)) && columns(card, shared::GROUP) == AND.as_slice()
 }
 
 /// Whether columns 14 to 16 say OR, and the name columns before them are blank.
@@ -52,7 +53,7 @@ fn says_and(card: &Card) -> bool
 fn says_or(card: &Card) -> bool
     ensures { result ≡ says_or_spec card.now }
 {
-    are_blank(columns(card, 7, 13)) && columns(card, 14, 16) == OR.as_slice()
+    are_blank(columns(card, shared::BEFORE_GROUP)) && columns(card, shared::GROUP) == OR.as_slice()
 }
 
 fn input_kind(card: &Card) -> CardKind
@@ -62,7 +63,7 @@ fn input_kind(card: &Card) -> CardKind
         CardKind::RecordAnd
     } else if says_or(card) {
         CardKind::RecordOr
-    } else if are_blank(columns(card, 7, 14)) {
+    } else if are_blank(columns(card, shared::FILENAME)) {
         CardKind::Field
     } else {
         CardKind::Record
@@ -76,7 +77,7 @@ fn output_kind(card: &Card) -> CardKind
         CardKind::OutputAnd
     } else if says_or(card) {
         CardKind::OutputOr
-    } else if are_blank(columns(card, 7, 15)) {
+    } else if are_blank(columns(card, output::FILENAME_AND_TYPE)) {
         CardKind::OutputField
     } else {
         CardKind::OutputLine
@@ -88,10 +89,10 @@ fn output_kind(card: &Card) -> CardKind
 pub fn kind_of(card: &Card) -> CardKind
     ensures { result ≡ kind_of_spec card.now }
 {
-    if card[6] == ASTERISK {
+    if column(card, shared::COMMENT) == ASTERISK {
         return CardKind::Comment;
     }
-    match card[5] {
+    match column(card, shared::FORM_TYPE) {
         LETTER_H => CardKind::Header,
         LETTER_F => CardKind::File,
         LETTER_I => input_kind(card),

@@ -28,6 +28,7 @@ mod rules;
 mod tables;
 mod words;
 
+pub use columns::column;
 pub use entries::constants_as_written;
 pub use fault::SheetFault;
 pub use laws::{

@@ -3,7 +3,7 @@
 ghost use Rattle.std.specs.Prelude.{◌≡◌, ◌≤◌, ◌<◌, length};
 ghost use Rattle.s3_sheets.specs.Lines.{number_or_zero as number_or_zero_spec, maybe_name as maybe_name_spec, use_of as use_of_spec, designation_of as designation_of_spec, device_of as device_of_spec, key_of as key_of_spec, file_line as file_line_spec, record_indicator as record_indicator_spec, three_codes as three_codes_spec, form_of as form_of_spec, field_line as field_line_spec, longest_name as longest_name_spec, definition_of as definition_of_spec, calculation_line as calculation_line_spec, three_conditions as three_conditions_spec, output_kind_of as output_kind_of_spec, is_addition as is_addition_spec, space_of as space_of_spec, spacing_of as spacing_of_spec, output_card as output_card_spec, output_form as output_form_spec, content_of as content_of_spec, output_field as output_field_spec, sheet_line as sheet_line_spec, line_of as line_of_spec};
 
-use crate::columns::{columns, number, number_between, small_between};
+use crate::columns::{column, columns, number, number_between, small_between};
 use crate::entries::{EMPTY, constant, factor, record_code, time};
 use crate::indicators::{IndicatorList, condition, level_behind, listed};
 use crate::kind::{CardKind, kind_of};
@@ -15,6 +15,7 @@ use s3_cards::ebcdic::{
 };
 use s3_cards::{Card, Name, are_blank};
 use s3_edit::EditCode;
+use s3_entries::{calculation, file, header, input, output, shared};
 use s3_lines::indicator::{Condition, Indicator};
 use s3_lines::sheet::{
     CalculationLine, CalculationTime, Designation, Device, FieldForm, FieldLine, FieldOutput,
@@ -78,10 +79,12 @@ fn device_of(device: &[u8]) -> Device
 fn key_of(card: &Card) -> Option<KeyField>
     ensures { result ≡ key_of_spec card.now }
 {
-    if card[30] == LETTER_A && card[31] == LETTER_I {
+    if column(card, file::ADDRESS_TYPE) == LETTER_A
+        && column(card, file::ORGANIZATION) == LETTER_I
+    {
         Some(KeyField {
-            length: small_between(columns(card, 29, 30), 1, 29)?,
-            start: number_between(columns(card, 35, 38), 1, 9_999)?,
+            length: small_between(columns(card, file::KEY_LENGTH), 1, 29)?,
+            start: number_between(columns(card, file::KEY_START), 1, 9_999)?,
         })
     } else {
         None
@@ -94,19 +97,19 @@ pub fn file_line(card: &Card) -> FileLine
     ensures { result ≡ file_line_spec card.now }
 {
     FileLine {
-        name: Name::of(columns(card, 7, 14)),
-        usage: use_of(card[14]),
-        designation: designation_of(card[15]),
-        ends_job: card[16] == LETTER_E,
-        record_length: number_or_zero(columns(card, 24, 27)),
-        is_random: card[27] == LETTER_R,
-        is_keyed: card[30] == LETTER_A,
-        is_indexed: card[31] == LETTER_I,
+        name: Name::of(columns(card, shared::FILENAME)),
+        usage: use_of(column(card, file::TYPE)),
+        designation: designation_of(column(card, file::DESIGNATION)),
+        ends_job: column(card, file::END) == LETTER_E,
+        record_length: number_or_zero(columns(card, file::RECORD_LENGTH)),
+        is_random: column(card, file::MODE) == LETTER_R,
+        is_keyed: column(card, file::ADDRESS_TYPE) == LETTER_A,
+        is_indexed: column(card, file::ORGANIZATION) == LETTER_I,
         key: key_of(card),
-        overflow: listed(IndicatorList::Overflow, columns(card, 33, 34)),
-        device: device_of(columns(card, 40, 46)),
-        has_additions: card[65] == LETTER_A,
-        condition: listed(IndicatorList::Switch, columns(card, 71, 72)),
+        overflow: listed(IndicatorList::Overflow, columns(card, file::OVERFLOW)),
+        device: device_of(columns(card, file::DEVICE)),
+        has_additions: column(card, file::ADDITION) == LETTER_A,
+        condition: listed(IndicatorList::Switch, columns(card, file::CONDITION)),
     }
 }
 
@@ -120,9 +123,9 @@ fn three_codes(card: &Card) -> [Option<RecordCode>; 3]
     ensures { result ≡ three_codes_spec card.now }
 {
     [
-        record_code(columns(card, 21, 27)),
-        record_code(columns(card, 28, 34)),
-        record_code(columns(card, 35, 41)),
+        record_code(columns(card, input::CODE_1)),
+        record_code(columns(card, input::CODE_2)),
+        record_code(columns(card, input::CODE_3)),
     ]
 }
 
@@ -153,17 +156,20 @@ pub fn field_line(card: &Card) -> FieldLine
     ensures small { result.to ≤ 9999 }
 {
     FieldLine {
-        name: Name::of(columns(card, 53, 58)),
-        from: number_between(columns(card, 44, 47), 1, 9_999).unwrap_or(1),
-        to: number_between(columns(card, 48, 51), 1, 9_999).unwrap_or(1),
-        form: form_of(card[42] == LETTER_P, columns(card, 52, 52)),
-        control_level: level_behind(LETTER_L, columns(card, 59, 60)),
-        match_level: level_behind(LETTER_M, columns(card, 61, 62)),
-        relation: listed(IndicatorList::Record, columns(card, 63, 64)),
+        name: Name::of(columns(card, input::FIELD_NAME)),
+        from: number_between(columns(card, input::FROM), 1, 9_999).unwrap_or(1),
+        to: number_between(columns(card, input::TO), 1, 9_999).unwrap_or(1),
+        form: form_of(
+            column(card, input::PACKED) == LETTER_P,
+            columns(card, input::DECIMALS),
+        ),
+        control_level: level_behind(LETTER_L, columns(card, input::CONTROL_LEVEL)),
+        match_level: level_behind(LETTER_M, columns(card, input::MATCHING)),
+        relation: listed(IndicatorList::Record, columns(card, input::RELATION)),
         indicators: [
-            listed(IndicatorList::Record, columns(card, 65, 66)),
-            listed(IndicatorList::Record, columns(card, 67, 68)),
-            listed(IndicatorList::Record, columns(card, 69, 70)),
+            listed(IndicatorList::Record, columns(card, input::PLUS)),
+            listed(IndicatorList::Record, columns(card, input::MINUS)),
+            listed(IndicatorList::Record, columns(card, input::ZERO)),
         ],
     }
 }
@@ -174,7 +180,7 @@ pub fn longest_name(card: &Card) -> usize
     ensures value { result ≡ longest_name_spec card.now }
     ensures few { result ≤ 8 }
 {
-    if columns(card, 28, 32) == CHAIN.as_slice() {
+    if columns(card, calculation::OPERATION) == CHAIN.as_slice() {
         8
     } else {
         6
@@ -204,22 +210,25 @@ fn calculation_line(card: &Card) -> CalculationLine
     ensures { result ≡ calculation_line_spec card.now }
 {
     CalculationLine {
-        time: time(columns(card, 7, 8)).unwrap_or(CalculationTime::Detail),
+        time: time(columns(card, calculation::CONTROL_LEVEL)).unwrap_or(CalculationTime::Detail),
         conditions: [
-            condition(columns(card, 9, 11)),
-            condition(columns(card, 12, 14)),
-            condition(columns(card, 15, 17)),
+            condition(columns(card, calculation::INDICATOR_1)),
+            condition(columns(card, calculation::INDICATOR_2)),
+            condition(columns(card, calculation::INDICATOR_3)),
         ],
-        factor1: factor(6, columns(card, 18, 27)),
-        operation: operation(columns(card, 28, 32)),
-        factor2: factor(longest_name(card), columns(card, 33, 42)),
-        result: maybe_name(columns(card, 43, 48)),
-        definition: definition(columns(card, 49, 51), columns(card, 52, 52)),
-        half_adjust: card[52] == LETTER_H,
+        factor1: factor(6, columns(card, calculation::FACTOR_1)),
+        operation: operation(columns(card, calculation::OPERATION)),
+        factor2: factor(longest_name(card), columns(card, calculation::FACTOR_2)),
+        result: maybe_name(columns(card, calculation::RESULT)),
+        definition: definition(
+            columns(card, calculation::LENGTH),
+            columns(card, calculation::DECIMALS),
+        ),
+        half_adjust: column(card, calculation::HALF_ADJUST) == LETTER_H,
         indicators: [
-            listed(IndicatorList::Resulting, columns(card, 54, 55)),
-            listed(IndicatorList::Resulting, columns(card, 56, 57)),
-            listed(IndicatorList::Resulting, columns(card, 58, 59)),
+            listed(IndicatorList::Resulting, columns(card, calculation::HIGH)),
+            listed(IndicatorList::Resulting, columns(card, calculation::LOW)),
+            listed(IndicatorList::Resulting, columns(card, calculation::EQUAL)),
         ],
     }
 }
@@ -228,9 +237,9 @@ fn three_conditions(card: &Card) -> [Option<Condition>; 3]
     ensures { result ≡ three_conditions_spec card.now }
 {
     [
-        condition(columns(card, 23, 25)),
-        condition(columns(card, 26, 28)),
-        condition(columns(card, 29, 31)),
+        condition(columns(card, output::INDICATOR_1)),
+        condition(columns(card, output::INDICATOR_2)),
+        condition(columns(card, output::INDICATOR_3)),
     ]
 }
 
@@ -250,7 +259,7 @@ fn output_kind_of(code: u8) -> OutputKind
 pub fn is_addition(card: &Card) -> bool
     ensures { result ≡ is_addition_spec card.now }
 {
-    columns(card, 16, 18) == ADD.as_slice()
+    columns(card, output::ADDITION) == ADD.as_slice()
 }
 
 /// A space; with ADD its column has a letter of that word.
@@ -270,10 +279,10 @@ fn spacing_of(card: &Card) -> Spacing
 {
     let is_addition = is_addition(card);
     Spacing {
-        space_before: space_of(is_addition, columns(card, 17, 17)),
-        space_after: space_of(is_addition, columns(card, 18, 18)),
-        skip_before: small_between(columns(card, 19, 20), 1, 66),
-        skip_after: small_between(columns(card, 21, 22), 1, 66),
+        space_before: space_of(is_addition, columns(card, output::SPACE_BEFORE)),
+        space_after: space_of(is_addition, columns(card, output::SPACE_AFTER)),
+        skip_before: small_between(columns(card, output::SKIP_BEFORE), 1, 66),
+        skip_after: small_between(columns(card, output::SKIP_AFTER), 1, 66),
     }
 }
 
@@ -283,8 +292,8 @@ fn output_card(card: &Card) -> OutputCard
     ensures { result ≡ output_card_spec card.now }
 {
     OutputCard {
-        file: maybe_name(columns(card, 7, 14)),
-        kind: output_kind_of(card[14]),
+        file: maybe_name(columns(card, shared::FILENAME)),
+        kind: output_kind_of(column(card, output::TYPE)),
         is_addition: is_addition(card),
         spacing: spacing_of(card),
         conditions: three_conditions(card),
@@ -306,14 +315,17 @@ fn output_form(is_packed: bool, code: Option<EditCode>) -> OutputForm
 fn content_of(card: &Card) -> OutputContent
     ensures { result ≡ content_of_spec card.now }
 {
-    let field = columns(card, 32, 37);
+    let field = columns(card, output::FIELD_NAME);
     if are_blank(field) {
-        OutputContent::Constant(constant(columns(card, 45, 70)).unwrap_or(EMPTY))
+        OutputContent::Constant(constant(columns(card, output::CONSTANT)).unwrap_or(EMPTY))
     } else {
         OutputContent::Field(FieldOutput {
             name: Name::of(field),
-            form: output_form(card[43] == LETTER_P, EditCode::of(card[37])),
-            blank_after: card[38] == LETTER_B,
+            form: output_form(
+                column(card, output::PACKED) == LETTER_P,
+                EditCode::of(column(card, output::EDIT_CODE)),
+            ),
+            blank_after: column(card, output::BLANK_AFTER) == LETTER_B,
         })
     }
 }
@@ -326,7 +338,7 @@ fn output_field(card: &Card) -> OutputField
     OutputField {
         conditions: three_conditions(card),
         content: content_of(card),
-        end: number_between(columns(card, 40, 43), 1, 9_999).unwrap_or(1),
+        end: number_between(columns(card, output::END_POSITION), 1, 9_999).unwrap_or(1),
     }
 }
 
@@ -336,16 +348,16 @@ fn sheet_line(kind: CardKind, card: &Card) -> Option<SheetLine>
 {
     let line = match kind {
         CardKind::Comment | CardKind::Unknown => return None,
-        CardKind::Header => SheetLine::Header(maybe_name(columns(card, 75, 80))),
+        CardKind::Header => SheetLine::Header(maybe_name(columns(card, header::PROGRAM))),
         CardKind::File => SheetLine::File(file_line(card)),
         CardKind::Record => SheetLine::Input(InputLine::Record(
-            Name::of(columns(card, 7, 14)),
-            record_indicator(columns(card, 19, 20)),
+            Name::of(columns(card, shared::FILENAME)),
+            record_indicator(columns(card, input::RECORD_INDICATOR)),
             three_codes(card),
         )),
         CardKind::RecordAnd => SheetLine::Input(InputLine::And(three_codes(card))),
         CardKind::RecordOr => SheetLine::Input(InputLine::Or(
-            record_indicator(columns(card, 19, 20)),
+            record_indicator(columns(card, input::RECORD_INDICATOR)),
             three_codes(card),
         )),
         CardKind::Field => SheetLine::Input(InputLine::Field(field_line(card))),

@@ -24,6 +24,7 @@ use crate::progress::{Progress, Standing, exceeds};
 use crate::rules::Rule;
 use crate::tables::rules_of;
 use s3_cards::{Card, Deck, Name};
+use s3_entries::{Span, calculation, file, input, output, shared};
 use s3_lines::sheet::{FieldForm, FieldLine, FileLine, Shape};
 use std::alloc::{AllocError, Global};
 
@@ -53,13 +54,13 @@ pub struct FaultyEntry {
     pub to: usize,
 }
 
-fn part_of(number: u8, from: usize, to: usize, fails: bool) -> Part
-    ensures { result ≡ spec.part number from to fails }
+fn part_of(number: u8, span: Span, fails: bool) -> Part
+    ensures { result ≡ spec.part number span fails }
 {
     Part {
         number,
-        from,
-        to,
+        from: span.from,
+        to: span.to,
         fails,
     }
 }
@@ -98,9 +99,8 @@ fn rule_part(rule: &Rule, card: &Card) -> Part
 {
     part_of(
         fault_number(rule.entry.fault()),
-        rule.from,
-        rule.to,
-        !rule.entry.allows(columns(card, rule.from, rule.to)),
+        rule.span,
+        !rule.entry.allows(columns(card, rule.span)),
     )
 }
 
@@ -131,14 +131,14 @@ fn lacks_key_length(file: &FileLine, card: &Card) -> bool
     requires { file.now ≡ file_line_spec card.now }
     ensures { result ≡ spec.lacks_key_length card.now }
 {
-    is_with_index(file) && number_between(columns(card, 29, 30), 1, 29).is_none()
+    is_with_index(file) && number_between(columns(card, file::KEY_LENGTH), 1, 29).is_none()
 }
 
 fn lacks_key_start(file: &FileLine, card: &Card) -> bool
     requires { file.now ≡ file_line_spec card.now }
     ensures { result ≡ spec.lacks_key_start card.now }
 {
-    is_with_index(file) && number_between(columns(card, 35, 38), 1, 9_999).is_none()
+    is_with_index(file) && number_between(columns(card, file::KEY_START), 1, 9_999).is_none()
 }
 
 /// Whether a key that is known ends past a record whose length is known.
@@ -155,18 +155,25 @@ fn file_parts(card: &Card) -> [Part; 7]
     let stray = !is_with_index(&file);
     let past = has_key_past(&file);
     [
-        part_of(2, 17, 17, file.ends_job && !file.is_by_cycle()),
-        part_of(2, 29, 30, stray && are_filled(card, 29, 30)),
-        part_of(2, 35, 38, stray && are_filled(card, 35, 38)),
+        part_of(2, file::END, file.ends_job && !file.is_by_cycle()),
         part_of(
             2,
-            33,
-            34,
-            are_filled(card, 33, 34) && !file.device.is_printer(),
+            file::KEY_LENGTH,
+            stray && are_filled(card, file::KEY_LENGTH),
         ),
-        part_of(4, 24, 27, !has_record_length(&file)),
-        part_of(4, 29, 30, lacks_key_length(&file, card) || past),
-        part_of(4, 35, 38, lacks_key_start(&file, card) || past),
+        part_of(
+            2,
+            file::KEY_START,
+            stray && are_filled(card, file::KEY_START),
+        ),
+        part_of(
+            2,
+            file::OVERFLOW,
+            are_filled(card, file::OVERFLOW) && !file.device.is_printer(),
+        ),
+        part_of(4, file::RECORD_LENGTH, !has_record_length(&file)),
+        part_of(4, file::KEY_LENGTH, lacks_key_length(&file, card) || past),
+        part_of(4, file::KEY_START, lacks_key_start(&file, card) || past),
     ]
 }
 
@@ -193,8 +200,8 @@ fn has_surplus_within(form: FieldForm, width: u16) -> bool
 fn has_positions(card: &Card) -> bool
     ensures { result ≡ spec.has_positions card.now }
 {
-    number_between(columns(card, 44, 47), 1, 9_999).is_some()
-        && number_between(columns(card, 48, 51), 1, 9_999).is_some()
+    number_between(columns(card, input::FROM), 1, 9_999).is_some()
+        && number_between(columns(card, input::TO), 1, 9_999).is_some()
 }
 
 fn has_surplus_in_field(field: &FieldLine) -> bool
@@ -210,8 +217,8 @@ fn field_parts(card: &Card) -> [Part; 2]
     let known = has_positions(card);
     let surplus = has_surplus_in_field(&field_line(card));
     [
-        part_of(4, 44, 51, known && has_bad_positions(card)),
-        part_of(4, 52, 52, known && surplus),
+        part_of(4, input::LOCATION, known && has_bad_positions(card)),
+        part_of(4, input::DECIMALS, known && surplus),
     ]
 }
 
@@ -227,11 +234,14 @@ fn has_surplus(definition: Option<Shape>) -> bool
 fn calculation_parts(card: &Card) -> [Part; 3]
     ensures { result ≡ spec.calculation_parts card.now }
 {
-    let defined = definition(columns(card, 49, 51), columns(card, 52, 52));
+    let defined = definition(
+        columns(card, calculation::LENGTH),
+        columns(card, calculation::DECIMALS),
+    );
     [
-        part_of(3, 33, 42, has_bad_factor(card)),
-        part_of(4, 49, 51, has_bad_definition(card)),
-        part_of(4, 52, 52, has_surplus(defined)),
+        part_of(3, calculation::FACTOR_2, has_bad_factor(card)),
+        part_of(4, calculation::LENGTH, has_bad_definition(card)),
+        part_of(4, calculation::DECIMALS, has_surplus(defined)),
     ]
 }
 
@@ -240,22 +250,32 @@ fn line_parts(card: &Card) -> [Part; 3]
 {
     let spaced = !is_addition(card);
     [
-        part_of(2, 16, 16, has_bad_addition(card)),
-        part_of(4, 17, 17, spaced && is_wrong_space(columns(card, 17, 17))),
-        part_of(4, 18, 18, spaced && is_wrong_space(columns(card, 18, 18))),
+        part_of(2, output::BEFORE_SPACES, has_bad_addition(card)),
+        part_of(
+            4,
+            output::SPACE_BEFORE,
+            spaced && is_wrong_space(columns(card, output::SPACE_BEFORE)),
+        ),
+        part_of(
+            4,
+            output::SPACE_AFTER,
+            spaced && is_wrong_space(columns(card, output::SPACE_AFTER)),
+        ),
     ]
 }
 
 fn has_both(card: &Card) -> bool
     ensures { result ≡ spec.has_both card.now }
 {
-    are_filled(card, 45, 70) && are_filled(card, 32, 37)
+    are_filled(card, output::CONSTANT) && are_filled(card, output::FIELD_NAME)
 }
 
 fn has_packed_edit(card: &Card) -> bool
     ensures { result ≡ spec.has_packed_edit card.now }
 {
-    are_filled(card, 32, 37) && are_filled(card, 38, 38) && are_filled(card, 44, 44)
+    are_filled(card, output::FIELD_NAME)
+        && are_filled(card, output::EDIT_CODE)
+        && are_filled(card, output::PACKED)
 }
 
 fn output_parts(card: &Card) -> [Part; 7]
@@ -263,21 +283,29 @@ fn output_parts(card: &Card) -> [Part; 7]
 {
     let both = has_both(card);
     let packed = has_packed_edit(card);
-    let constant = are_filled(card, 45, 70);
-    let blanked = are_filled(card, 39, 39);
+    let constant = are_filled(card, output::CONSTANT);
+    let blanked = are_filled(card, output::BLANK_AFTER);
     [
-        part_of(2, 32, 37, both),
-        part_of(2, 45, 70, both),
-        part_of(2, 38, 38, constant && are_filled(card, 38, 38) || packed),
+        part_of(2, output::FIELD_NAME, both),
+        part_of(2, output::CONSTANT, both),
         part_of(
             2,
-            39,
-            39,
-            constant && blanked || blanked && is_of_date(Name::of(columns(card, 32, 37))),
+            output::EDIT_CODE,
+            constant && are_filled(card, output::EDIT_CODE) || packed,
         ),
-        part_of(2, 44, 44, constant && are_filled(card, 44, 44) || packed),
-        part_of(3, 32, 37, has_no_content(card)),
-        part_of(4, 40, 43, has_early_constant(card)),
+        part_of(
+            2,
+            output::BLANK_AFTER,
+            constant && blanked
+                || blanked && is_of_date(Name::of(columns(card, output::FIELD_NAME))),
+        ),
+        part_of(
+            2,
+            output::PACKED,
+            constant && are_filled(card, output::PACKED) || packed,
+        ),
+        part_of(3, output::FIELD_NAME, has_no_content(card)),
+        part_of(4, output::END_POSITION, has_early_constant(card)),
     ]
 }
 
@@ -311,9 +339,21 @@ fn code_parts(card: &Card, length: Option<u16>) -> [Part; 3]
     ensures { result ≡ spec.code_parts card.now length }
 {
     [
-        part_of(4, 21, 24, exceeds(number(columns(card, 21, 24)), length)),
-        part_of(4, 28, 31, exceeds(number(columns(card, 28, 31)), length)),
-        part_of(4, 35, 38, exceeds(number(columns(card, 35, 38)), length)),
+        part_of(
+            4,
+            input::POSITION_1,
+            exceeds(number(columns(card, input::POSITION_1)), length),
+        ),
+        part_of(
+            4,
+            input::POSITION_2,
+            exceeds(number(columns(card, input::POSITION_2)), length),
+        ),
+        part_of(
+            4,
+            input::POSITION_3,
+            exceeds(number(columns(card, input::POSITION_3)), length),
+        ),
     ]
 }
 
@@ -322,8 +362,16 @@ fn span_parts(card: &Card, length: Option<u16>) -> [Part; 2]
     ensures { result ≡ spec.span_parts card.now length }
 {
     [
-        part_of(4, 44, 47, exceeds(number(columns(card, 44, 47)), length)),
-        part_of(4, 48, 51, exceeds(number(columns(card, 48, 51)), length)),
+        part_of(
+            4,
+            input::FROM,
+            exceeds(number(columns(card, input::FROM)), length),
+        ),
+        part_of(
+            4,
+            input::TO,
+            exceeds(number(columns(card, input::TO)), length),
+        ),
     ]
 }
 
@@ -343,8 +391,12 @@ fn push_positions(
         }
         CardKind::Field => push_parts(found, number_of_card, &span_parts(card, length)),
         CardKind::OutputField => {
-            let is_past = exceeds(number(columns(card, 40, 43)), length);
-            push_parts(found, number_of_card, &[part_of(4, 40, 43, is_past)])
+            let is_past = exceeds(number(columns(card, output::END_POSITION)), length);
+            push_parts(
+                found,
+                number_of_card,
+                &[part_of(4, output::END_POSITION, is_past)],
+            )
         }
         CardKind::Comment
         | CardKind::Unknown
@@ -360,15 +412,15 @@ fn push_positions(
 fn standing_parts(kind: CardKind, standing: Standing) -> [Part; 3]
     ensures { result ≡ spec.standing_parts kind standing }
 {
-    let (from, to) = match kind {
-        CardKind::File => (7, 14),
-        CardKind::Field => (53, 58),
-        _ => (43, 48),
+    let defined = match kind {
+        CardKind::File => shared::FILENAME,
+        CardKind::Field => input::FIELD_NAME,
+        _ => calculation::RESULT,
     };
     [
-        part_of(1, 6, 6, standing.is_misplaced),
-        part_of(3, 7, 14, standing.lacks_file),
-        part_of(13, from, to, standing.is_too_many),
+        part_of(1, shared::FORM_TYPE, standing.is_misplaced),
+        part_of(3, shared::FILENAME, standing.lacks_file),
+        part_of(13, defined, standing.is_too_many),
     ]
 }
 

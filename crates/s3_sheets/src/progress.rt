@@ -1,6 +1,7 @@
 //! Reading card by card: what is kept of the cards before, and what it says of the next one.
 
 ghost use Rattle.std.specs.Prelude.{◌≡◌, ◌<◌, ◌^◌, ◌&&◌, ◌||◌, ◌==◌, length, OnOk, IfOk};
+ghost use Rattle.s3_entries.specs.declared.shared.TheConstants as shared;
 ghost use Rattle.s3_sheets.specs.Columns.{columns as columns_spec, are_blank as are_blank_spec};
 ghost use Rattle.s3_sheets.specs.Kinds.{kind_of as kind_of_spec};
 ghost use Rattle.s3_sheets.specs.Sheets.{length_for, file_of as file_of_spec, field_of as field_of_spec, result_defined as result_defined_spec, exceeds as exceeds_spec, length_behind as length_behind_spec, line_length as line_length_spec, has_code_past as has_code_past_spec, names_position_past as position_past_spec};
@@ -12,6 +13,7 @@ use crate::kind::{CardKind, kind_of};
 use crate::known::{KnownFields, KnownFiles};
 use crate::lines::maybe_name;
 use s3_cards::{Card, Name, are_blank};
+use s3_entries::{calculation, file, input, output, shared};
 use std::alloc::{AllocError, Global};
 use std::marker::Model;
 
@@ -127,14 +129,15 @@ impl Progress {
     fn lacks_file(&self, kind: CardKind, card: &Card) -> bool
         ensures { result ≡ lacks_its_file self.now kind card.now }
     {
-        kind.is_output_line() && are_blank(columns(card, 7, 14)) && !self.has_output_line
+        kind.is_output_line() && are_blank(columns(card, shared::FILENAME)) && !self.has_output_line
     }
 
     /// The record length of the file that a card names.
     fn length_named(&self, card: &Card) -> Option<u16>
         ensures { result ≡ length_named self.now card.now }
     {
-        self.files.record_length(&Name::of(columns(card, 7, 14)))
+        self.files
+            .record_length(&Name::of(columns(card, shared::FILENAME)))
     }
 
     /// The record length that the positions on a card go by, if it is known. For a card without such positions, any length.
@@ -187,9 +190,9 @@ pub fn exceeds(number: Option<u16>, most: Option<u16>) -> bool
 fn has_code_past(card: &Card, length: Option<u16>) -> bool
     ensures { result ≡ has_code_past_spec card.now length }
 {
-    exceeds(number(columns(card, 21, 24)), length)
-        || exceeds(number(columns(card, 28, 31)), length)
-        || exceeds(number(columns(card, 35, 38)), length)
+    exceeds(number(columns(card, input::POSITION_1)), length)
+        || exceeds(number(columns(card, input::POSITION_2)), length)
+        || exceeds(number(columns(card, input::POSITION_3)), length)
 }
 
 /// Whether a position on a card lies past a record.
@@ -198,8 +201,8 @@ fn names_position_past(kind: CardKind, card: &Card, length: Option<u16>) -> bool
 {
     match kind {
         CardKind::Record | CardKind::RecordAnd | CardKind::RecordOr => has_code_past(card, length),
-        CardKind::Field => exceeds(number(columns(card, 48, 51)), length),
-        CardKind::OutputField => exceeds(number(columns(card, 40, 43)), length),
+        CardKind::Field => exceeds(number(columns(card, input::TO)), length),
+        CardKind::OutputField => exceeds(number(columns(card, output::END_POSITION)), length),
         _ => false,
     }
 }
@@ -210,8 +213,8 @@ fn file_of(kind: CardKind, is_at_fault: bool, card: &Card) -> Option<(Name, u16)
 {
     match (kind, is_at_fault) {
         (CardKind::File, false) => Some((
-            Name::of(columns(card, 7, 14)),
-            number(columns(card, 24, 27)).unwrap_or(0),
+            Name::of(columns(card, shared::FILENAME)),
+            number(columns(card, file::RECORD_LENGTH)).unwrap_or(0),
         )),
         _ => None,
     }
@@ -221,10 +224,12 @@ fn file_of(kind: CardKind, is_at_fault: bool, card: &Card) -> Option<(Name, u16)
 fn result_defined(card: &Card) -> Option<Name>
     ensures { result ≡ result_defined_spec card.now }
 {
-    if are_blank(columns(card, 28, 32)) || are_blank(columns(card, 49, 51)) {
+    if are_blank(columns(card, calculation::OPERATION))
+        || are_blank(columns(card, calculation::LENGTH))
+    {
         None
     } else {
-        maybe_name(columns(card, 43, 48))
+        maybe_name(columns(card, calculation::RESULT))
     }
 }
 
@@ -233,7 +238,7 @@ fn field_of(kind: CardKind, is_at_fault: bool, card: &Card) -> Option<Name>
     ensures { result ≡ field_of_spec kind is_at_fault card.now }
 {
     match (kind, is_at_fault) {
-        (CardKind::Field, false) => Some(Name::of(columns(card, 53, 58))),
+        (CardKind::Field, false) => Some(Name::of(columns(card, input::FIELD_NAME))),
         (CardKind::Calculation, false) => result_defined(card),
         _ => None,
     }
@@ -257,9 +262,9 @@ fn length_behind(
 
 /// The record length of a line card's file: one without a name takes the file of the line before.
 fn line_length(card: &Card, named: Option<u16>, last: Option<u16>) -> Option<u16>
-    ensures { result ≡ line_length_spec (are_blank_spec (columns_spec card.now 7 14)) named last }
+    ensures { result ≡ line_length_spec (are_blank_spec (columns_spec card.now shared.FILENAME)) named last }
 {
-    if are_blank(columns(card, 7, 14)) {
+    if are_blank(columns(card, shared::FILENAME)) {
         last
     } else {
         named

@@ -15,6 +15,7 @@ use crate::indicators::{IndicatorList, condition, level_behind, listed};
 use s3_cards::ebcdic::{BLANK, LETTER_N};
 use s3_cards::{Card, are_blank, is_letter, is_name};
 use s3_edit::EditCode;
+use s3_entries::Span;
 
 /// What is allowed in the columns of a rule.
 #[derive(Clone, Copy)]
@@ -55,13 +56,11 @@ pub enum Entry {
     CodePosition,
 }
 
-/// The columns from one to another, counted from 1, and what is allowed there.
+/// Some columns, and what is allowed there.
 #[derive(Clone, Copy)]
 pub struct Rule {
-    /// The first column, from 1.
-    pub from: usize,
-    /// The last column, at most 96.
-    pub to: usize,
+    /// The columns.
+    pub span: Span,
     /// What is allowed there.
     pub entry: Entry,
 }
@@ -160,7 +159,7 @@ pub fn rule_faults(rule: &Rule, card: &Card) -> Faults
     requires { is_on_card (rule_view rule.now) ≡ true }
     ensures { result ≡ rule_faults_spec card.now (rule_view rule.now) }
 {
-    if rule.entry.allows(columns(card, rule.from, rule.to)) {
+    if rule.entry.allows(columns(card, rule.span)) {
         Faults::NONE
     } else {
         Faults::of(rule.entry.fault())

@@ -15,13 +15,24 @@ use s3_cards::ebcdic::{
     BLANK, LETTER_A, LETTER_B, LETTER_C, LETTER_D, LETTER_E, LETTER_F, LETTER_H, LETTER_I,
     LETTER_L, LETTER_M, LETTER_O, LETTER_P, LETTER_R, LETTER_S, LETTER_T, LETTER_U,
 };
+use s3_entries::{calculation, file, header, input, output, shared, span};
 
+/// A rule for the columns of an entry.
 macro_rules! columns {
-    ($from:literal to $to:literal: $entry:expr) => {
+    ($span:path: $entry:expr) => {
         Rule {
-            from: $from,
-            to: $to,
+            span: $span,
             entry: $entry,
+        }
+    };
+}
+
+/// A rule for columns that are no entry and must be blank.
+macro_rules! blank {
+    ($from:literal to $to:literal) => {
+        Rule {
+            span: span!($from to $to),
+            entry: Entry::Blank,
         }
     };
 }
@@ -29,131 +40,131 @@ macro_rules! columns {
 static NO_RULES: [Rule; 0] = [];
 
 /// The program identification; nothing else is read on the H card.
-static HEADER_RULES: [Rule; 1] = [columns!(75 to 80: Entry::MaybeName)];
+static HEADER_RULES: [Rule; 1] = [columns!(header::PROGRAM: Entry::MaybeName)];
 
 static FILE_RULES: [Rule; 20] = [
-    columns!(7 to 14: Entry::Name), // file name
-    columns!(15 to 15: Entry::OneOf(&[&[LETTER_I], &[LETTER_O], &[LETTER_U]])), // type
-    columns!(16 to 16: Entry::OneOf(&[&[BLANK], &[LETTER_P], &[LETTER_S], &[LETTER_C]])), // designation
-    columns!(17 to 17: Entry::OneOf(&[&[BLANK], &[LETTER_E]])), // end of file
-    columns!(18 to 18: Entry::OneOf(&[&[BLANK], &[LETTER_A]])), // sequence: ascending
-    columns!(19 to 19: Entry::OneOf(&[&[LETTER_F]])), // format
-    columns!(20 to 23: Entry::MaybeNumber(0, 9_999)), // block length, not used
-    columns!(28 to 28: Entry::OneOf(&[&[BLANK], &[LETTER_R]])), // mode
-    columns!(29 to 30: Entry::MaybeNumber(1, 29)), // key length
-    columns!(31 to 31: Entry::OneOf(&[&[BLANK], &[LETTER_A]])), // record address type
-    columns!(32 to 32: Entry::OneOf(&[&[BLANK], &[LETTER_I]])), // organization
-    columns!(33 to 34: Entry::MaybeListed(IndicatorList::Overflow)), // overflow indicator
-    columns!(35 to 38: Entry::MaybeNumber(1, 9_999)), // key start
-    columns!(39 to 39: Entry::Blank),
-    columns!(40 to 46: Entry::OneOf(&[&MFCU1, &MFCU2, &PRINTER, &DISK])), // device
-    columns!(47 to 65: Entry::Blank),
-    columns!(66 to 66: Entry::OneOf(&[&[BLANK], &[LETTER_A]])), // addition
-    columns!(67 to 70: Entry::Blank),
-    columns!(71 to 72: Entry::MaybeListed(IndicatorList::Switch)), // condition of the file
-    columns!(73 to 74: Entry::Blank),
+    columns!(shared::FILENAME: Entry::Name),
+    columns!(file::TYPE: Entry::OneOf(&[&[LETTER_I], &[LETTER_O], &[LETTER_U]])),
+    columns!(file::DESIGNATION: Entry::OneOf(&[&[BLANK], &[LETTER_P], &[LETTER_S], &[LETTER_C]])),
+    columns!(file::END: Entry::OneOf(&[&[BLANK], &[LETTER_E]])),
+    columns!(file::SEQUENCE: Entry::OneOf(&[&[BLANK], &[LETTER_A]])), // ascending
+    columns!(file::FORMAT: Entry::OneOf(&[&[LETTER_F]])),
+    columns!(file::BLOCK_LENGTH: Entry::MaybeNumber(0, 9_999)), // not used
+    columns!(file::MODE: Entry::OneOf(&[&[BLANK], &[LETTER_R]])),
+    columns!(file::KEY_LENGTH: Entry::MaybeNumber(1, 29)),
+    columns!(file::ADDRESS_TYPE: Entry::OneOf(&[&[BLANK], &[LETTER_A]])),
+    columns!(file::ORGANIZATION: Entry::OneOf(&[&[BLANK], &[LETTER_I]])),
+    columns!(file::OVERFLOW: Entry::MaybeListed(IndicatorList::Overflow)),
+    columns!(file::KEY_START: Entry::MaybeNumber(1, 9_999)),
+    blank!(39 to 39),
+    columns!(file::DEVICE: Entry::OneOf(&[&MFCU1, &MFCU2, &PRINTER, &DISK])),
+    blank!(47 to 65),
+    columns!(file::ADDITION: Entry::OneOf(&[&[BLANK], &[LETTER_A]])),
+    blank!(67 to 70),
+    columns!(file::CONDITION: Entry::MaybeListed(IndicatorList::Switch)),
+    blank!(73 to 74),
 ];
 
 static RECORD_RULES: [Rule; 11] = [
-    columns!(7 to 14: Entry::Name), // file name
-    columns!(15 to 16: Entry::Letters), // sequence
-    columns!(17 to 18: Entry::Blank),
-    columns!(19 to 20: Entry::Listed(IndicatorList::Record)), // record identifying indicator
-    columns!(21 to 27: Entry::CodePosition),
-    columns!(21 to 27: Entry::CodeTest),
-    columns!(28 to 34: Entry::CodePosition),
-    columns!(28 to 34: Entry::CodeTest),
-    columns!(35 to 41: Entry::CodePosition),
-    columns!(35 to 41: Entry::CodeTest),
-    columns!(42 to 74: Entry::Blank),
+    columns!(shared::FILENAME: Entry::Name),
+    columns!(input::SEQUENCE: Entry::Letters),
+    blank!(17 to 18),
+    columns!(input::RECORD_INDICATOR: Entry::Listed(IndicatorList::Record)),
+    columns!(input::CODE_1: Entry::CodePosition),
+    columns!(input::CODE_1: Entry::CodeTest),
+    columns!(input::CODE_2: Entry::CodePosition),
+    columns!(input::CODE_2: Entry::CodeTest),
+    columns!(input::CODE_3: Entry::CodePosition),
+    columns!(input::CODE_3: Entry::CodeTest),
+    blank!(42 to 74),
 ];
 
 static RECORD_AND_RULES: [Rule; 8] = [
-    columns!(17 to 20: Entry::Blank),
-    columns!(21 to 27: Entry::CodePosition),
-    columns!(21 to 27: Entry::CodeTest),
-    columns!(28 to 34: Entry::CodePosition),
-    columns!(28 to 34: Entry::CodeTest),
-    columns!(35 to 41: Entry::CodePosition),
-    columns!(35 to 41: Entry::CodeTest),
-    columns!(42 to 74: Entry::Blank),
+    blank!(17 to 20),
+    columns!(input::CODE_1: Entry::CodePosition),
+    columns!(input::CODE_1: Entry::CodeTest),
+    columns!(input::CODE_2: Entry::CodePosition),
+    columns!(input::CODE_2: Entry::CodeTest),
+    columns!(input::CODE_3: Entry::CodePosition),
+    columns!(input::CODE_3: Entry::CodeTest),
+    blank!(42 to 74),
 ];
 
 static RECORD_OR_RULES: [Rule; 9] = [
-    columns!(17 to 18: Entry::Blank),
-    columns!(19 to 20: Entry::Listed(IndicatorList::Record)), // record identifying indicator
-    columns!(21 to 27: Entry::CodePosition),
-    columns!(21 to 27: Entry::CodeTest),
-    columns!(28 to 34: Entry::CodePosition),
-    columns!(28 to 34: Entry::CodeTest),
-    columns!(35 to 41: Entry::CodePosition),
-    columns!(35 to 41: Entry::CodeTest),
-    columns!(42 to 74: Entry::Blank),
+    blank!(17 to 18),
+    columns!(input::RECORD_INDICATOR: Entry::Listed(IndicatorList::Record)),
+    columns!(input::CODE_1: Entry::CodePosition),
+    columns!(input::CODE_1: Entry::CodeTest),
+    columns!(input::CODE_2: Entry::CodePosition),
+    columns!(input::CODE_2: Entry::CodeTest),
+    columns!(input::CODE_3: Entry::CodePosition),
+    columns!(input::CODE_3: Entry::CodeTest),
+    blank!(42 to 74),
 ];
 
 static FIELD_RULES: [Rule; 13] = [
-    columns!(7 to 42: Entry::Blank),
-    columns!(43 to 43: Entry::OneOf(&[&[BLANK], &[LETTER_P]])), // packed
-    columns!(44 to 47: Entry::Number(1, 9_999)), // from
-    columns!(48 to 51: Entry::Number(1, 9_999)), // to
-    columns!(52 to 52: Entry::MaybeNumber(0, 9)), // decimals
-    columns!(53 to 58: Entry::Name), // field
-    columns!(59 to 60: Entry::MaybeLevel(LETTER_L)), // control level
-    columns!(61 to 62: Entry::MaybeLevel(LETTER_M)), // match field
-    columns!(63 to 64: Entry::MaybeListed(IndicatorList::Record)), // relation to a record type
-    columns!(65 to 66: Entry::MaybeListed(IndicatorList::Record)), // plus
-    columns!(67 to 68: Entry::MaybeListed(IndicatorList::Record)), // minus
-    columns!(69 to 70: Entry::MaybeListed(IndicatorList::Record)), // zero or blank
-    columns!(71 to 74: Entry::Blank),
+    blank!(7 to 42),
+    columns!(input::PACKED: Entry::OneOf(&[&[BLANK], &[LETTER_P]])),
+    columns!(input::FROM: Entry::Number(1, 9_999)),
+    columns!(input::TO: Entry::Number(1, 9_999)),
+    columns!(input::DECIMALS: Entry::MaybeNumber(0, 9)),
+    columns!(input::FIELD_NAME: Entry::Name),
+    columns!(input::CONTROL_LEVEL: Entry::MaybeLevel(LETTER_L)),
+    columns!(input::MATCHING: Entry::MaybeLevel(LETTER_M)),
+    columns!(input::RELATION: Entry::MaybeListed(IndicatorList::Record)),
+    columns!(input::PLUS: Entry::MaybeListed(IndicatorList::Record)),
+    columns!(input::MINUS: Entry::MaybeListed(IndicatorList::Record)),
+    columns!(input::ZERO: Entry::MaybeListed(IndicatorList::Record)),
+    blank!(71 to 74),
 ];
 
 static CALCULATION_RULES: [Rule; 12] = [
-    columns!(7 to 8: Entry::Time),
-    columns!(9 to 11: Entry::MaybeCondition),
-    columns!(12 to 14: Entry::MaybeCondition),
-    columns!(15 to 17: Entry::MaybeCondition),
-    columns!(18 to 27: Entry::MaybeFactor(6)), // factor 1
-    columns!(43 to 48: Entry::MaybeName), // result
-    columns!(52 to 52: Entry::MaybeNumber(0, 9)), // decimals
-    columns!(53 to 53: Entry::OneOf(&[&[BLANK], &[LETTER_H]])), // half adjust
-    columns!(54 to 55: Entry::MaybeListed(IndicatorList::Resulting)),
-    columns!(56 to 57: Entry::MaybeListed(IndicatorList::Resulting)),
-    columns!(58 to 59: Entry::MaybeListed(IndicatorList::Resulting)),
-    columns!(60 to 74: Entry::Blank),
+    columns!(calculation::CONTROL_LEVEL: Entry::Time),
+    columns!(calculation::INDICATOR_1: Entry::MaybeCondition),
+    columns!(calculation::INDICATOR_2: Entry::MaybeCondition),
+    columns!(calculation::INDICATOR_3: Entry::MaybeCondition),
+    columns!(calculation::FACTOR_1: Entry::MaybeFactor(6)),
+    columns!(calculation::RESULT: Entry::MaybeName),
+    columns!(calculation::DECIMALS: Entry::MaybeNumber(0, 9)),
+    columns!(calculation::HALF_ADJUST: Entry::OneOf(&[&[BLANK], &[LETTER_H]])),
+    columns!(calculation::HIGH: Entry::MaybeListed(IndicatorList::Resulting)),
+    columns!(calculation::LOW: Entry::MaybeListed(IndicatorList::Resulting)),
+    columns!(calculation::EQUAL: Entry::MaybeListed(IndicatorList::Resulting)),
+    columns!(calculation::COMMENTS: Entry::Blank),
 ];
 
 static OUTPUT_LINE_RULES: [Rule; 8] = [
-    columns!(7 to 14: Entry::MaybeName), // file name
-    columns!(15 to 15: Entry::OneOf(&[&[LETTER_H], &[LETTER_D], &[LETTER_T], &[LETTER_E]])), // type
-    columns!(19 to 20: Entry::MaybeNumber(1, 66)), // skip before
-    columns!(21 to 22: Entry::MaybeNumber(1, 66)), // skip after
-    columns!(23 to 25: Entry::MaybeCondition),
-    columns!(26 to 28: Entry::MaybeCondition),
-    columns!(29 to 31: Entry::MaybeCondition),
-    columns!(32 to 74: Entry::Blank),
+    columns!(shared::FILENAME: Entry::MaybeName),
+    columns!(output::TYPE: Entry::OneOf(&[&[LETTER_H], &[LETTER_D], &[LETTER_T], &[LETTER_E]])),
+    columns!(output::SKIP_BEFORE: Entry::MaybeNumber(1, 66)),
+    columns!(output::SKIP_AFTER: Entry::MaybeNumber(1, 66)),
+    columns!(output::INDICATOR_1: Entry::MaybeCondition),
+    columns!(output::INDICATOR_2: Entry::MaybeCondition),
+    columns!(output::INDICATOR_3: Entry::MaybeCondition),
+    blank!(32 to 74),
 ];
 
 /// AND and OR lines.
 static OUTPUT_GROUP_RULES: [Rule; 5] = [
-    columns!(17 to 22: Entry::Blank), // spaces and skips
-    columns!(23 to 25: Entry::MaybeCondition),
-    columns!(26 to 28: Entry::MaybeCondition),
-    columns!(29 to 31: Entry::MaybeCondition),
-    columns!(32 to 74: Entry::Blank),
+    blank!(17 to 22), // spaces and skips
+    columns!(output::INDICATOR_1: Entry::MaybeCondition),
+    columns!(output::INDICATOR_2: Entry::MaybeCondition),
+    columns!(output::INDICATOR_3: Entry::MaybeCondition),
+    blank!(32 to 74),
 ];
 
 static OUTPUT_FIELD_RULES: [Rule; 11] = [
-    columns!(7 to 22: Entry::Blank),
-    columns!(23 to 25: Entry::MaybeCondition),
-    columns!(26 to 28: Entry::MaybeCondition),
-    columns!(29 to 31: Entry::MaybeCondition),
-    columns!(32 to 37: Entry::MaybeName), // field
-    columns!(38 to 38: Entry::MaybeEditCode),
-    columns!(39 to 39: Entry::OneOf(&[&[BLANK], &[LETTER_B]])), // blank after
-    columns!(40 to 43: Entry::Number(1, 9_999)), // end position
-    columns!(44 to 44: Entry::OneOf(&[&[BLANK], &[LETTER_P]])), // packed
-    columns!(45 to 70: Entry::MaybeConstant),
-    columns!(71 to 74: Entry::Blank),
+    blank!(7 to 22),
+    columns!(output::INDICATOR_1: Entry::MaybeCondition),
+    columns!(output::INDICATOR_2: Entry::MaybeCondition),
+    columns!(output::INDICATOR_3: Entry::MaybeCondition),
+    columns!(output::FIELD_NAME: Entry::MaybeName),
+    columns!(output::EDIT_CODE: Entry::MaybeEditCode),
+    columns!(output::BLANK_AFTER: Entry::OneOf(&[&[BLANK], &[LETTER_B]])),
+    columns!(output::END_POSITION: Entry::Number(1, 9_999)),
+    columns!(output::PACKED: Entry::OneOf(&[&[BLANK], &[LETTER_P]])),
+    columns!(output::CONSTANT: Entry::MaybeConstant),
+    blank!(71 to 74),
 ];
 
 /// The rules of a kind of card, each for some of its columns alone; a comment and a card of no sheet have none.

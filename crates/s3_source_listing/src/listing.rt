@@ -6,8 +6,10 @@ use crate::source::{Found, SourceRange, push_program, push_source};
 use s3_cards::ebcdic::{ASTERISK, BLANK, LETTER_C, LETTER_F, LETTER_H, LETTER_I, LETTER_O};
 use s3_cards::{Card, Deck, is_digit, trim_end};
 use s3_decks::{Columns, DeckText, JobEntry, Statements, jobs_of};
+use s3_entries::shared;
 use s3_ocl::{FaultyJob, JobCards, JobFault};
 use s3_reasons::statement_reason;
+use s3_sheets::column;
 use std::alloc::{AllocError, Global};
 use std::io;
 use std::io::Write;
@@ -106,11 +108,11 @@ pub(crate) fn columns_of_statement(card: &Card) -> Columns {
 /// after it the `*` of a comment.
 fn is_of_source(card: &Card) -> bool {
     let is_sheet = matches!(
-        card[5],
+        column(card, shared::FORM_TYPE),
         LETTER_H | LETTER_F | LETTER_I | LETTER_C | LETTER_O
     );
-    (is_sheet || card[6] == ASTERISK)
-        && card[..5]
+    (is_sheet || column(card, shared::COMMENT) == ASTERISK)
+        && card[..shared::FORM_TYPE.from - 1]
             .iter()
             .all(|code| *code == BLANK || is_digit(*code))
 }

@@ -61,7 +61,7 @@ adds_more delimiter first middle last one two a b =
     record { added = b.added ∙ ap (λ t. t ++ two) a.added ∙ append_assoc (text_in first) one two; between = b.between }
 
 -- of one record more those that are chosen
-chosen_more : (chosen : ChosenRecords) (records : List (List ℕ)) (n : ℕ) (bytes : List ℕ) → n < length records → slice_get records n ≡ Some bytes
+pub chosen_more : (chosen : ChosenRecords) (records : List (List ℕ)) (n : ℕ) (bytes : List ℕ) → n < length records → slice_get records n ≡ Some bytes
     → chosen_of chosen (take (n + 1) records) ≡ chosen_of chosen (take n records) ++ chosen_of chosen (bytes ∷ [])
 chosen_more chosen records n bytes h got =
     let one : take (n + 1) records ≡ take n records ++ bytes ∷ [] = take_more records n [] h ∙ ap (λ b. take n records ++ b ∷ []) (get_or_from_slice_get records n bytes [] got) in
@@ -86,10 +86,10 @@ counted_more chosen records n others other bytes h got before one =
     omega arith
 
 -- ---- the row of one record
-one_chosen : (chosen : ChosenRecords) (bytes : List ℕ) → is_chosen chosen bytes ≡ true → chosen_of chosen (bytes ∷ []) ≡ bytes ∷ []
+pub one_chosen : (chosen : ChosenRecords) (bytes : List ℕ) → is_chosen chosen bytes ≡ true → chosen_of chosen (bytes ∷ []) ≡ bytes ∷ []
 one_chosen chosen bytes is = ap (λ b. cond b (bytes ∷ []) []) is
 
-none_chosen : (chosen : ChosenRecords) (bytes : List ℕ) → is_chosen chosen bytes ≡ false → chosen_of chosen (bytes ∷ []) ≡ []
+pub none_chosen : (chosen : ChosenRecords) (bytes : List ℕ) → is_chosen chosen bytes ≡ false → chosen_of chosen (bytes ∷ []) ≡ []
 none_chosen chosen bytes is = ap (λ b. cond b (bytes ∷ []) []) is
 
 pub chosen_row : (delimiter : ℕ) (fields : List Field) (chosen : ChosenRecords) (bytes : List ℕ) (old new : Writer (Vec ℕ Global)) → is_chosen chosen bytes ≡ true → AddsText delimiter old new (row_text (setup delimiter) (row_of fields bytes))

@@ -13,8 +13,8 @@
 //! - `unload_lines` writes exactly a line for each record: its characters, each of which it has, or two hexadecimal digits for
 //!   each byte (`wrote`); it is refused by the header, the labels, a byte without a character, memory and the writer alone
 //!   (`refused`);
-//! - `unload_fixed` writes exactly the records, in the order of the keys if there is an index: their bytes, or their characters,
-//!   with a line feed after each if the form has one (`wrote`); it is refused by the header, the labels, the index, a byte without
+//! - `unload_fixed` writes exactly the chosen records, in the order of the keys if there is an index: their bytes, or their characters,
+//!   with a line feed after each if the form has one. It returns how many records aren't chosen (`wrote`). It is refused by the header, the labels, the index, a byte without
 //!   a character, memory and the writer alone (`refused`). Its texts are read again by `s3_load`.
 //!
 //! A chosen record that has a value that can't be shown is reported by its number in the file; that it is the first one of the table, that

@@ -19,12 +19,14 @@ abbrev pub count_piece : Option ℕ → Piece
 count_piece (Some count) = number count
 count_piece None = markup (codes "no file")
 
--- the title, the status and the summary
+-- the title, what the day was begun with, the status and the summary
 abbrev pub head : Day → List Piece
 head day =
     markup (codes "<h1>")
     ∷ value day.title.now
-    ∷ markup (codes "</h1>\n<p><strong>")
+    ∷ markup (codes "</h1>\n<pre>")
+    ∷ value day.given.now
+    ∷ markup (codes "</pre>\n<p><strong>")
     ∷ value day.status.now
     ∷ markup (codes "</strong></p>\n<pre>")
     ∷ value day.summary.now
@@ -52,6 +54,8 @@ bar turns j =
     ∷ number j.number
     ∷ markup (codes ", ")
     ∷ value j.program.now
+    ∷ markup (codes ", ")
+    ∷ value j.kind.now
     ∷ markup (codes ", from turn ")
     ∷ number j.first
     ∷ markup (codes " to ")
@@ -76,7 +80,7 @@ line_foot turns =
 -- what the table of jobs begins with
 abbrev pub jobs_head : List Piece
 jobs_head =
-    markup (codes "<table>\n<tr><th>Level</th><th>Job</th><th>Program</th><th>From turn</th><th>To turn</th><th>Lines</th><th>End</th><th>Report</th></tr>\n")
+    markup (codes "<table>\n<tr><th>Level</th><th>Job</th><th>Program</th><th>Kind</th><th>From turn</th><th>To turn</th><th>Lines</th><th>End</th><th>Report</th></tr>\n")
     ∷ []
 
 -- a job in the table, up to its report
@@ -88,6 +92,8 @@ job_row j =
     ∷ number j.number
     ∷ markup (codes "</td><td>")
     ∷ value j.program.now
+    ∷ markup (codes "</td><td>")
+    ∷ value j.kind.now
     ∷ markup (codes "</td><td>")
     ∷ number j.first
     ∷ markup (codes "</td><td>")

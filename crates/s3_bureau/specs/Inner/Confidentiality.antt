@@ -1,14 +1,19 @@
 -- No level learns of the other: runs over two packs that are alike in what a level can read give it the same texts and files, with
 -- whatever else on the packs, and whatever the other level's deck and entries.
 use Rattle.std.specs.Prelude.{◌≡◌, ◌⊎◌, ℕ, List, slice_get}
+use Rattle.std.specs.List.{Contains}
 use Rattle.s3_cards.specs.declared.levels.LevelId.{LevelId}
+use Rattle.s3_store.specs.Stretches.{sectors_in}
+use Rattle.s3_store.specs.declared.stretch.Stretch.{Stretch}
 use Rattle.s3_slots.specs.Header.{quota_of, region_of}
+use Rattle.s3_slots.specs.Placement.{free_stretches}
 use Rattle.s3_slots.specs.Slots.{standing}
 use Rattle.s3_slots.specs.Stretches.{IsIn}
 use Rattle.s3_slots.specs.declared.header.Header.{Header}
 use Rattle.s3_slots.specs.declared.label.FileLabel.{FileLabel}
 use Rattle.s3_slots.specs.declared.slot.Standing.TheVariants.{Present}
-use Rattle.s3_labels.specs.Areas.{IsLabelSector}
+use Rattle.s3_labels.specs.Areas.{IsLabelSector, area_of}
+use Rattle.s3_job_files.specs.Files.{Area, area_on}
 use Rattle.s3_job_files.specs.Kept.{kept_on}
 use Rattle.s3_solo.specs.declared.action.Action.{Action}
 use Rattle.s3_solo.specs.World.{at_start}
@@ -58,3 +63,28 @@ pub record GetsSame (level : LevelId) (run other_run : CompletedRun) : Type 0 wh
 
 abbrev pub NoLevelLearns : Type 0
 NoLevelLearns = (level : LevelId) (run other_run : CompletedRun) → BringsSame level run other_run → GetsSame level run other_run
+
+-- ---- free space
+-- the free extents of an area: what is left of its region beside its sound slots
+abbrev pub free_in : Area → List Stretch
+free_in area = free_stretches area.region area.slots
+
+-- a level's own area on a pack
+abbrev pub own_area : LevelId → Header → (contents : List (List ℕ)) → Area
+own_area level header contents = area_on header.format (region_of level header) (area_of level) contents
+
+-- over two packs the free space of a level is the same: the same extents, with the same bytes
+pub record HaveSameSpace (level : LevelId) (header other_header : Header) (contents other_contents : List (List ℕ)) : Type 0 where
+  pub extents : free_in (own_area level other_header other_contents) ≡ free_in (own_area level header contents)
+  pub sectors : (n : ℕ) → Contains (sectors_in (free_in (own_area level header contents))) n → slice_get other_contents n ≡ slice_get contents n
+
+abbrev pub AlikeHaveSameSpace : Type 0
+AlikeHaveSameSpace =
+    (level : LevelId) (header other_header : Header) (contents other_contents : List (List ℕ))
+    → AreAlike level header other_header contents other_contents → HaveSameSpace level header other_header contents other_contents
+
+-- two runs in which a level brings the same leave it the same free extents, where none of its slots was entangled; nothing is said of their bytes
+abbrev pub RunsLeaveSameSpace : Type 0
+RunsLeaveSameSpace =
+    (level : LevelId) (run other_run : CompletedRun) → BringsSame level run other_run → WasUntangled level run
+    → free_in (area_left level other_run) ≡ free_in (area_left level run)

@@ -6,7 +6,7 @@ use Rattle.s3_entries.specs.declared.form.CardForm.TheVariants.{Header, File, Re
 
 -- the first and the last column of an entry
 abbrev pub span : Entry → ℕ × ℕ
-span entry = (entry.from, entry.to)
+span entry = (entry.columns.from, entry.columns.to)
 
 -- the three codes of an input line: position, N, part and character
 abbrev pub codes : List (ℕ × ℕ)

@@ -92,3 +92,8 @@ chosen_type (Some named) types = if list_any (same_indicator named) types then O
 chosen_type None [] = Ok None
 chosen_type None (one ∷ []) = Ok (Some one)
 chosen_type None (one ∷ other ∷ more) = Err SeveralTypes
+
+-- the type that is named is there; none may be named
+abbrev pub has_named : Option Indicator → List Indicator → Bool
+has_named (Some named) types = list_any (same_indicator named) types
+has_named None types = true

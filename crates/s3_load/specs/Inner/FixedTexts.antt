@@ -80,8 +80,11 @@ pub record IsLoadedFixed (order : Order) (form : FixedForm) (text : Option (List
   pub has : HasRecords order (records_of rows) old new
 
 -- ---- unloaded, and then loaded
--- these records have this length in bytes, and can be written in the form
+-- these records have this length, and can be written in the form
 pub record AreWritable (form : FixedForm) (record_length : ℕ) (records : List (List ℕ)) : Type 0 where
   pub long : All (λ bytes. length bytes ≡ record_length) records
-  pub small : All (λ bytes. All (λ byte. byte < 256) bytes) records
   pub fits : list_all (is_fixed form) records ≡ true
+
+-- these records are of bytes
+abbrev pub AreOfBytes : List (List ℕ) → Type 0
+AreOfBytes records = All (λ bytes. All (λ byte. byte < 256) bytes) records

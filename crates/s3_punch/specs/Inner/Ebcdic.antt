@@ -1,6 +1,6 @@
 -- Decks of 80 columns in EBCDIC, as texts.
-use Rattle.std.specs.Prelude.{ℕ, ◌+◌, ◌*◌, ◌/◌, ◌%◌, List, [], ◌∷◌, ◌++◌, is_none, length, map, slice_range, if◌then◌else◌}
-use Rattle.std.specs.List.{enumerate_from, flat_map, range_with_len}
+use Rattle.std.specs.Prelude.{ℕ, ◌+◌, ◌*◌, ◌/◌, ◌%◌, ◌==◌, ◌&&◌, not, Bool, List, [], ◌∷◌, ◌++◌, is_none, is_some, length, map, slice_range, take, if◌then◌else◌}
+use Rattle.std.specs.List.{enumerate_from, flat_map, list_all, range_with_len}
 use Rattle.s3_cards.specs.Codes.{host_of, shown_byte}
 use Rattle.s3_cards.specs.Printed.{trimmed}
 use Rattle.s3_punch.specs.declared.ebcdic.CardByte.{CardByte}
@@ -29,3 +29,12 @@ byte_fault place =
 -- each byte that is none
 abbrev pub byte_faults : List ℕ → List CardByte
 byte_faults bytes = flat_map byte_fault (enumerate_from 0 bytes)
+
+-- ---- a file that is such a deck
+-- a byte is a character of EBCDIC
+abbrev pub has_character : ℕ → Bool
+has_character byte = is_some (host_of byte)
+
+-- whole cards, of which the first has only characters
+abbrev pub has_cards : List ℕ → Bool
+has_cards bytes = (not (length bytes == 0) && length bytes % 80 == 0) && list_all has_character (take 80 bytes)

@@ -43,10 +43,17 @@ abbrev pub codes_in : Option RecordKind → List RecordCode
 codes_in (Some kind) = kind.codes.items
 codes_in None = []
 
--- the codes of the type that is chosen: of the first of its indicator
+-- the codes of the first type of an indicator
+abbrev pub codes_named : Indicator → List RecordKind → List RecordCode
+codes_named indicator kinds = codes_in (find (is_kind indicator) kinds)
+
+abbrev pub has_codes_named : Indicator → List RecordKind → List ℕ → Bool
+has_codes_named indicator kinds bytes = list_all (code_holds bytes) (codes_named indicator kinds)
+
+-- the codes of the type that is chosen
 abbrev pub codes_of : ChosenRecords → List RecordCode
 codes_of All = []
-codes_of (OfType indicator kinds) = codes_in (find (is_kind indicator) kinds.items)
+codes_of (OfType indicator kinds) = codes_named indicator kinds.items
 
 -- ---- why a record isn't of a type
 -- it hasn't a code of these
@@ -54,11 +61,12 @@ pub record LacksCode (codes : List RecordCode) (bytes : List ℕ) (code : Record
   pub listed : Contains codes code
   pub lacks : code_holds bytes code ≡ false
 
--- a record isn't of the type of an indicator: it lacks a code of that type, or it is of another type, or the type isn't there
+-- Why a record isn't of the type of an indicator: it lacks a code of that type; or it has them all, and is of another type, or the
+-- type isn't there.
 abbrev pub IsFaultOf : Indicator → List RecordKind → List ℕ → TypeFault → Type 0
-IsFaultOf indicator kinds bytes (Code code byte) = (is_of indicator kinds bytes ≡ false) × LacksCode (codes_in (find (is_kind indicator) kinds)) bytes code × (byte ≡ slice_index bytes (code.position - 1))
-IsFaultOf indicator kinds bytes (Earlier other) = (is_of indicator kinds bytes ≡ false) × (type_in kinds bytes ≡ Some other)
-IsFaultOf indicator kinds bytes NoType = (is_of indicator kinds bytes ≡ false) × (type_in kinds bytes ≡ None)
+IsFaultOf indicator kinds bytes (Code code byte) = (is_of indicator kinds bytes ≡ false) × LacksCode (codes_named indicator kinds) bytes code × (byte ≡ slice_index bytes (code.position - 1))
+IsFaultOf indicator kinds bytes (Earlier other) = (is_of indicator kinds bytes ≡ false) × (has_codes_named indicator kinds bytes ≡ true) × (type_in kinds bytes ≡ Some other)
+IsFaultOf indicator kinds bytes NoType = (is_of indicator kinds bytes ≡ false) × (has_codes_named indicator kinds bytes ≡ true) × (type_in kinds bytes ≡ None)
 
 abbrev pub IsFaultIn : ChosenRecords → List ℕ → TypeFault → Type 0
 IsFaultIn All bytes fault = ⊥

@@ -2,6 +2,12 @@
 -- entry.
 use Rattle.std.specs.Prelude.{◌≡◌, ℕ, zero, suc, ◌+◌, ◌-◌, ◌==◌, List, [], ◌∷◌, ◌++◌, Bool, false, not, ◌&&◌, ◌||◌, Option, Some, None, is_some, length, map, filter, nat_le}
 use Rattle.std.specs.List.{list_any}
+use Rattle.s3_entries.specs.declared.calculation.TheConstants as calculation
+use Rattle.s3_entries.specs.declared.file.TheConstants as file
+use Rattle.s3_entries.specs.declared.input.TheConstants as input
+use Rattle.s3_entries.specs.declared.output.TheConstants as output
+use Rattle.s3_entries.specs.declared.shared.TheConstants as shared
+use Rattle.s3_entries.specs.declared.span.Span.{Span}
 use Rattle.s3_lines.specs.Files.{is_printer, is_by_cycle}
 use Rattle.s3_cards.specs.Names.{name_of}
 use Rattle.s3_cards.specs.declared.name.Name.{Name}
@@ -24,9 +30,13 @@ use Rattle.s3_sheets.specs.declared.parts.Part.{Part}
 use Rattle.s3_sheets.specs.declared.parts.FaultyEntry.{FaultyEntry}
 use Rattle.s3_sheets.specs.declared.progress.Standing.{Standing}
 
+-- the columns of a rule
+abbrev pub span_of : Rule → Span
+span_of rule = record { from = rule.from; to = rule.to }
+
 -- a part of a number's condition, on the entry in some columns
-abbrev pub part : (number from to : ℕ) → (fails : Bool) → Part
-part number from to fails = record { number = number; from = from; to = to; fails = fails }
+abbrev pub part : (number : ℕ) → (span : Span) → (fails : Bool) → Part
+part number span fails = record { number = number; from = span.from; to = span.to; fails = fails }
 
 -- ---- 2 to 4: the rules, each for an entry
 abbrev pub fault_number : Fault → ℕ
@@ -35,7 +45,7 @@ fault_number WrongName = 3
 fault_number WrongNumber = 4
 
 abbrev pub rule_part : List ℕ → Rule → Part
-rule_part card rule = part (fault_number (fault_of rule.entry)) rule.from rule.to (not (allows rule.entry (columns card rule.from rule.to)))
+rule_part card rule = part (fault_number (fault_of rule.entry)) (span_of rule) (not (allows rule.entry (columns card (span_of rule))))
 
 -- ---- 2 to 4: columns together
 abbrev pub has_record_length : FileLine → Bool
@@ -43,10 +53,10 @@ has_record_length file = is_between 1 (longest_record file.device) file.record_l
 
 -- an indexed file has a key length and a key start
 abbrev pub lacks_key_length : List ℕ → Bool
-lacks_key_length card = is_with_index (file_line card) && not (is_some (number_between 1 29 (columns card 29 30)))
+lacks_key_length card = is_with_index (file_line card) && not (is_some (number_between 1 29 (columns card file.KEY_LENGTH)))
 
 abbrev pub lacks_key_start : List ℕ → Bool
-lacks_key_start card = is_with_index (file_line card) && not (is_some (number_between 1 9999 (columns card 35 38)))
+lacks_key_start card = is_with_index (file_line card) && not (is_some (number_between 1 9999 (columns card file.KEY_START)))
 
 -- a key that is known ends past a record whose length is known
 abbrev pub has_key_past : FileLine → Bool
@@ -54,13 +64,13 @@ has_key_past file = has_record_length file && (is_some file.key && not (is_key_w
 
 abbrev pub file_parts : List ℕ → List Part
 file_parts card =
-    part 2 17 17 ((file_line card).ends_job && not (is_by_cycle (file_line card).designation))
-    ∷ part 2 29 30 (not (is_with_index (file_line card)) && are_filled card 29 30)
-    ∷ part 2 35 38 (not (is_with_index (file_line card)) && are_filled card 35 38)
-    ∷ part 2 33 34 (are_filled card 33 34 && not (is_printer (file_line card).device))
-    ∷ part 4 24 27 (not (has_record_length (file_line card)))
-    ∷ part 4 29 30 (lacks_key_length card || has_key_past (file_line card))
-    ∷ part 4 35 38 (lacks_key_start card || has_key_past (file_line card))
+    part 2 file.END ((file_line card).ends_job && not (is_by_cycle (file_line card).designation))
+    ∷ part 2 file.KEY_LENGTH (not (is_with_index (file_line card)) && are_filled card file.KEY_LENGTH)
+    ∷ part 2 file.KEY_START (not (is_with_index (file_line card)) && are_filled card file.KEY_START)
+    ∷ part 2 file.OVERFLOW (are_filled card file.OVERFLOW && not (is_printer (file_line card).device))
+    ∷ part 4 file.RECORD_LENGTH (not (has_record_length (file_line card)))
+    ∷ part 4 file.KEY_LENGTH (lacks_key_length card || has_key_past (file_line card))
+    ∷ part 4 file.KEY_START (lacks_key_start card || has_key_past (file_line card))
     ∷ []
 
 -- whether there are more decimals than digits, of which there are as many as there may be
@@ -70,15 +80,15 @@ has_surplus_decimals (Numeric digits decimals) = is_between 1 15 digits && not (
 
 -- the positions of a field are measured, and its decimals by them, where both are known
 abbrev pub has_positions : List ℕ → Bool
-has_positions card = is_some (number_between 1 9999 (columns card 44 47)) && is_some (number_between 1 9999 (columns card 48 51))
+has_positions card = is_some (number_between 1 9999 (columns card input.FROM)) && is_some (number_between 1 9999 (columns card input.TO))
 
 abbrev pub has_surplus_in_field : FieldLine Name → Bool
 has_surplus_in_field field = nat_le field.from field.to && has_surplus_decimals (shape_of_positions field.form (field.to + 1 - field.from))
 
 abbrev pub field_parts : List ℕ → List Part
 field_parts card =
-    part 4 44 51 (has_positions card && has_bad_positions card)
-    ∷ part 4 52 52 (has_positions card && has_surplus_in_field (field_line card))
+    part 4 input.LOCATION (has_positions card && has_bad_positions card)
+    ∷ part 4 input.DECIMALS (has_positions card && has_surplus_in_field (field_line card))
     ∷ []
 
 -- decimals over the length concern both, any other fault of a length the length alone
@@ -88,34 +98,34 @@ has_surplus (Some shape) = has_surplus_decimals shape
 
 abbrev pub calculation_parts : List ℕ → List Part
 calculation_parts card =
-    part 3 33 42 (has_bad_factor card)
-    ∷ part 4 49 51 (has_bad_definition card)
-    ∷ part 4 52 52 (has_surplus (definition_of (columns card 49 51) (columns card 52 52)))
+    part 3 calculation.FACTOR_2 (has_bad_factor card)
+    ∷ part 4 calculation.LENGTH (has_bad_definition card)
+    ∷ part 4 calculation.DECIMALS (has_surplus (definition_of (columns card calculation.LENGTH) (columns card calculation.DECIMALS)))
     ∷ []
 
 abbrev pub line_parts : List ℕ → List Part
 line_parts card =
-    part 2 16 16 (has_bad_addition card)
-    ∷ part 4 17 17 (not (is_addition card) && not (is_blank_or (number_between 0 3) (columns card 17 17)))
-    ∷ part 4 18 18 (not (is_addition card) && not (is_blank_or (number_between 0 3) (columns card 18 18)))
+    part 2 output.BEFORE_SPACES (has_bad_addition card)
+    ∷ part 4 output.SPACE_BEFORE (not (is_addition card) && not (is_blank_or (number_between 0 3) (columns card output.SPACE_BEFORE)))
+    ∷ part 4 output.SPACE_AFTER (not (is_addition card) && not (is_blank_or (number_between 0 3) (columns card output.SPACE_AFTER)))
     ∷ []
 
 -- a field beside a constant is at fault with it, any other entry beside a constant alone; so are an edit code and P together
 abbrev pub has_both : List ℕ → Bool
-has_both card = are_filled card 45 70 && are_filled card 32 37
+has_both card = are_filled card output.CONSTANT && are_filled card output.FIELD_NAME
 
 abbrev pub has_packed_edit : List ℕ → Bool
-has_packed_edit card = are_filled card 32 37 && are_filled card 38 38 && are_filled card 44 44
+has_packed_edit card = are_filled card output.FIELD_NAME && are_filled card output.EDIT_CODE && are_filled card output.PACKED
 
 abbrev pub output_parts : List ℕ → List Part
 output_parts card =
-    part 2 32 37 (has_both card)
-    ∷ part 2 45 70 (has_both card)
-    ∷ part 2 38 38 (are_filled card 45 70 && are_filled card 38 38 || has_packed_edit card)
-    ∷ part 2 39 39 (are_filled card 45 70 && are_filled card 39 39 || are_filled card 39 39 && is_of_date (name_of (columns card 32 37)))
-    ∷ part 2 44 44 (are_filled card 45 70 && are_filled card 44 44 || has_packed_edit card)
-    ∷ part 3 32 37 (has_no_content card)
-    ∷ part 4 40 43 (has_early_constant card)
+    part 2 output.FIELD_NAME (has_both card)
+    ∷ part 2 output.CONSTANT (has_both card)
+    ∷ part 2 output.EDIT_CODE (are_filled card output.CONSTANT && are_filled card output.EDIT_CODE || has_packed_edit card)
+    ∷ part 2 output.BLANK_AFTER (are_filled card output.CONSTANT && are_filled card output.BLANK_AFTER || are_filled card output.BLANK_AFTER && is_of_date (name_of (columns card output.FIELD_NAME)))
+    ∷ part 2 output.PACKED (are_filled card output.CONSTANT && are_filled card output.PACKED || has_packed_edit card)
+    ∷ part 3 output.FIELD_NAME (has_no_content card)
+    ∷ part 4 output.END_POSITION (has_early_constant card)
     ∷ []
 
 abbrev pub combined_parts : CardKind → List ℕ → List Part
@@ -129,15 +139,15 @@ combined_parts _ card = []
 -- ---- 4: positions past a record of a length
 abbrev pub code_parts : List ℕ → Option ℕ → List Part
 code_parts card length =
-    part 4 21 24 (exceeds (number_of (columns card 21 24)) length)
-    ∷ part 4 28 31 (exceeds (number_of (columns card 28 31)) length)
-    ∷ part 4 35 38 (exceeds (number_of (columns card 35 38)) length)
+    part 4 input.POSITION_1 (exceeds (number_of (columns card input.POSITION_1)) length)
+    ∷ part 4 input.POSITION_2 (exceeds (number_of (columns card input.POSITION_2)) length)
+    ∷ part 4 input.POSITION_3 (exceeds (number_of (columns card input.POSITION_3)) length)
     ∷ []
 
 abbrev pub span_parts : List ℕ → Option ℕ → List Part
 span_parts card length =
-    part 4 44 47 (exceeds (number_of (columns card 44 47)) length)
-    ∷ part 4 48 51 (exceeds (number_of (columns card 48 51)) length)
+    part 4 input.FROM (exceeds (number_of (columns card input.FROM)) length)
+    ∷ part 4 input.TO (exceeds (number_of (columns card input.TO)) length)
     ∷ []
 
 abbrev pub position_parts : CardKind → List ℕ → Option ℕ → List Part
@@ -145,26 +155,21 @@ position_parts Record card length = code_parts card length
 position_parts RecordAnd card length = code_parts card length
 position_parts RecordOr card length = code_parts card length
 position_parts Field card length = span_parts card length
-position_parts OutputField card length = part 4 40 43 (exceeds (number_of (columns card 40 43)) length) ∷ []
+position_parts OutputField card length = part 4 output.END_POSITION (exceeds (number_of (columns card output.END_POSITION)) length) ∷ []
 position_parts _ card length = []
 
 -- ---- 1, 3 and 13: by the cards before
 -- where the name stands that a card defines: of a file, of a field of a record, or of a result
-abbrev pub defined_from : CardKind → ℕ
-defined_from File = 7
-defined_from Field = 53
-defined_from _ = 43
-
-abbrev pub defined_to : CardKind → ℕ
-defined_to File = 14
-defined_to Field = 58
-defined_to _ = 48
+abbrev pub defined : CardKind → Span
+defined File = shared.FILENAME
+defined Field = input.FIELD_NAME
+defined _ = calculation.RESULT
 
 abbrev pub standing_parts : CardKind → Standing → List Part
 standing_parts kind standing =
-    part 1 6 6 standing.is_misplaced
-    ∷ part 3 7 14 standing.lacks_file
-    ∷ part 13 (defined_from kind) (defined_to kind) standing.is_too_many
+    part 1 shared.FORM_TYPE standing.is_misplaced
+    ∷ part 3 shared.FILENAME standing.lacks_file
+    ∷ part 13 (defined kind) standing.is_too_many
     ∷ []
 
 -- ---- all parts

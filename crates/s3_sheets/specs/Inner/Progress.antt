@@ -1,6 +1,7 @@
 -- Reading card by card: what is kept of the cards before, and what it says of the next one.
 use Rattle.std.specs.Prelude.{ℕ, ◌+◌, List, [], ◌++◌, Bool, true, false, ◌==◌, ◌&&◌, ◌||◌, not, Option, None, length, max}
 use Rattle.std.specs.Option.{option_to_list}
+use Rattle.s3_entries.specs.declared.shared.TheConstants as shared
 use Rattle.s3_sheets.specs.Columns.{columns, are_blank}
 use Rattle.s3_cards.specs.Names.{name_of}
 use Rattle.s3_sheets.specs.Kinds.{kind_of, sheet_of, is_record, is_output_line}
@@ -35,11 +36,11 @@ is_misplaced_behind Unknown latest = true
 is_misplaced_behind kind latest = is_behind (sheet_of kind) latest
 
 abbrev pub lacks_its_file : Kept → CardKind → List ℕ → Bool
-lacks_its_file kept kind card = is_output_line kind && are_blank (columns card 7 14) && not kept.has_output_line
+lacks_its_file kept kind card = is_output_line kind && are_blank (columns card shared.FILENAME) && not kept.has_output_line
 
 -- the record length of the file that a card names
 abbrev pub length_named : Kept → List ℕ → Option ℕ
-length_named kept card = record_length_of kept.files (name_of (columns card 7 14))
+length_named kept card = record_length_of kept.files (name_of (columns card shared.FILENAME))
 
 unfoldable pub is_outside_behind : Kept → CardKind → List ℕ → Bool
 is_outside_behind kept kind card = names_position_past kind card (length_for kind (length_named kept card) kept.input_length kept.output_length)
@@ -72,7 +73,7 @@ kept_behind kept card =
       files = files_with kept card;
       input_length = length_behind (is_record kind) (is_at_fault || has_code_past card named) named kept.input_length;
       output_length = length_behind (is_output_line kind) is_at_fault
-          (line_length (are_blank (columns card 7 14)) named kept.output_length) kept.output_length;
+          (line_length (are_blank (columns card shared.FILENAME)) named kept.output_length) kept.output_length;
       fields = fields_with kept card;
     }
 

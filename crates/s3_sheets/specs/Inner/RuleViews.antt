@@ -27,7 +27,7 @@ entry_view (variant.MaybeNumber low high) = spec.MaybeNumber low high
 entry_view variant.CodePosition = spec.CodePosition
 
 abbrev pub rule_view : Rule → spec.Rule
-rule_view rule = record { from = rule.from; to = rule.to; entry = entry_view rule.entry }
+rule_view rule = record { from = rule.span.from; to = rule.span.to; entry = entry_view rule.entry }
 
 abbrev pub row_view : Row → List ℕ × Operation
 row_view row = (row.word, row.operation)

@@ -3,6 +3,9 @@ use Rattle.std.specs.Prelude.{ℕ, ◌==◌, ◌&&◌, ◌||◌, List, [], ◌�
 use Rattle.std.specs.List.{list_all, list_any}
 use Rattle.s3_blame.specs.Inner.Entries.{entries_tested}
 use Rattle.s3_entries.specs.Inner.Spans.{spans_of}
+use Rattle.s3_entries.specs.declared.header.TheConstants as header
+use Rattle.s3_entries.specs.declared.output.TheConstants as output
+use Rattle.s3_entries.specs.declared.shared.TheConstants as shared
 use Rattle.s3_entries.specs.declared.form.CardForm.{CardForm}
 use Rattle.s3_entries.specs.declared.form.CardForm.TheVariants as form
 use Rattle.s3_sheets.specs.Tables.{rules_of}
@@ -52,7 +55,7 @@ marks_are_entries =
 -- ---- tabs
 -- whether each stop of a sheet is the first column of an entry, or of the program identification
 abbrev pub are_starts : List ℕ → List (ℕ × ℕ) → Bool
-are_starts stops spans = list_all (λ stop. begins spans stop || stop == 75) stops
+are_starts stops spans = list_all (λ stop. begins spans stop || stop == header.PROGRAM.from) stops
 
 -- whether each first column of an entry is a stop, or one of a few others
 abbrev pub are_stops : List (ℕ × ℕ) → List ℕ → (others : List ℕ) → Bool
@@ -61,10 +64,10 @@ are_stops spans stops others = list_all (λ (span : ℕ × ℕ). list_any (λ st
 abbrev pub stops_match : List ℕ → List (ℕ × ℕ) → (others : List ℕ) → Bool
 stops_match stops spans others = are_starts stops spans && are_stops spans stops others
 
--- a tab doesn't go to AND and OR, which begin before a stop, nor to column 17, which ADD has
+-- a tab doesn't go to AND and OR, which begin before a stop, nor to the space before, whose column ADD has
 unfoldable pub stops_are_entries : Bool
 stops_are_entries =
     stops_match HEADER_STARTS (spans_of form.Header) [] && stops_match FILE_STARTS (spans_of form.File) []
-    && stops_match INPUT_STARTS (spans_of form.Record ++ spans_of form.RecordGroup ++ spans_of form.Field) (14 ∷ [])
+    && stops_match INPUT_STARTS (spans_of form.Record ++ spans_of form.RecordGroup ++ spans_of form.Field) (shared.GROUP.from ∷ [])
     && stops_match CALCULATION_STARTS (spans_of form.Calculation) []
-    && stops_match OUTPUT_STARTS (spans_of form.Line ++ spans_of form.LineGroup ++ spans_of form.OutputField) (14 ∷ 17 ∷ [])
+    && stops_match OUTPUT_STARTS (spans_of form.Line ++ spans_of form.LineGroup ++ spans_of form.OutputField) (shared.GROUP.from ∷ output.SPACE_BEFORE.from ∷ [])

@@ -1,11 +1,13 @@
 -- Records of a fixed length, for other programs.
-use Rattle.std.specs.Prelude.{◌≡◌, ℕ, ◌+◌, ◌-◌, Bool, true, false, List, [], ◌∷◌, ◌++◌, map, Option, Some, None, slice_get, ⊤}
+use Rattle.std.specs.Prelude.{◌≡◌, ℕ, ◌+◌, ◌-◌, Bool, true, false, List, [], ◌∷◌, ◌++◌, map, Option, Some, None, slice_get, ⊤, length}
 use Rattle.std.specs.List.{flat_map, list_all}
 use Rattle.std.specs.Io.KnownBytes.{Appends}
 use Rattle.s3_cards.specs.declared.name.Name.{Name}
 use Rattle.s3_cards.specs.Codes.{shown_byte}
 use Rattle.s3_slots.specs.declared.label.FileLabel.{FileLabel}
 use Rattle.s3_cells.specs.Inner.Texts.{has_character}
+use Rattle.s3_record_types.specs.Inner.Chosen.{chosen_of, is_chosen}
+use Rattle.s3_record_types.specs.declared.chosen.ChosenRecords.{ChosenRecords}
 use Rattle.s3_unload.specs.Inner.Found.{IsFound}
 use Rattle.s3_unload.specs.Inner.Opened.{IsOpenRefusal}
 use Rattle.s3_unload.specs.Inner.Ordered.{in_order, ordered}
@@ -59,18 +61,20 @@ abbrev pub fixed_text : FixedForm → List (List ℕ) → List ℕ
 fixed_text form records = flat_map (fixed_of form) records
 
 -- ---- files that are written
--- The file that stands under the label in the area was written after what the writer had: each of its records, in the order of
--- their keys where it has an index. Each of them can be written so.
-pub record UnloadsFixed (area : Area) (name : Name) (form : FixedForm) (contents : List (List ℕ)) (old new : Option (List ℕ)) : Type 0 where
+-- The file that stands under the label in the area was written after what the writer had: each of its records that are chosen, in the
+-- order of their keys where it has an index. Each of them can be written so. So many records aren't chosen.
+pub record UnloadsFixed (area : Area) (name : Name) (form : FixedForm) (chosen : ChosenRecords) (others : ℕ) (contents : List (List ℕ)) (old new : Option (List ℕ)) : Type 0 where
   pub label : FileLabel
   pub found : IsFound area name contents label
-  pub fits : list_all (is_fixed form) (ordered label contents) ≡ true
-  pub written : Appends old new (fixed_text form (ordered label contents))
+  pub fits : list_all (is_fixed form) (chosen_of chosen (ordered label contents)) ≡ true
+  pub written : Appends old new (fixed_text form (chosen_of chosen (ordered label contents)))
+  pub counted : others + length (chosen_of chosen (ordered label contents)) ≡ length (ordered label contents)
 
--- of records in the order in which they were written, number n, from 1, can't be written so
-pub record HasUnfixed (form : FixedForm) (records : List (List ℕ)) (number : ℕ) : Type 0 where
+-- of records in the order in which they were written, number n, from 1, is chosen, and can't be written so
+pub record HasUnfixed (form : FixedForm) (chosen : ChosenRecords) (records : List (List ℕ)) (number : ℕ) : Type 0 where
   pub bytes : List ℕ
   pub there : slice_get records (number - 1) ≡ Some bytes
+  pub is_meant : is_chosen chosen bytes ≡ true
   pub hidden : is_fixed form bytes ≡ false
 
 -- record n, from 0, isn't written, given whether it fits: a byte has no character, or memory was refused
@@ -86,25 +90,25 @@ IsUnfit n fits (OtherLength long) = ⊥
 IsUnfit n fits File = ⊥
 
 -- records aren't all written: a byte has no character, or memory was refused
-abbrev pub IsUnfixed : FixedForm → FileLabel → List (List ℕ) → UnloadFault → Type 0
-IsUnfixed form label contents (NoCharacter number position) = HasUnfixed form (in_order label contents) number
-IsUnfixed form label contents NoMemory = ⊤
-IsUnfixed form label contents (Hidden number field fault) = ⊥
-IsUnfixed form label contents BadIndex = ⊥
-IsUnfixed form label contents (Mount fault) = ⊥
-IsUnfixed form label contents NotFound = ⊥
-IsUnfixed form label contents DamagedLabel = ⊥
-IsUnfixed form label contents (OtherLength long) = ⊥
-IsUnfixed form label contents File = ⊥
+abbrev pub IsUnfixed : FixedForm → ChosenRecords → FileLabel → List (List ℕ) → UnloadFault → Type 0
+IsUnfixed form chosen label contents (NoCharacter number position) = HasUnfixed form chosen (in_order label contents) number
+IsUnfixed form chosen label contents NoMemory = ⊤
+IsUnfixed form chosen label contents (Hidden number field fault) = ⊥
+IsUnfixed form chosen label contents BadIndex = ⊥
+IsUnfixed form chosen label contents (Mount fault) = ⊥
+IsUnfixed form chosen label contents NotFound = ⊥
+IsUnfixed form chosen label contents DamagedLabel = ⊥
+IsUnfixed form chosen label contents (OtherLength long) = ⊥
+IsUnfixed form chosen label contents File = ⊥
 
 -- the file isn't written: by the pack alone, or for want of memory, or since the writer failed
-abbrev pub IsFixedRefusal : Area → Name → FixedForm → List (List ℕ) → UnloadFault → Type 0
-IsFixedRefusal area name form contents (Mount fault) = IsFindRefusal area name contents (Mount fault)
-IsFixedRefusal area name form contents NotFound = IsFindRefusal area name contents NotFound
-IsFixedRefusal area name form contents DamagedLabel = IsFindRefusal area name contents DamagedLabel
-IsFixedRefusal area name form contents BadIndex = Refuses area name contents (λ label. IsOpenRefusal label contents BadIndex)
-IsFixedRefusal area name form contents (NoCharacter number position) = Refuses area name contents (λ label. HasUnfixed form (in_order label contents) number)
-IsFixedRefusal area name form contents (OtherLength long) = ⊥
-IsFixedRefusal area name form contents (Hidden number field fault) = ⊥
-IsFixedRefusal area name form contents NoMemory = ⊤
-IsFixedRefusal area name form contents File = ⊤
+abbrev pub IsFixedRefusal : Area → Name → FixedForm → ChosenRecords → List (List ℕ) → UnloadFault → Type 0
+IsFixedRefusal area name form chosen contents (Mount fault) = IsFindRefusal area name contents (Mount fault)
+IsFixedRefusal area name form chosen contents NotFound = IsFindRefusal area name contents NotFound
+IsFixedRefusal area name form chosen contents DamagedLabel = IsFindRefusal area name contents DamagedLabel
+IsFixedRefusal area name form chosen contents BadIndex = Refuses area name contents (λ label. IsOpenRefusal label contents BadIndex)
+IsFixedRefusal area name form chosen contents (NoCharacter number position) = Refuses area name contents (λ label. HasUnfixed form chosen (in_order label contents) number)
+IsFixedRefusal area name form chosen contents (OtherLength long) = ⊥
+IsFixedRefusal area name form chosen contents (Hidden number field fault) = ⊥
+IsFixedRefusal area name form chosen contents NoMemory = ⊤
+IsFixedRefusal area name form chosen contents File = ⊤

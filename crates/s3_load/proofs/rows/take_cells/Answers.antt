@@ -1,7 +1,9 @@
-use Rattle.std.proofs.Common.{◌∙◌, inl, inr, length, subst, sym}
+use Rattle.std.proofs.Common.{◌∙◌, [], get_or, inl, inr, length, subst, sym}
 use Rattle.csv.specs.Records.{fields_of}
 use Rattle.s3_cells.specs.Inner.Fields.{LiesIn, Takes}
-use Rattle.s3_load.proofs.RecordLemmas.{field_lies, one_more_taken, still_told}
+use Rattle.s3_load.specs.Inner.Reasons.{IsCellFault, IsColumnFault, Reports, Tries}
+use Rattle.s3_load.proofs.ReasonLemmas.{more_reported, of_column, reports_as}
+use Rattle.s3_load.proofs.RecordLemmas.{field_lies, one_more_taken, one_more_tried, still_told}
 use Rattle.s3_load.proofs.rows.take_cells.Goals.{then-has_key, else-has_key}
 use Rattle.s3_load.proofs.rows.take_cells.Goals as goal
 
@@ -24,4 +26,13 @@ loop-column-preserved c =
         ]
       ];
       before = λ none. c.loop-column.invariant.before (c.in_ok-taken.ensures.before none);
+      tried =
+          one_more_tried c.args.fields.now (fields_of c.args.cells.now) c.args.bytes.now c.loop-column.bytes c.take_cell.new.bytes place field c.loop-column-test.true c.index-fields-column.is c.requires.apart here
+          c.loop-column.invariant.tried (subst (λ cell. Tries field cell c.loop-column.bytes c.take_cell.new.bytes) c.cell_at.ensures c.in_ok-taken.ensures.tried);
+      reported =
+          let is_fault = IsColumnFault c.args.fields.now (fields_of c.args.cells.now) in
+          more_reported is_fault c.args.faults.now c.loop-column.faults c.take_cell.new.faults c.loop-column.invariant.reported
+          (reports_as (IsCellFault field (get_or (fields_of c.args.cells.now) place [])) is_fault c.loop-column.faults c.take_cell.new.faults
+          (of_column c.args.fields.now (fields_of c.args.cells.now) place field c.loop-column-test.true c.index-fields-column.is)
+          (subst (λ cell. Reports (IsCellFault field cell) c.loop-column.faults c.take_cell.new.faults) c.cell_at.ensures c.in_ok-taken.ensures.reported));
     }

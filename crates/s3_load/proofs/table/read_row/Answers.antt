@@ -14,3 +14,10 @@ returns-clause-adds g c = λ found none. elim c.match-branch-3.branch [
   }
   | in-None w ↦ let told = rw w.in-None.is at c.in_ok-row.ensures.none in absurd (omega arith)
 ]
+
+pub returns-clause-reported : goal.returns-clause-reported
+returns-clause-reported g c = λ found. record {
+  cells = fields_of c.next_row.new.cells;
+  read = rw c.if-not-branch.false at c.in_ok-next_row.ensures.read;
+  reports = c.in_ok-row.ensures.reported;
+}

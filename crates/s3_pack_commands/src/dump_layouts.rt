@@ -1,0 +1,352 @@
+//! The layouts that `bureau dump --layout` gives for files of a pack.
+
+use clap::ArgMatches;
+use s3_cards::Name;
+use s3_data_commands::fault::Fault;
+use s3_data_commands::filled::Words;
+use s3_data_commands::inputs::layouts_of;
+use s3_data_commands::pack_words::{area_number, label_of, mount_words, refused};
+use s3_data_commands::sentences::unload_sentence;
+use s3_dump::FileLayout;
+use s3_host_files::is_standard_error;
+use s3_labels::AreaSlots;
+use s3_layout::SourceLayout;
+use s3_listing::{ListFault, mount_slots};
+use s3_pack_check::slots_of;
+use s3_paper_commands::status::{DONE, FILE_FAILED};
+use s3_refusals::Shown;
+use s3_slots::{Standing, standing_of};
+use s3_unload::UnloadFault;
+use std::alloc::{AllocError, Global};
+
+/// How many areas a pack has.
+const AREAS: u16 = 3;
+
+/// A file that has a layout, and the deck with the layout.
+#[derive(Clone, Copy)]
+pub struct Asked<'a> {
+    /// Its area, 0 for the masters, 1 or 2 for a level; none for all areas that have the label.
+    area: Option<u16>,
+    label: &'a str,
+    name: Name,
+    deck: &'a str,
+}
+
+/// The layouts of a deck.
+#[derive(Drop)]
+pub struct DeckLayouts {
+    /// The label of their file.
+    name: Name,
+    /// For each area the record length of its file, if the layouts are for one there.
+    lengths: [Option<u16>; 3],
+    /// One for each record type.
+    layouts: Vec<SourceLayout>,
+}
+
+/// Faults, all of which are reported except perhaps the last.
+#[derive(Drop)]
+struct Faults {
+    /// The last fault, if it isn't reported yet.
+    last: Option<Fault>,
+    /// The exit status of the last that is reported; 0 if none is.
+    status: u8,
+}
+
+impl Faults {
+    fn none() -> Faults {
+        Faults {
+            last: None,
+            status: DONE,
+        }
+    }
+
+    /// Adds a fault, after the others are reported.
+    fn add(self, rt: &HostRuntime, fault: Fault) -> Faults {
+        let reported = self.reported(rt);
+        Faults {
+            last: Some(fault),
+            status: reported.status,
+        }
+    }
+
+    /// The same faults, all reported.
+    fn reported(self, rt: &HostRuntime) -> Faults {
+        match self.last {
+            Some(fault) => Faults {
+                last: None,
+                status: fault.tell(&mut rt.stderr()),
+            },
+            None => Faults {
+                last: None,
+                status: self.status,
+            },
+        }
+    }
+
+    /// Refuses if there is a fault: with the last, or with a sentence about those that are reported.
+    fn result(self, alloc: Global) -> Result<(), Fault> {
+        match (self.last, self.status) {
+            (Some(fault), _) => Err(fault),
+            (None, DONE) => Ok(()),
+            (None, status) => {
+                let sentence = String::from_str(
+                    alloc,
+                    "nothing is printed; correct what is reported above",
+                )?;
+                Err(if status == FILE_FAILED {
+                    Fault::File(sentence)
+                } else {
+                    Fault::Refused(sentence)
+                })
+            }
+        }
+    }
+}
+
+/// The files and decks that the options name. Each option that can't be followed is reported.
+pub fn asked_files<'a>(
+    rt: &HostRuntime,
+    matches: &ArgMatches<'a>,
+) -> Result<Vec<Asked<'a>>, Fault> {
+    let texts = matches.get_strs("layout").unwrap_or(&[]);
+    if texts.iter().any(|text| names_standard_error(rt, *text)) {
+        return Err(Fault::StandardError);
+    }
+    let mut asked = Vec::new(rt.alloc());
+    let mut faults = Faults::none();
+    for text in texts {
+        match next_asked(rt, *text, &asked) {
+            Ok(next) => asked.push(next)?,
+            Err(fault) => faults = faults.add(rt, fault),
+        }
+    }
+    faults.result(rt.alloc())?;
+    Ok(asked)
+}
+
+/// Whether the deck that an option names is the file of standard error, into which nothing may be written.
+fn names_standard_error(rt: &HostRuntime, text: &str) -> bool {
+    match text.split_once("=") {
+        Some((_, deck)) => is_standard_error(rt, deck),
+        None => false,
+    }
+}
+
+/// The file and the deck that an option names, after these.
+fn next_asked<'a>(
+    rt: &HostRuntime,
+    text: &'a str,
+    asked: &[Asked<'a>],
+) -> Result<Asked<'a>, Fault> {
+    let next = match text.split_once("=") {
+        Some((file, deck)) if !deck.is_empty() => asked_of(rt, file, deck)?,
+        _ => return Err(no_deck(rt.alloc(), text)),
+    };
+    if asked.iter().any(|before| is_same_file(before, &next)) {
+        return Err(Fault::Usage(Words::of_file("", 0, next.label).fill(
+            rt.alloc(),
+            "--layout names {label} twice; give each file one deck",
+        )?));
+    }
+    Ok(next)
+}
+
+/// The file that a text names, as `CUSTOM` or `1:CUSTOM`, with its deck.
+fn asked_of<'a>(rt: &HostRuntime, file: &'a str, deck: &'a str) -> Result<Asked<'a>, Fault> {
+    let (area, label) = match file.split_once(":") {
+        Some((area, label)) => (Some(area_number(rt, area)?), label),
+        None => (None, file),
+    };
+    let name = label_of(rt, label)?;
+    Ok(Asked {
+        area,
+        label,
+        name,
+        deck,
+    })
+}
+
+/// The refusal of an option that doesn't name a file and a deck.
+fn no_deck(alloc: Global, text: &str) -> Fault {
+    let text = Shown(text);
+    match format!(in alloc;
+        "--layout {text} doesn't name a file and a deck; give them as CUSTOM=customers.rpg, or as 1:CUSTOM=customers.rpg for area 1 alone"
+    ) {
+        Ok(sentence) => Fault::Usage(sentence),
+        Err(_) => Fault::NoMemory,
+    }
+}
+
+/// Whether two options may mean the same file.
+fn is_same_file(one: &Asked<'_>, other: &Asked<'_>) -> bool {
+    let are_apart = match (one.area, other.area) {
+        (Some(one), Some(other)) => one != other,
+        _ => false,
+    };
+    one.name == other.name && !are_apart
+}
+
+/// The layouts of files of a pack. Each file that the pack at the path doesn't have is reported, and each deck without a layout for
+/// its records.
+pub fn layouts_found(
+    rt: &HostRuntime,
+    path: &str,
+    pack: &[u8],
+    asked: &[Asked<'_>],
+) -> Result<Vec<DeckLayouts>, Fault> {
+    let mut found = Vec::new(rt.alloc());
+    if asked.is_empty() {
+        return Ok(found);
+    }
+    let areas = areas_of(rt.alloc(), path, pack)?;
+    let mut faults = Faults::none();
+    for one in asked {
+        let lengths = match lengths_of(rt.alloc(), path, &areas, one) {
+            Ok(lengths) => lengths,
+            Err(fault) => {
+                faults = faults.add(rt, fault);
+                [None; 3]
+            }
+        };
+        // a deck's diagnostics come after the faults before
+        faults = faults.reported(rt);
+        match deck_layouts(rt, path, one, lengths) {
+            Ok(layouts) => found.push(layouts)?,
+            Err(fault) => faults = faults.add(rt, fault),
+        }
+    }
+    faults.result(rt.alloc())?;
+    Ok(found)
+}
+
+/// The slots of a pack.
+fn areas_of(alloc: Global, path: &str, pack: &[u8]) -> Result<AreaSlots, Fault> {
+    match mount_slots(alloc, pack) {
+        Ok(areas) => Ok(areas),
+        Err(ListFault::Mount(fault)) => {
+            Err(refused(Words::of_path(path).fill(alloc, mount_words(fault))))
+        }
+        Err(_) => Err(Fault::NoMemory),
+    }
+}
+
+/// For each area the record length of the file that is meant there. Refused if there is none.
+fn lengths_of(
+    alloc: Global,
+    path: &str,
+    areas: &AreaSlots,
+    asked: &Asked<'_>,
+) -> Result<[Option<u16>; 3], Fault> {
+    let mut lengths = [None; 3];
+    let mut is_there = false;
+    let mut damaged = None;
+    for area in 0..AREAS {
+        if asked.area.is_none() || asked.area == Some(area) {
+            match standing_of(asked.name, slots_of(areas, area)) {
+                Standing::Present(label) => {
+                    lengths[usize::from(area)] = Some(label.record_length);
+                    is_there = true;
+                }
+                Standing::Blocked => damaged = Some(area),
+                Standing::Absent => {}
+            }
+        }
+    }
+    if is_there {
+        Ok(lengths)
+    } else {
+        Err(refused(no_file_sentence(alloc, path, asked, damaged)))
+    }
+}
+
+/// Why a pack hasn't a file; its label may be damaged in an area.
+fn no_file_sentence(
+    alloc: Global,
+    path: &str,
+    asked: &Asked<'_>,
+    damaged: Option<u16>,
+) -> Result<String, AllocError> {
+    match (damaged, asked.area) {
+        (Some(area), _) => {
+            unload_sentence(alloc, path, area, asked.label, &UnloadFault::DamagedLabel)
+        }
+        (None, Some(area)) => {
+            unload_sentence(alloc, path, area, asked.label, &UnloadFault::NotFound)
+        }
+        (None, None) => Words::of_file(path, 0, asked.label).fill(
+            alloc,
+            "{path} has no file {label}; `bureau list --pack {path}` shows those that it has",
+        ),
+    }
+}
+
+/// The layouts of a deck for files with records of these lengths. Each file with records of another length is reported.
+fn deck_layouts(
+    rt: &HostRuntime,
+    path: &str,
+    asked: &Asked<'_>,
+    lengths: [Option<u16>; 3],
+) -> Result<DeckLayouts, Fault> {
+    let layouts = layouts_of(rt, asked.deck, asked.label, asked.name)?;
+    let mut faults = Faults::none();
+    for area in 0..AREAS {
+        if let Some(length) = lengths[usize::from(area)] {
+            if !have_length(&layouts, length) {
+                let sentence = unload_sentence(
+                    rt.alloc(),
+                    path,
+                    area,
+                    asked.label,
+                    &UnloadFault::OtherLength(length),
+                );
+                faults = faults.add(rt, refused(sentence));
+            }
+        }
+    }
+    faults.result(rt.alloc())?;
+    Ok(DeckLayouts {
+        name: asked.name,
+        lengths,
+        layouts,
+    })
+}
+
+/// Whether the records of layouts have this length.
+fn have_length(layouts: &[SourceLayout], length: u16) -> bool {
+    layouts
+        .iter()
+        .all(|layout| layout.layout.record_length == length)
+}
+
+/// The layouts of each file that has some.
+pub fn file_layouts<'a>(
+    alloc: Global,
+    found: &'a [DeckLayouts],
+) -> Result<Vec<FileLayout<'a>>, AllocError> {
+    let mut files = Vec::new(alloc);
+    for deck in found {
+        for area in 0..AREAS {
+            if deck.lengths[usize::from(area)].is_some() {
+                push_layouts(&mut files, area, deck)?;
+            }
+        }
+    }
+    Ok(files)
+}
+
+/// Adds the layouts of a deck for the file in an area.
+fn push_layouts<'a>(
+    files: &mut Vec<FileLayout<'a>>,
+    area: u16,
+    deck: &'a DeckLayouts,
+) -> Result<(), AllocError> {
+    for layout in &deck.layouts {
+        files.push(FileLayout {
+            area,
+            name: deck.name,
+            layout: &layout.layout,
+            records: &layout.records,
+        })?;
+    }
+    Ok(())
+}
