@@ -4,6 +4,7 @@ ghost use Rattle.std.specs.Prelude.{◌≤◌, ◌≡◌};
 use crate::journaled_run::{has_journal, run_journaled};
 use crate::refusal::{fault_of, of_options, of_pack, reading, saving, session_refused};
 use crate::version::write_version;
+use crate::wrong_number::WrongNumber;
 use clap::error::ErrorKind;
 use clap::{ArgMatches, Error};
 use s3_cli::{CliFault, SessionFault, Watched, image_with, list, migrate, session_on, write_table};
@@ -28,7 +29,7 @@ use s3_pack_commands::check::check_in_json;
 use s3_pack_commands::dump::{dump_pack, restore_pack};
 use s3_paper_commands::status::{DONE, FILE_FAILED, REFUSED, WRONG_WORDS};
 use s3_paper_commands::words::{CommandWords, value_of};
-use s3_paper_commands::{compile_files, list_entries, punch_files};
+use s3_paper_commands::{OutputReason, compile_files, list_entries, punch_files};
 use s3_refusals::{Reason, Refused, Shown};
 use std::io::{IsTerminal, Write};
 use std::{env, fs, io};
@@ -112,7 +113,7 @@ fn refuse_output(rt: &HostRuntime, error: &io::Error) -> u8
     if error.kind() == io::ErrorKind::OutOfMemory {
         return refuse(rt, &OUT_OF_MEMORY);
     }
-    let reason = Reason(*error);
+    let reason = OutputReason(*error);
     let _ = writeln!(
         rt.stderr(),
         "bureau: standard output can't be written: {reason}"
@@ -186,6 +187,7 @@ fn explain(rt: &HostRuntime, error: &Error, words: &[String]) -> u8
     let shown = match error.kind() {
         ErrorKind::DisplayVersion => write_version(rt),
         ErrorKind::DisplayHelp => print_help(rt, error, words),
+        ErrorKind::ValueValidation => explain_value(rt, error, words),
         _ => error.print(rt),
     };
     if error.use_stderr() {
@@ -194,6 +196,17 @@ fn explain(rt: &HostRuntime, error: &Error, words: &[String]) -> u8
     match shown {
         Ok(()) => DONE,
         Err(error) => refuse(rt, &fault_of(&error)),
+    }
+}
+
+/// Reports a value that an option can't have.
+fn explain_value(rt: &HostRuntime, error: &Error, words: &[String]) -> io::Result<()> {
+    match WrongNumber::find(words) {
+        Some(wrong) => {
+            wrong.tell(rt);
+            Ok(())
+        }
+        None => error.print(rt),
     }
 }
 

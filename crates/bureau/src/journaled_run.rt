@@ -8,7 +8,7 @@ use s3_cli::{
     INPUT_LIMIT, ReadFault, RunFault, SessionFault, Watched, read_within, session_on, split_parts,
 };
 use s3_host_files::{StandardOutput, save_pack};
-use s3_journal::{Posting, Ran, Work, checksum_of};
+use s3_journal::{Posting, Ran, Work, checksum_of, checksum_of_deck};
 use s3_journal_files::{GivenPack, JournalFile, JournalRefusal, NewLine, keep_journal_apart};
 use s3_paper_commands::status::DONE;
 use s3_refusals::Refused;
@@ -153,8 +153,8 @@ fn ran_of<'a>(
         return Err(RunRefusal::Run(session_refused(SessionFault::Input, false, path)));
     };
     Ok(Ran {
-        deck1: checksum_of(alloc, parts.deck1)?,
-        deck2: checksum_of(alloc, parts.deck2)?,
+        deck1: checksum_of_deck(alloc, parts.deck1)?,
+        deck2: checksum_of_deck(alloc, parts.deck2)?,
         script: checksum_of(alloc, parts.script)?,
     })
 }

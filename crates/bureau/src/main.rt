@@ -12,6 +12,7 @@ mod descriptors;
 mod journaled_run;
 mod refusal;
 mod version;
+mod wrong_number;
 
 use std::process::ExitCode;
 

@@ -67,16 +67,20 @@ fn put_style(text: &mut Vec<u8>) -> Result<(), AllocError>
             Part::Markup(
                 b"body{color:var(--ink);background:var(--paper);font:1rem/1.4 sans-serif;margin:1rem}\n",
             ),
-            Part::Markup(b"a{color:inherit}\n"),
+            Part::Markup(b"a{color:inherit;white-space:nowrap}\n"),
             Part::Markup(b"table{border-collapse:collapse}\n"),
+            Part::Markup(b"table:not(:has(td)){display:none}\n"),
             Part::Markup(
                 b"td,th{border-bottom:1px solid var(--edge);padding:.2rem .7rem;text-align:left;vertical-align:top}\n",
             ),
             Part::Markup(b"pre{margin:0;white-space:pre-wrap}\n"),
-            Part::Markup(b".chart{display:block;max-width:70rem;margin:.5rem 0}\n"),
+            Part::Markup(
+                b".chart{display:block;max-width:70rem;margin:.5rem 0;overflow:visible}\n",
+            ),
             Part::Markup(b".lane{fill:none;stroke:var(--edge)}\n"),
             Part::Markup(b".level1,.file{fill:var(--one)}\n"),
             Part::Markup(b".level2{fill:var(--two)}\n"),
+            Part::Markup(b".chart svg:nth-of-type(even) rect{opacity:.7}\n"),
             Part::Markup(b"text{fill:var(--ink);font:14px sans-serif}\n"),
             Part::Markup(
                 b"section{position:relative;width:132ch;height:792pt;padding:0 4ch;margin:1rem 0;border:1px solid var(--edge);\n",
@@ -88,7 +92,9 @@ fn put_style(text: &mut Vec<u8>) -> Result<(), AllocError>
             Part::Markup(b"section div{height:12pt;white-space:pre}\n"),
             Part::Markup(b"section p{margin:-12pt 0 0}\n"),
             Part::Markup(b"@page form{size:14.875in 11in;margin:0}\n"),
-            Part::Markup(b"@media print{nav{display:none}tr,svg{break-inside:avoid}\n"),
+            Part::Markup(
+                b"@media print{body{margin:0}nav{display:none}tr,svg{break-inside:avoid}\n",
+            ),
             Part::Markup(
                 b"section{font-size:12pt;height:791pt;margin:0;padding:0 calc((1071pt - 132ch)/2);border:0;overflow:hidden;\n",
             ),

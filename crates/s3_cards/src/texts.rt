@@ -38,7 +38,7 @@ pub fn trim_end(text: &[u8]) -> &[u8]
     ensures value { result.now ≡ trimmed text.now }
     ensures shorter { length result.now ≤ length text.now }
 {
-    trim_blanks(trim_fours(trim_sixteens(text)))
+    trim_blanks(trim_fours(trim_eights(text)))
 }
 
 /// Whether eight codes are the same as eight others, compared as numbers and not one by one.
@@ -48,14 +48,14 @@ pub fn are_same_eight(codes: &[u8; 8], others: &[u8; 8]) -> bool
     u64::from_be_bytes(*codes) == u64::from_be_bytes(*others)
 }
 
-/// A text without whole groups of sixteen blanks at its end, as the 132 positions of a short line have them.
-fn trim_sixteens(text: &[u8]) -> &[u8]
+/// A text without whole groups of eight blanks at its end, as the 132 positions of a short line have them.
+fn trim_eights(text: &[u8]) -> &[u8]
     ensures value { trimmed result.now ≡ trimmed text.now }
     ensures shorter { length result.now ≤ length text.now }
 {
     let mut rest = text;
-    while let Some((front, last)) = rest.split_last_chunk::<16>() {
-        if *last != [BLANK; 16] {
+    while let Some((front, last)) = rest.split_last_chunk::<8>() {
+        if !are_same_eight(last, &[BLANK; 8]) {
             return rest;
         }
         rest = front;

@@ -208,6 +208,22 @@ const PAPER_SIZES: &'static [Choice] = &[
     },
 ];
 
+/// The looks of forms of documents.
+const FORM_LOOKS: &'static [Choice] = &[
+    Choice {
+        name: "plain",
+        help: "White",
+    },
+    Choice {
+        name: "bars",
+        help: "Light bars of three lines",
+    },
+    Choice {
+        name: "full",
+        help: "Bars, holes at both edges, and numbers of lines in both margins",
+    },
+];
+
 /// `bureau operate` and its options.
 const OPERATE: CommandWords = CommandWords {
     name: "operate",
@@ -334,7 +350,12 @@ const OPERATE: CommandWords = CommandWords {
         Word {
             name: "plain",
             takes: Takes::Nothing,
-            help: "Leaves out the bars of forms in pdf",
+            help: "As --form-look plain",
+        },
+        Word {
+            name: "form-look",
+            takes: Takes::OneOf("LOOK", FORM_LOOKS),
+            help: "What is on forms in pdf before they are printed; bars by default",
         },
         Word {
             name: "paper-size",

@@ -173,7 +173,7 @@ fn is_stream(alloc: Global, stream: StandardStream, path: &str) -> Result<String
     let stream = stream.name();
     let shown = Shown(path);
     format!(in alloc;
-        "{shown} is also {stream}, so what is printed would get into it; send {stream} to another file"
+        "{shown} is also {stream}, so what is printed would get into it; send {stream} to another file, and restore {shown} from a copy if `>` has emptied it"
     )
 }
 

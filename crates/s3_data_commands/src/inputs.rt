@@ -9,11 +9,11 @@ use clap::ArgMatches;
 use s3_blame::diagnostic_words;
 use s3_cards::ebcdic::{AMPERSAND, ASTERISK, SLASH};
 use s3_cards::{Card, CardFault, Deck, DeckFault, Name};
-use s3_decks::{CardRange, DeckText, Statements, encoding_of, jobs_of};
+use s3_decks::{CardRange, DeckText, Statements, jobs_of};
 use s3_host_files::{keep_apart, read_within};
 use s3_layout::{Choice, LayoutFault, SourceLayout, read_layout, read_types, read_whole};
 use s3_lines::indicator::Indicator;
-use s3_paper_commands::{is_plain_text, tell_punched};
+use s3_paper_commands::{deck_encoding_words, is_plain_text, tell_punched};
 use s3_punch::{Begun, Part, Punched, punch};
 use s3_refusals::Shown;
 use s3_sheets::{SheetFault, read_sheets};
@@ -247,8 +247,8 @@ fn text_at<'a>(rt: &HostRuntime, path: &'a str) -> Result<DeckText<'a>, Fault> {
             "{path} is a pack; --layout takes a deck with the RPG source of a program that uses the file",
         )));
     }
-    if let Some(encoding) = encoding_of(&bytes) {
-        let (path, words) = (Shown(path), encoding.words());
+    if let Some(words) = deck_encoding_words(&bytes) {
+        let path = Shown(path);
         return Err(refused(format!(in rt.alloc(); "{path} {words}")));
     }
     let mut text = DeckText::new(rt.alloc());

@@ -136,6 +136,11 @@ pub const LOAD: CommandWords = CommandWords {
             help: "Adds the records after those of the file that is there",
         },
         Word {
+            name: "new-shape",
+            takes: Takes::Nothing,
+            help: "Replaces a file even by one of another record length, organization or key",
+        },
+        Word {
             name: "fill",
             takes: Takes::Nothing,
             help: "Fields that the table doesn't have are blank or 0",
@@ -190,6 +195,7 @@ struct LoadWords<'a> {
     retention: Retention,
     date: [u8; 6],
     appends: bool,
+    reshapes: bool,
     fills: bool,
     delimiter: u8,
     /// Whether a comma is before the decimals.
@@ -220,6 +226,7 @@ impl<'a> LoadWords<'a> {
             retention: retention_of(rt, matches)?,
             date: date_of(rt, matches)?,
             appends: matches.get_flag("append"),
+            reshapes: matches.get_flag("new-shape"),
             fills: matches.get_flag("fill"),
             delimiter: delimiter_of(rt, matches)?,
             has_comma: matches.get_str("decimal") == Some(","),
@@ -367,6 +374,7 @@ fn loaded(
         retention: words.retention,
         date: words.date,
         appends: words.appends,
+        reshapes: words.reshapes,
         fills: words.fills,
         delimiter: words.delimiter,
     };
@@ -479,6 +487,9 @@ fn push_replaced(
     push_date(text, file.date)?;
     text.push_str(", replaced by ")?;
     push_grouped(text, count)?;
+    if file.date != words.date {
+        push_date(text, words.date)?;
+    }
     let level = number_of(words.level);
     write!(text, " in level {level} of ")?;
     push_shown_name(text, words.save)
@@ -600,11 +611,12 @@ fn test_words(rt: &HostRuntime, matches: &ArgMatches<'_>) -> Result<(), Fault> {
     let is_new = matches.get_one::<u32>("records").is_some()
         || matches.get_one::<u16>("tracks").is_some()
         || matches.get_str("retain").is_some()
-        || matches.get_str("date").is_some();
+        || matches.get_str("date").is_some()
+        || matches.get_flag("new-shape");
     if is_new && matches.get_flag("append") {
         return Err(wrong_words(
             rt.alloc(),
-            "--records, --tracks, --retain and --date are of a new file, and with --append the file that is there stays as it was made; leave them out",
+            "--records, --tracks, --retain, --date and --new-shape are of a new file, and with --append the file that is there stays as it was made; leave them out",
         ));
     }
     Ok(())

@@ -4,10 +4,10 @@ use crate::filled::{Words, push_name};
 use crate::pack_words::{DAMAGED, NO_LABEL, label_words, mount_words};
 use s3_cards::{Name, host_byte};
 use s3_cells::{CellFault, place_without_character};
-use s3_labels::LabelFault;
+use s3_labels::{LabelFault, Organization};
 use s3_lines::indicator::Indicator;
 use s3_lines::sheet::{CodePart, RecordCode};
-use s3_load::{HeadingFault, LoadFault, Reason, ValueFault};
+use s3_load::{HeadingFault, LoadFault, Reason, Shape, ValueFault};
 use s3_record_types::TypeFault;
 use s3_refusals::{Shown, wide_text};
 use std::alloc::{AllocError, Global};
@@ -68,6 +68,41 @@ fn full_sentence(
     )
 }
 
+/// Why a file isn't replaced by one of another shape.
+fn shape_sentence(
+    alloc: Global,
+    label: &str,
+    old: Shape,
+    new: Shape,
+) -> Result<String, AllocError> {
+    let mut text = String::new(alloc);
+    write!(text, "the file {label} that is there has ")?;
+    push_shape(&mut text, old)?;
+    text.push_str(", and the new one would have ")?;
+    push_shape(&mut text, new)?;
+    text.push_str("; give the layout of that file, or --new-shape to replace it all the same")?;
+    Ok(text)
+}
+
+/// Appends a shape: `records of 32 bytes, indexed by positions 1 to 5`.
+fn push_shape(text: &mut String, shape: Shape) -> Result<(), AllocError> {
+    let length = shape.record_length;
+    write!(text, "records of {length} bytes, ")?;
+    match shape.key {
+        Some(key) => {
+            let first = key.start;
+            let last = first
+                .saturating_add(u16::from(key.length))
+                .saturating_sub(1);
+            write!(text, "indexed by positions {first} to {last}")
+        }
+        None => text.push_str(match shape.organization {
+            Organization::Direct => "direct",
+            Organization::Sequential | Organization::Indexed => "sequential",
+        }),
+    }
+}
+
 /// Why a table isn't loaded, except for what is wrong with its heading and its rows.
 pub fn load_sentence<'a>(
     alloc: Global,
@@ -82,6 +117,7 @@ pub fn load_sentence<'a>(
         LoadFault::Full(room, records) => {
             return full_sentence(alloc, label, appends, *room, *records);
         }
+        LoadFault::OtherShape(old, new) => return shape_sentence(alloc, label, *old, *new),
         LoadFault::Values(_, count) | LoadFault::OpenQuote(count) => *count,
         LoadFault::DamagedSlot(slot) => u64::from(*slot),
         _ => 0,
@@ -94,7 +130,7 @@ pub fn load_sentence<'a>(
 /// The sentence of a refusal; none of one that has another one.
 fn load_words(fault: &LoadFault) -> &'static str {
     match fault {
-        LoadFault::NoMemory | LoadFault::Full(..) => "",
+        LoadFault::NoMemory | LoadFault::Full(..) | LoadFault::OtherShape(..) => "",
         LoadFault::File => "standard input can't be read; give it the table by < FILE or by a pipe",
         LoadFault::OpenQuote(_) =>
             "line {number}: a quote is opened here and never closed; close it at the end of its cell, or write it twice in quotes if it belongs to a text",
@@ -139,6 +175,12 @@ pub fn heading_sentence(alloc: Global, fault: &HeadingFault) -> Result<String, A
             "line 1: the field {field} overlaps {other}, so it can't be 0; name {field} in place of {other}, or leave --fill out",
             *field,
             *named,
+        ),
+        HeadingFault::NotZero(name) => fields_sentence(
+            alloc,
+            "line 1: the field {field} can't be 0, since a field that --fill also fills overlaps it; add the column of one of them",
+            *name,
+            *name,
         ),
         HeadingFault::Missing(name) => fields_sentence(
             alloc,

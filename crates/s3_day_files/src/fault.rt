@@ -1,11 +1,13 @@
 //! Why a day isn't operated, or not to its end.
 ghost use Rattle.std.specs.Prelude.{◌≤◌};
 
+use crate::kind::Kind;
 use s3_cards::LevelId;
 use s3_cli::{CliFault, tell};
 use s3_command_line::OUT_OF_MEMORY;
 use s3_host_files::{FileFault, Hindrance, StandardStream, is_pack_at};
 use s3_journal_files::JournalRefusal;
+use s3_paper_commands::OutputReason;
 use s3_paper_commands::status::{FILE_FAILED, REFUSED, WRONG_WORDS};
 use s3_refusals::{Reason, Shown};
 use std::alloc::{AllocError, AllocFailed};
@@ -91,6 +93,8 @@ pub enum DayFault<'a> {
     Deck(LevelId),
     /// This output would overwrite a file.
     Exists(&'a str),
+    /// This output would overwrite a file of another kind.
+    NotReplaced(&'a str, Kind),
     /// The pack would be saved over this file, which this user may not read.
     Closed(&'a str),
     /// The pack would be saved over this file, which isn't the pack that was read.
@@ -248,6 +252,7 @@ impl<'a> DayFault<'a> {
                 Some((*name, "is a pack, not a deck; name it after --pack"))
             }
             DayFault::Exists(name) => Some((*name, EXISTS)),
+            DayFault::NotReplaced(name, kind) => Some((*name, kind.refusal())),
             DayFault::Closed(name) => Some((*name, CLOSED)),
             DayFault::OtherPack(name) => Some((*name, OTHER_PACK)),
             DayFault::Same(name) => Some((*name, SAME)),
@@ -288,7 +293,7 @@ fn write_call<W: Write>(writer: &mut W, name: &str, error: io::Error) -> io::Res
 
 /// Writes why standard output can't be written.
 fn write_output<W: Write>(writer: &mut W, error: io::Error) -> io::Result<()> {
-    let reason = Reason(error);
+    let reason = OutputReason(error);
     writeln!(writer, "bureau: standard output can't be written: {reason}")
 }
 
@@ -298,7 +303,7 @@ fn write_stream<W: Write>(writer: &mut W, name: &str, stream: StandardStream) ->
     let stream = stream.name();
     writeln!(
         writer,
-        "bureau: {name} is also {stream}; give each a file of its own"
+        "bureau: {name} is also {stream}; give each a file of its own, and restore {name} from a copy if `>` has emptied it"
     )
 }
 

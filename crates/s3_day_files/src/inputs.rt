@@ -10,9 +10,9 @@ use crate::taking_up::take_up;
 use s3_cards::LevelId;
 use s3_command_line::new_pack;
 use s3_day_log::{Begun, DayLog, LogFault};
-use s3_decks::encoding_of;
 use s3_host_files::{LockedPack, read_pack, read_to_save, read_within};
 use s3_operating::DayDeck;
+use s3_paper_commands::encoding_words;
 use s3_refusals::Shown;
 use s3_replies::{Rules, RulesFault};
 use std::alloc::AllocError;
@@ -191,8 +191,8 @@ pub fn read_rules<'a>(
     let Some(path) = path else {
         return Ok(Rules::none(rt.alloc()));
     };
-    if let Some(encoding) = encoding_of(text) {
-        let (path, words) = (Shown(path), encoding.words());
+    if let Some(words) = encoding_words(text) {
+        let path = Shown(path);
         let _ = writeln!(rt.stderr(), "{path} {words}");
         return Err(DayFault::Replies(1));
     }
@@ -220,6 +220,11 @@ fn rules_refused<'a>(rt: &HostRuntime, path: &str, fault: &RulesFault) -> DayFau
 /// The log of a day that is done again.
 pub fn read_log<'a>(rt: &HostRuntime, path: &'a str) -> Result<DayLog, DayFault<'a>> {
     let bytes = read_text(rt, path, LOG_LIMIT)?;
+    if let Some(words) = encoding_words(&bytes) {
+        let path = Shown(path);
+        let _ = writeln!(rt.stderr(), "{path} {words}");
+        return Err(DayFault::Redo);
+    }
     let Ok(text) = str::from_utf8(&bytes) else {
         let path = Shown(path);
         let _ = writeln!(

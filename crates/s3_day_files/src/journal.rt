@@ -6,7 +6,7 @@ use crate::order::Order;
 use crate::outputs::limit_of;
 use s3_day_log::checksum;
 use s3_host_files::FileFault;
-use s3_journal::{LevelCount, Operated, Posting, Work};
+use s3_journal::{LevelCount, Operated, Posting, Work, checksum_of_deck};
 use s3_journal_files::{GivenPack, JournalFile, JournalRefusal, MadeJournal, NewLine};
 use s3_operating::Questioned;
 use std::alloc::{AllocError, Global};
@@ -47,7 +47,7 @@ pub enum Begin<'a> {
 }
 
 impl Given {
-    /// The checksums of a pack, of both decks as they are run, and of the rules. A pack whose checksum the log has isn't read for it.
+    /// The checksums of a pack, of the cards of both decks as they are run, and of the rules. A pack whose checksum the log has isn't read for it.
     pub fn of(
         alloc: Global,
         order: &Order<'_>,
@@ -59,8 +59,8 @@ impl Given {
             Some(read) => read.sha256.clone()?,
             None => checksum(alloc, pack)?,
         };
-        let deck1 = checksum(alloc, decks.one.text())?;
-        let deck2 = checksum(alloc, decks.two.text())?;
+        let deck1 = checksum_of_deck(alloc, decks.one.text())?;
+        let deck2 = checksum_of_deck(alloc, decks.two.text())?;
         let rules = match order.rules {
             Some(_) => Some(checksum(alloc, rules)?),
             None => None,

@@ -6,9 +6,9 @@ use crate::fault::DayFault;
 use crate::inputs::read_text;
 use s3_cards::LevelId;
 use s3_day_log::NamedFile;
-use s3_decks::{cards_len, encoding_of};
+use s3_decks::cards_len;
 use s3_operating::JoinedFiles;
-use s3_paper_commands::{is_plain_text, tell_punched};
+use s3_paper_commands::{deck_encoding_words, is_plain_text, tell_punched};
 use s3_punch::{Begun, Punched, punch};
 use s3_refusals::{Shown, begins_as_pack};
 use std::alloc::{AllocError, Global};
@@ -67,8 +67,8 @@ fn read_deck_file<'a>(
     if begins_as_pack(&bytes) {
         return Err(DayFault::PackAsDeck(name));
     }
-    if let Some(encoding) = encoding_of(&bytes) {
-        report(rt, name, encoding.words());
+    if let Some(words) = deck_encoding_words(&bytes) {
+        report(rt, name, words);
         return Err(DayFault::Deck(level));
     }
     if cards_len(&bytes) == 0 {

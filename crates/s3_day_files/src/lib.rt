@@ -16,8 +16,10 @@ mod journal_json;
 mod journal_list;
 mod keeping;
 mod kept_packs;
+mod kind;
 mod level_deck;
 mod log_line;
+mod named_output;
 mod order;
 mod outputs;
 mod paper;
@@ -33,6 +35,7 @@ pub use inputs::{DayPack, Decks, read_log, read_rules, rules_text};
 pub use journal::{Begin, DayJournal, Given, begin_day};
 pub use journal_list::perform_journal;
 pub use keeping::{SetAside, end_aside, take_back};
+pub use named_output::{KeptOutput, NamedOutput};
 pub use order::{Order, names, replies_of};
 pub use outputs::{
     KeptOutputs, Output, Outputs, remove_made, test_decks, test_journal, test_outputs, write_deck,

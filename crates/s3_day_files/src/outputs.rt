@@ -2,14 +2,16 @@
 
 use crate::fault::{DayFault, unwritten};
 use crate::keeping::{kept_name, place_of, test_keeping};
+use crate::kind::Kind;
+use crate::named_output::{KeptOutput, lost_text};
 use crate::order::Order;
 use crate::paper::Paper;
 pub use s3_host_files::Output;
 use s3_host_files::{
-    FileFault, Kept, Limit, LockedFolder, LockedPack, STREAMS, StandardStream, Target, WRITTEN,
+    FileFault, Limit, LockedFolder, LockedPack, STREAMS, StandardStream, Target, WRITTEN,
     is_empty_at, is_pack_at, prepare_save,
 };
-use s3_refusals::is_closed;
+use s3_refusals::{Shown, is_closed};
 use std::alloc::Global;
 use std::fs::Metadata;
 use std::io::{ErrorKind, Write};
@@ -39,9 +41,9 @@ pub struct Outputs<'a> {
 #[derive(Drop)]
 pub struct KeptOutputs {
     /// The script.
-    pub script: Option<Kept>,
+    pub script: Option<KeptOutput>,
     /// The log.
-    pub log: Option<Kept>,
+    pub log: Option<KeptOutput>,
     /// The folder of the pages, locked.
     folder: Option<LockedFolder>,
     /// The most that new files let anyone do.
@@ -175,7 +177,7 @@ impl<'a> Files<'a> {
     /// Adds the journal. It may be no file that is read and no other output.
     fn add_journal(&mut self, rt: &HostRuntime, name: Option<&'a str>) -> Result<(), DayFault<'a>> {
         match name {
-            Some(name) => self.add_output(rt, name, true),
+            Some(name) => self.add_output(rt, name, None, true),
             None => Ok(()),
         }
     }
@@ -237,19 +239,27 @@ impl<'a> Files<'a> {
 
     /// Adds all other outputs that are files.
     fn add_written(&mut self, rt: &HostRuntime, order: &Order<'a>) -> Result<(), DayFault<'a>> {
-        for name in [order.script, order.log, order.deck_out1, order.deck_out2] {
+        let outputs = [
+            (order.script, Kind::Script),
+            (order.log, Kind::Log),
+            (order.deck_out1, Kind::Deck),
+            (order.deck_out2, Kind::Deck),
+        ];
+        for (name, kind) in outputs {
             if let Some(name) = name {
-                self.add_output(rt, name, order.overwrites)?;
+                self.add_output(rt, name, Some(kind), order.overwrites)?;
             }
         }
         Ok(())
     }
 
-    /// Adds an output. It may be no file that is read and no other output, and without `--overwrite` no file that exists.
+    /// Adds an output. It may be no file that is read and no other output; without `--overwrite` no file that exists, and with it only one
+    /// of its kind. A journal has none: it is read before it gets a line.
     fn add_output(
         &mut self,
         rt: &HostRuntime,
         name: &'a str,
+        kind: Option<Kind>,
         overwrites: bool,
     ) -> Result<(), DayFault<'a>> {
         let output = found(rt, name, &STREAMS)?;
@@ -258,6 +268,11 @@ impl<'a> Files<'a> {
         }
         if !overwrites && output.target.is_there() {
             return Err(DayFault::Exists(name));
+        }
+        if let Some(kind) = kind
+            && !kind.may_replace(rt, name)
+        {
+            return Err(not_replaced(rt, name, kind));
         }
         self.written.push(output)?;
         Ok(())
@@ -299,6 +314,15 @@ fn there_already<'a>(rt: &HostRuntime, name: &'a str) -> DayFault<'a> {
         DayFault::Exists(name)
     } else {
         DayFault::NoPack(name)
+    }
+}
+
+/// Why an output doesn't replace a file, even with `--overwrite`.
+fn not_replaced<'a>(rt: &HostRuntime, name: &'a str, kind: Kind) -> DayFault<'a> {
+    if is_pack_at(rt, Path::new(name)) {
+        DayFault::IsPack(name)
+    } else {
+        DayFault::NotReplaced(name, kind)
     }
 }
 
@@ -408,7 +432,7 @@ impl<'a> Outputs<'a> {
     /// Opens the script, with a second handle.
     fn open_script(&mut self, rt: &HostRuntime, order: &Order<'a>) -> Result<(), DayFault<'a>> {
         let script = self.open_one(rt, order.script, order.overwrites)?;
-        self.kept.script = kept_of(&script, order.script)?;
+        self.kept.script = kept_of(rt, &script, order.script)?;
         self.script = script;
         Ok(())
     }
@@ -416,7 +440,7 @@ impl<'a> Outputs<'a> {
     /// Opens the log, with a second handle.
     fn open_log(&mut self, rt: &HostRuntime, order: &Order<'a>) -> Result<(), DayFault<'a>> {
         let log = self.open_one(rt, order.log, order.overwrites)?;
-        self.kept.log = kept_of(&log, order.log)?;
+        self.kept.log = kept_of(rt, &log, order.log)?;
         self.log = log;
         Ok(())
     }
@@ -487,13 +511,14 @@ fn limit_by<'a>(rt: &HostRuntime, name: Option<&'a str>) -> Result<Option<Limit>
 
 /// A second handle of an output.
 fn kept_of<'a>(
+    rt: &HostRuntime,
     output: &Option<Output>,
     name: Option<&'a str>,
-) -> Result<Option<Kept>, DayFault<'a>> {
+) -> Result<Option<KeptOutput>, DayFault<'a>> {
     let (Some(output), Some(name)) = (output, name) else {
         return Ok(None);
     };
-    match output.kept() {
+    match KeptOutput::of(rt, name, output) {
         Ok(kept) => Ok(Some(kept)),
         Err(error) => Err(DayFault::of(&error, name)),
     }
@@ -537,8 +562,20 @@ pub fn write_deck<'a>(
         return Ok(());
     };
     match write_whole(&mut output, text) {
-        Ok(()) => Ok(()),
+        Ok(()) => test_deck(rt, name, text),
         Err(error) => Err(unwritten(rt, name, &error)),
+    }
+}
+
+/// Reports a deck that was written to a file which has lost its name.
+fn test_deck<'a>(rt: &HostRuntime, name: &'a str, text: &[u8]) -> Result<(), DayFault<'a>> {
+    match lost_text(rt, name, text) {
+        Some(lost) => {
+            let (shown, words) = (Shown(name), lost.words());
+            let _ = writeln!(rt.stderr(), "{shown} isn't written: {words}");
+            Err(DayFault::File(name))
+        }
+        None => Ok(()),
     }
 }
 

@@ -6,7 +6,7 @@ use clap::ArgMatches;
 use s3_host_files::{
     Limit, LockedFolder, is_empty_folder, is_pack_at, make_folder, stream_in, test_folder,
 };
-use s3_pages::PaperSize;
+use s3_pages::{FormLook, PaperSize};
 use std::io::ErrorKind;
 use std::{fs, io};
 
@@ -17,8 +17,8 @@ pub enum Form {
     Text,
     /// As forms in a PDF document.
     Document {
-        /// The forms have bars.
-        has_bars: bool,
+        /// What the forms look like.
+        look: FormLook,
         /// The paper on which they are drawn.
         size: PaperSize,
     },
@@ -46,7 +46,12 @@ impl<'a> Paper<'a> {
     /// What the options ask for, if they ask for pages, or why they can't.
     pub fn read(words: &ArgMatches<'a>) -> Result<Option<Paper<'a>>, &'static str> {
         let named = words.get_str("form");
-        let form = form_of(named, words.get_flag("plain"), words.get_str("paper-size"))?;
+        let form = form_of(
+            named,
+            words.get_flag("plain"),
+            words.get_str("form-look"),
+            words.get_str("paper-size"),
+        )?;
         match words.get_str("paper") {
             Some(folder) => Ok(Some(Paper { folder, form })),
             None if named.is_some() => Err("--form goes with --paper"),
@@ -138,18 +143,35 @@ fn has_pack(rt: &HostRuntime, folder: &str) -> io::Result<bool> {
     Ok(false)
 }
 
-/// How pages are written, given the form and the size that are named, and whether the bars are left out.
-fn form_of(named: Option<&str>, is_plain: bool, size: Option<&str>) -> Result<Form, &'static str> {
+/// How pages are written, given the form, the look and the size that are named, and whether the bars are left out.
+fn form_of(
+    named: Option<&str>,
+    is_plain: bool,
+    look: Option<&str>,
+    size: Option<&str>,
+) -> Result<Form, &'static str> {
     match named.unwrap_or("text") {
         "text" | "html" if is_plain => Err("--plain goes with --form pdf"),
+        "text" | "html" if look.is_some() => Err("--form-look goes with --form pdf"),
         "text" | "html" if size.is_some() => Err("--paper-size goes with --form pdf"),
         "text" => Ok(Form::Text),
         "html" => Ok(Form::Book),
         "pdf" => Ok(Form::Document {
-            has_bars: !is_plain,
+            look: look_of(is_plain, look)?,
             size: size_of(size)?,
         }),
         _ => Err("--form takes text, pdf or html"),
+    }
+}
+
+/// The look of the forms of a document, given the one that is named, and whether the bars are left out.
+fn look_of(is_plain: bool, named: Option<&str>) -> Result<FormLook, &'static str> {
+    match (is_plain, named) {
+        (true, Some(_)) => Err("--plain and --form-look don't go together"),
+        (true, None) | (false, Some("plain")) => Ok(FormLook::Plain),
+        (false, None | Some("bars")) => Ok(FormLook::Bars),
+        (false, Some("full")) => Ok(FormLook::Full),
+        _ => Err("--form-look takes plain, bars or full"),
     }
 }
 

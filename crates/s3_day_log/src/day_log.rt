@@ -5,11 +5,13 @@ ghost use Rattle.std.specs.Option.{option_copied};
 ghost use Rattle.std.specs.Str.{bytes_eq};
 ghost use Rattle.std.specs.String.{string_bytes};
 ghost use Rattle.s3_day_log.specs.Inner.Events.{day_of, file_of, said_of};
-ghost use Rattle.s3_day_log.specs.Inner.Logged.{Follows, IsRead, IsReadAfter, Takes, answered, continued, ended, events_in, has_checksum, has_checksum_if_any, is_hexadecimal as is_hexadecimal_spec, is_checksum as is_checksum_spec, is_sound as is_sound_spec, log_in, replies_at, taken, taken_if_said, with_pack};
+ghost use Rattle.s3_day_log.specs.Inner.Answering.{answer_in};
+ghost use Rattle.s3_day_log.specs.Inner.Logged.{Follows, IsRead, IsReadAfter, Takes, answered, continued, ended, events_in, has_checksum, has_checksum_if_any, is_hexadecimal as is_hexadecimal_spec, is_checksum as is_checksum_spec, is_sound as is_sound_spec, log_in, replies_at, taken, taken_if_said, with_halt, with_pack};
 ghost use Rattle.s3_day_log.specs.Inner.Lines.{said_on};
 ghost use Rattle.s3_day_log.specs.Inner.Tested.{HasPack, IsTested, Matches, is_same_pack, is_saved_pack, sum_of};
 
-use crate::event::{Begun, DayOver, Event, LoggedReply, NamedFile};
+use crate::answering::answer_to;
+use crate::event::{AnsweredHalt, Begun, DayOver, Event, LoggedHalt, LoggedReply, NamedFile};
 use crate::reading::event_of;
 use crate::which_pack::{Standing, standing_of};
 use s3_cards::LevelId;
@@ -74,9 +76,13 @@ pub struct DayLog {
     /// With what the day was begun.
     pub begun: Begun,
     /// The replies to level 1's halts, in the order in which they were given.
-    replies1: Vec<LoggedReply>,
-    /// Those to level 2's.
-    replies2: Vec<LoggedReply>,
+    replies1: Vec<AnsweredHalt>,
+    /// The replies to level 2's halts.
+    replies2: Vec<AnsweredHalt>,
+    /// Level 1's last halt, if no reply follows it.
+    waits1: Option<LoggedHalt>,
+    /// Level 2's last halt, if no reply follows it.
+    waits2: Option<LoggedHalt>,
     /// The checksum of the pack that the day has saved or was going to save. If the desk was killed meanwhile, only the pack tells
     /// which of both is so.
     pub saved: Option<String>,
@@ -117,6 +123,8 @@ impl DayLog {
             begun: day,
             replies1: Vec::new(alloc),
             replies2: Vec::new(alloc),
+            waits1: None,
+            waits2: None,
             saved: None,
             is_declined: false,
             status: None,
@@ -193,36 +201,65 @@ impl DayLog {
     {
         match event {
             Event::Begin { .. } | Event::End(_) => Err(LogFault::Line(number)),
-            Event::JobBegins(_)
-            | Event::JobEnds(_)
-            | Event::Halt(_)
-            | Event::Cut { .. }
-            | Event::Stop => Ok(()),
+            Event::JobBegins(_) | Event::JobEnds(_) | Event::Cut { .. } | Event::Stop => Ok(()),
+            Event::Halt(halt) => {
+                self.wait(halt);
+                Ok(())
+            }
             Event::Declined => {
                 self.is_declined = true;
                 Ok(())
             }
-            Event::Reply(reply) => self.answer(reply, number),
+            Event::Reply(reply) => self.take_reply(reply, number),
             Event::Saving { pack } => self.save(pack, number),
         }
     }
 
     /// Takes a reply, if its halt allows it.
-    fn answer(&mut self, reply: LoggedReply, number: usize) -> Result<(), LogFault>
+    fn take_reply(&mut self, reply: LoggedReply, number: usize) -> Result<(), LogFault>
         ensures { Takes number (answered reply (log_in self.old)) self.new result }
     {
         if !allowed(reply.code, reply.digit) {
             return Err(LogFault::Line(number));
         }
         match reply.level {
-            LevelId::One => self.replies1.push(reply)?,
-            LevelId::Two => self.replies2.push(reply)?,
+            LevelId::One => {
+                let halt = self.waits1;
+                self.replies1.push(AnsweredHalt { reply, halt })?;
+                self.waits1 = None;
+            }
+            LevelId::Two => {
+                let halt = self.waits2;
+                self.replies2.push(AnsweredHalt { reply, halt })?;
+                self.waits2 = None;
+            }
         }
         Ok(())
     }
 
-    /// The reply of a level after so many that it was given before.
-    pub fn reply(&self, level: LevelId, given: usize) -> Option<&LoggedReply>
+    /// Takes a halt: the next reply of its level is to it.
+    fn wait(&mut self, halt: LoggedHalt)
+        ensures { log_in self.new ≡ with_halt halt.level halt (log_in self.old) }
+    {
+        match halt.level {
+            LevelId::One => self.waits1 = Some(halt),
+            LevelId::Two => self.waits2 = Some(halt),
+        }
+    }
+
+    /// The digit with which the log answers a halt, after so many replies that its level was given before; none if the log has no
+    /// reply there, or one that isn't to this halt.
+    pub fn answer(&self, given: usize, halt: &LoggedHalt) -> Option<u8>
+        ensures { result ≡ answer_in (slice_get (replies_at halt.now.level self.now) given) halt.now }
+    {
+        match self.reply(halt.level, given) {
+            Some(answered) => answer_to(answered, halt),
+            None => None,
+        }
+    }
+
+    /// The reply of a level after so many that it was given before, with the halt that it was given to.
+    pub fn reply(&self, level: LevelId, given: usize) -> Option<&AnsweredHalt>
         ensures { option_copied result ≡ slice_get (replies_at level self.now) given }
     {
         match level {

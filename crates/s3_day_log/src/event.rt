@@ -101,6 +101,15 @@ pub struct LoggedReply {
     pub by: Replier,
 }
 
+/// A reply of a log that was read, and the halt that it was given to.
+#[derive(Clone, Copy)]
+pub struct AnsweredHalt {
+    /// The reply.
+    pub reply: LoggedReply,
+    /// The last halt of its level before it that has no earlier reply; none if the log has no such line.
+    pub halt: Option<LoggedHalt>,
+}
+
 /// A day that is over.
 #[derive(Drop)]
 pub struct DayOver {

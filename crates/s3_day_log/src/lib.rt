@@ -13,7 +13,9 @@
 //! - `line_at` writes exactly the line of an event at a second: one JSON object with a text that `jiff` reads as that second, and a
 //!   line feed;
 //! - `DayLog::read` reads exactly the log of the events that a text's lines say, or refuses the first line that is refused, or memory runs
-//!   out; `DayLog::reply` gives the reply to a level's halt after so many;
+//!   out; `DayLog::reply` gives the reply to a level's halt after so many, with the halt that it was given to;
+//! - `DayLog::answer` gives a digit exactly if that reply is to the same letters, the halt allows it, and the log's halt, if the log has
+//!   it, is one of the same job and card;
 //! - the lines that are written of events are read as these events, also if a further line was begun (`laws::a_log_reads_back`). The text of
 //!   a line and its tokens are the kit's `json`, whose own round trip the proof uses. The premises: each time is one that `jiff` reads, and
 //!   each halt is one that a level can show. The times of `line_at` are such times, and are read back (`laws::times_read_back`);
@@ -24,6 +26,7 @@
 
 #![tactic(auto)]
 
+mod answering;
 mod checksums;
 mod clock_text;
 mod day_log;
@@ -42,7 +45,8 @@ pub use clock_text::utc_text;
 pub use day_log::{DayLog, LogFault, Refused};
 pub use endings::{LevelEnd, Verdict, became, end_of};
 pub use event::{
-    Begun, DayOver, Event, JobBegun, JobEnd, JobOver, LoggedHalt, LoggedReply, NamedFile, Replier,
+    AnsweredHalt, Begun, DayOver, Event, JobBegun, JobEnd, JobOver, LoggedHalt, LoggedReply,
+    NamedFile, Replier,
 };
 pub use ledger::{BegunJob, Ledger, Purpose};
 pub use which_pack::{Standing, standing_of};

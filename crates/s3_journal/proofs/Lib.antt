@@ -7,3 +7,4 @@ pub mod Once
 pub mod RoundTrip
 pub mod TextLemmas
 pub mod WritingLemmas
+pub mod CardLemmas

@@ -6,6 +6,7 @@ pub mod Views
 pub mod Lines
 pub mod Written
 pub mod Journals
+pub mod Decks
 pub mod Posted
 pub mod Saved
 pub mod Crashes

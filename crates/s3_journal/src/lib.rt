@@ -13,7 +13,8 @@
 //! - `read_lines` reads exactly the days of a text's lines, or refuses a text in which a line is none, or doesn't have the digest of the
 //!   line before, or after which no line was begun; or memory runs out;
 //! - the lines that are written of days, one after another, are read as these days, also if a further line was begun
-//!   (`a_journal_reads_back`).
+//!   (`a_journal_reads_back`);
+//! - which bytes of a deck's text its digest is of (`checksum_of_deck`).
 //!
 //! Tested: which line a refusal names.
 
@@ -21,6 +22,7 @@
 
 mod chain;
 mod day;
+mod decks;
 mod laws;
 mod members;
 mod reading;
@@ -30,6 +32,7 @@ mod writing;
 
 pub use chain::checksum_of;
 pub use day::{Appended, LevelCount, Operated, PostedDay, Posting, Ran, Work};
+pub use decks::checksum_of_deck;
 pub use laws::{a_journal_reads_back, crashes_are_seen, posts_once};
 pub use reading::{JournalFault, Lines, read_lines};
 pub use saved::{Saved, saved_of};

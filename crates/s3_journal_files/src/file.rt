@@ -2,7 +2,10 @@
 
 use crate::reading::{Journal, read_journal};
 use crate::refusal::JournalRefusal;
-use crate::reports::{report_gone, report_old, report_posted, report_unknown, report_unwritten};
+use crate::reports::{
+    report_cut, report_gone, report_new, report_old, report_posted, report_unknown,
+    report_unwritten,
+};
 use s3_day_log::utc_text;
 use s3_host_files::{FileFault, Limit};
 use s3_journal::{PostedDay, Posting, Start, Work, line_of, start_of};
@@ -120,7 +123,7 @@ impl<'a> JournalFile<'a> {
     }
 
     /// Refuses a command that the journal doesn't let begin over a pack, and reports why. The cure is what to do if what it posts is
-    /// posted.
+    /// posted. A journal without a line is reported, since it lets anything begin.
     pub fn test_start(
         &self,
         rt: &HostRuntime,
@@ -129,13 +132,21 @@ impl<'a> JournalFile<'a> {
         cure: &str,
     ) -> Result<(), JournalRefusal<'a>> {
         match start_of(self.days(), pack.sum, posting) {
-            Start::Do => Ok(()),
+            Start::Do => {
+                if self.days().is_empty() {
+                    report_new(rt, self.name);
+                }
+                Ok(())
+            }
             Start::IsOld => {
                 report_old(rt, self.name, self.days(), pack);
                 Err(JournalRefusal::Old(pack.name))
             }
             Start::IsUnknown => {
                 report_unknown(rt, self.name, self.days(), pack);
+                if self.read.is_cut {
+                    report_cut(rt, self.name);
+                }
                 Err(JournalRefusal::Changed(pack.name))
             }
             Start::IsPosted => {

@@ -40,6 +40,24 @@ pub(crate) fn report_unknown(
     }
 }
 
+/// Reports that the last line of a journal isn't whole, as a kill may leave it: an earlier line may then be the last one that is known.
+pub(crate) fn report_cut(rt: &HostRuntime, journal: &str) {
+    let journal = Shown(journal);
+    let _ = writeln!(
+        rt.stderr(),
+        "the last line of {journal} isn't whole: if {journal} was cut, restore it from a copy before you give --again"
+    );
+}
+
+/// Reports that a journal has no line yet, so that nothing counts as posted.
+pub(crate) fn report_new(rt: &HostRuntime, journal: &str) {
+    let journal = Shown(journal);
+    let _ = writeln!(
+        rt.stderr(),
+        "{journal} is a new journal: nothing is posted in it"
+    );
+}
+
 /// Reports that what a command posts is posted, and what to do.
 pub(crate) fn report_posted(
     rt: &HostRuntime,

@@ -9,6 +9,7 @@ use Rattle.std.proofs.lemmas.List.Folds.{list_all_more, list_any_at}
 use Rattle.std.proofs.lemmas.Bool.{cases_Bool, cases_eq}
 use Rattle.s3_cells.specs.declared.field.Field.{Field}
 use Rattle.s3_unload.specs.Inner.Tables.{name_text}
+use Rattle.s3_load.specs.Inner.Settling.{is_settled}
 use Rattle.s3_load.specs.Inner.Columns.{AddsColumn, AreNamed, IsNamed, LieApart, bare, is_clear, is_number, overlap}
 
 pub none_told : {X : Type 0} (xs : List X) (P : Type 0) → 0 < length xs → xs ≡ [] → P
@@ -87,3 +88,9 @@ one_more_apart columns n f h is before one i j d low high = elim (cases_eq j n) 
 
 pub all_apart : (columns : List Field) → ApartBelow columns (length columns) → LieApart columns
 all_apart columns h = h
+
+-- ---- filled
+pub one_more_settled : (bytes : List ℕ) (fields : List Field) (i : ℕ) (f : Field) → i < length fields → f ≡ get_or fields i f → list_all (is_settled bytes) (take i fields) ≡ true → is_settled bytes f ≡ true
+    → list_all (is_settled bytes) (take (i + 1) fields) ≡ true
+one_more_settled bytes fields i f h is before one =
+    list_all_more (is_settled bytes) fields i f h ∙ ap₂ (λ a b. a && b) before (sym (ap (is_settled bytes) is) ∙ one)

@@ -8,6 +8,7 @@ pub mod LoadedPacks
 pub mod PlacedFiles
 pub mod RecordLemmas
 pub mod RowLaws
+pub mod Shapes
 pub mod TableLemmas
 pub mod UndamagedSlots
 pub mod Bytes

@@ -7,10 +7,12 @@ ghost use Rattle.s3_unload.specs.Inner.Tables.{name_text};
 ghost use Rattle.s3_cells.specs.Inner.Fields.{LiesIn};
 ghost use Rattle.s3_load.specs.Inner.Columns.{AddsColumn, AreNamed, IsHeading, LieApart, bare as bare_spec, has_byte as has_byte_spec, is_blank, is_clear, is_number as is_number_spec};
 ghost use Rattle.s3_load.specs.Inner.Owners.{AreOwners, IsFree, unowned};
+ghost use Rattle.s3_load.specs.Inner.Settling.{AreSettled};
 
 use crate::fault::{HeadingFault, LoadFault};
 use crate::names::FieldNames;
 use crate::owners::{first_owner, is_owned_whole, own};
+use crate::settling::unsettled;
 use csv::ByteRecord;
 use s3_cards::{Name, host_byte, word_len};
 use s3_cells::{DateField, Field, FieldKind, Layout, trimmed};
@@ -25,16 +27,36 @@ pub struct Columns {
     pub filled: Vec<Field>,
 }
 
-/// The columns that a heading names. Refused with all that is wrong with it. The time that it takes grows with the number of fields and
-/// of their bytes.
-#[tactic(auto, using(crate::proofs::OwnerLemmas::named_within, crate::proofs::OwnerLemmas::missing_within, crate::proofs::OwnerLemmas::unowned_left))]
+/// The columns that a heading names. Refused with all that is wrong with it, and then with all numbers that can't be filled. The time
+/// that it takes grows with the number of fields and of their bytes.
 pub fn read_columns(
     alloc: Global,
     heading: &ByteRecord,
     layout: &Layout,
     fills: bool,
 ) -> Result<Columns, LoadFault>
-    ensures { IfOk result (IsHeading layout.now.fields.items fills (fields_of heading.now)) }
+    ensures heading { IfOk result (IsHeading layout.now.fields.items fills (fields_of heading.now)) }
+    ensures settled { IfOk result (λ columns. AreSettled layout.now.record_length columns.filled.items) }
+{
+    let columns = named_columns(alloc, heading, layout, fills)?;
+    let faults = unsettled(alloc, layout.record_length, &columns.filled)?;
+    if faults.is_empty() {
+        Ok(columns)
+    } else {
+        Err(LoadFault::Heading(faults))
+    }
+}
+
+/// The columns that a heading names. Refused with all that is wrong with it.
+#[tactic(auto, using(crate::proofs::OwnerLemmas::named_within, crate::proofs::OwnerLemmas::missing_within, crate::proofs::OwnerLemmas::unowned_left))]
+fn named_columns(
+    alloc: Global,
+    heading: &ByteRecord,
+    layout: &Layout,
+    fills: bool,
+) -> Result<Columns, LoadFault>
+    ensures heading { IfOk result (IsHeading layout.now.fields.items fills (fields_of heading.now)) }
+    ensures within { IfOk result (λ columns. All (LiesIn layout.now.record_length) columns.filled.items) }
 {
     let mut faults = Vec::new(alloc);
     let named = named_fields(alloc, heading, &layout.fields, &mut faults)?;

@@ -1,5 +1,6 @@
 //! Why a table isn't loaded.
 
+use crate::shape::Shape;
 use s3_cards::Name;
 use s3_cells::CellFault;
 use s3_labels::{ChangeFault, LabelFault, MountFault};
@@ -19,6 +20,8 @@ pub enum HeadingFault {
     Missing(Name),
     /// The first field is a number without a column, and is partly under the second field, which has one: so it can't be 0.
     Under(Name, Name),
+    /// The field is a number without a column, and isn't 0 when the other fields without one are filled.
+    NotZero(Name),
 }
 
 /// Why a row isn't taken.
@@ -88,6 +91,8 @@ pub enum LoadFault {
     Full(u32, u64),
     /// The file that is there has records of another length, another key or another organization.
     OtherKind,
+    /// A file of the first shape would be replaced by one of the second.
+    OtherShape(Shape, Shape),
     /// The index of the file that is there isn't that of its records.
     BadIndex,
 }

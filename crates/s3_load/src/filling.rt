@@ -13,6 +13,7 @@ ghost use Rattle.s3_load.specs.Inner.Loaded.{IsAsked, IsNewOf, has_key as has_ke
 use crate::fault::{LoadFault, Reason, ValueFault};
 use crate::order::{Order, Room};
 use crate::rows::{Faults, Row};
+use crate::shape::has_shape;
 use crate::table::{MOST_RECORDS, key_in};
 use s3_cards::is_name;
 use s3_files::{FileFault, RecordFile, Sequential};
@@ -95,7 +96,7 @@ pub fn file_there(pack: &Pack<MemoryStore>, order: &Order<'_>) -> Result<FileLab
         Standing::Absent => Err(LoadFault::Label(LabelFault::NotFound)),
         Standing::Blocked => Err(LoadFault::Label(LabelFault::DamagedLabel)),
         Standing::Present(label) => {
-            if is_of_kind(&label, order) {
+            if has_shape(&label, order) {
                 Ok(label)
             } else {
                 Err(LoadFault::OtherKind)
@@ -104,16 +105,8 @@ pub fn file_there(pack: &Pack<MemoryStore>, order: &Order<'_>) -> Result<FileLab
     }
 }
 
-/// Whether a file has the records and the key of the layout.
-fn is_of_kind(label: &FileLabel, order: &Order<'_>) -> bool
-    ensures key { IsTrue result → has_key_spec order.now.key label.now ≡ true }
-    ensures long { IsTrue result → label.now.record_length ≡ order.now.layout.now.record_length }
-{
-    has_key(label, order.key) && label.record_length == order.layout.record_length
-}
-
 /// Whether a file has this key, or no key if none is asked for.
-fn has_key(label: &FileLabel, key: Option<KeyField>) -> bool
+pub fn has_key(label: &FileLabel, key: Option<KeyField>) -> bool
     ensures { result ≡ has_key_spec key label.now }
 {
     match (label.organization, key) {

@@ -15,7 +15,8 @@
 //!   an index is the one of all of them. Each other slot is as it was, and its file has the same bytes; the slot of an old file
 //!   of the label, in whose place a new one comes, is free, if the new one hasn't got it (`load`);
 //! - a table that is loaded ends in no open quote (`load`);
-//! - a new file is made only if no slot of the level's area is damaged (`load`);
+//! - a new file is made only if no slot of the level's area is damaged, and replaces one of another record length, organization or key
+//!   only if the order allows it (`load`, `load_fixed`);
 //! - a table that was loaded into a new file is unloaded again: the file's records, as `unload` takes them, are one for each row,
 //!   in the order of their keys, or, without a key, in the order of the rows; each shows the value of the row's cell in each
 //!   column (`what_is_loaded_is_unloaded`);
@@ -47,6 +48,8 @@ mod order;
 mod owners;
 mod quotes;
 mod rows;
+mod settling;
+mod shape;
 mod table;
 mod table_laws;
 
@@ -55,4 +58,5 @@ pub use fixed_laws::what_is_unloaded_fixed_is_loaded;
 pub use laws::{a_loaded_row_is_unloaded, an_unloaded_record_is_loaded};
 pub use loading::{load, load_fixed};
 pub use order::{Order, Room};
+pub use shape::Shape;
 pub use table_laws::{what_is_loaded_is_unloaded, what_is_unloaded_is_loaded};

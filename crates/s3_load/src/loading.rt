@@ -11,6 +11,7 @@ ghost use Rattle.csv.specs.Reading.{strip_bom};
 ghost use Rattle.s3_load.specs.Inner.Quotes.{open_quote};
 ghost use Rattle.s3_load.specs.Inner.FixedTexts.{IsLoadedFixed};
 ghost use Rattle.s3_load.specs.Inner.Loaded.{ChangesLoaded, HasFile, HasRecords, IsCounted, IsLoaded, IsOfLoad, IsPlaced};
+ghost use Rattle.s3_load.specs.Inner.Shapes.{KeepsShape};
 
 use crate::fault::LoadFault;
 use crate::filling::{file_there, fill, may_have, new_file};
@@ -18,6 +19,7 @@ use crate::fixed::read_fixed;
 use crate::order::Order;
 use crate::quotes::refuse_open_quote;
 use crate::rows::Row;
+use crate::shape::refuse_other_shape;
 use crate::table::read_table;
 use s3_labels::{AreaSlots, FileLabel, Pack, Refusal, Refused, Standing, area_of};
 use s3_pack_care::{bytes_after, saved};
@@ -29,7 +31,7 @@ use std::alloc::Global;
 use std::io::{ErrorKind, Read};
 
 /// The pack with the records of a table in a file of a level: a new file, which takes the place of a file of its label that isn't
-/// permanent, or after the records of the file that is there. Records of a file with an index go in by their keys, whatever
+/// permanent, and has the shape of the new one unless the order allows another, or after the records of the file that is there. Records of a file with an index go in by their keys, whatever
 /// the order of the rows. No byte changes but those of the file and its label, and of the label of a file that is replaced. Refused
 /// as `LoadFault` says; the pack that is given stays as it is.
 pub fn load<R: Read + Drop>(
@@ -40,6 +42,7 @@ pub fn load<R: Read + Drop>(
 ) -> Result<Vec<u8>, LoadFault>
     ensures loaded { IfOk result (λ new. IsLoaded order.now (R.remaining reader) (contents_of pack.now) (contents_of new.items)) }
     ensures only { IfOk result (λ new. ChangesBytes (IsOfLoad order.now (contents_of pack.now) (contents_of new.items)) pack.now new.items) }
+    ensures shaped { OnOk result (KeepsShape order.now (contents_of pack.now)) }
     ensures closed { OnOk result ((text : List ℕ) → R.remaining reader ≡ Some text → open_quote order.now.delimiter (strip_bom text) ≡ None) }
 {
     let text = read_text(alloc, reader)?;
@@ -59,6 +62,7 @@ pub fn load_fixed<R: Read + Drop>(
 ) -> Result<Vec<u8>, LoadFault>
     ensures loaded { IfOk result (λ new. IsLoadedFixed order.now form (R.remaining reader) (contents_of pack.now) (contents_of new.items)) }
     ensures only { IfOk result (λ new. ChangesBytes (IsOfLoad order.now (contents_of pack.now) (contents_of new.items)) pack.now new.items) }
+    ensures shaped { OnOk result (KeepsShape order.now (contents_of pack.now)) }
 {
     let text = read_text(alloc, reader)?;
     let rows = read_fixed(alloc, order, form, &text)?;
@@ -75,10 +79,13 @@ fn pack_with(
 ) -> Result<Vec<u8>, LoadFault>
     ensures loaded { IfOk result (λ new. HasRecords order.now (records_of rows.now) (contents_of pack.now) (contents_of new.items)) }
     ensures only { IfOk result (λ new. ChangesBytes (IsOfLoad order.now (contents_of pack.now) (contents_of new.items)) pack.now new.items) }
+    ensures shaped { OnOk result (KeepsShape order.now (contents_of pack.now)) }
 {
     let mut mounted = mount(alloc, pack)?;
+    let shaped = refuse_other_shape(&mounted.areas, order);
     let placed = place_rows(alloc, &mut mounted, order, rows);
     let Pack { pool, areas: _ } = mounted;
+    shaped?;
     placed?;
     Ok(saved(pool, bytes_after(pack))?)
 }

@@ -37,6 +37,8 @@ pub struct Order<'a> {
     pub date: [u8; 6],
     /// Whether the records go after those of the file that is there.
     pub appends: bool,
+    /// Whether a new file may replace one of another shape.
+    pub reshapes: bool,
     /// Whether fields that the table doesn't have are blank or 0.
     pub fills: bool,
     /// The byte between the cells.

@@ -342,7 +342,7 @@ fn line_of(cells: &ByteRecord, lines: &mut Lines<'_>) -> u64 {
 
 /// Makes the numbers among some fields 0 in a record.
 #[tactic(auto, using(crate::proofs::RecordLemmas::field_lies, crate::proofs::RecordLemmas::one_more_zero))]
-fn fill(fields: &[Field], bytes: &mut [u8])
+pub fn fill(fields: &[Field], bytes: &mut [u8])
     requires { All (LiesIn (length bytes.old)) fields.now }
     ensures { bytes.new ≡ with_zeros bytes.old fields.now }
 {

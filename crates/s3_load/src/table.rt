@@ -8,8 +8,8 @@ ghost use Rattle.csv.specs.Records.{fields_of};
 ghost use Rattle.csv.specs.declared.reader.Trim.TheVariants as trim;
 ghost use Rattle.s3_cells.specs.Inner.Fields.{LiesIn};
 ghost use Rattle.s3_load.specs.Inner.Columns.{LieApart};
-ghost use Rattle.s3_load.specs.Inner.KeyOrder.{AreInKeyOrder, ComesBefore, key_in as key_in_spec};
-ghost use Rattle.s3_load.specs.Inner.Reasons.{ReportsRow, ReportsRows};
+ghost use Rattle.s3_load.specs.Inner.KeyOrder.{AreInKeyOrder, AreSorted, ComesBefore, comes_before, key_in as key_in_spec};
+ghost use Rattle.s3_load.specs.Inner.Reasons.{HasSameKey, IsSameKey, Reports, ReportsKeys, ReportsRow, ReportsRows};
 ghost use Rattle.s3_load.specs.Inner.Tables.{AddsRow, AreRowsOf, FindsEnd, IsReading, IsTable};
 
 use crate::columns::{Columns, read_columns};
@@ -172,6 +172,7 @@ pub fn sort_by_key(
     ensures unkeyed { key ≡ None → rows.new.items ≡ rows.old.items }
     ensures keyed { OnOk result (faults.new.count ≡ 0 → AreInKeyOrder key rows.new.items) }
     ensures before { OnOk result (faults.new.count ≡ 0 → faults.old.count ≡ 0) }
+    ensures reported { OnOk result (ReportsKeys key rows.new.items faults.old faults.new) }
 {
     match key {
         None => Ok(()),
@@ -184,7 +185,8 @@ pub fn sort_by_key(
 
 /// Sorts rows by the characters of their keys; those of one key stay in their order.
 fn sort_rows(rows: &mut Vec<Row>, key: KeyField) -> Result<(), LoadFault>
-    ensures { OnOk result (IsPermutation rows.old.items rows.new.items) }
+    ensures same { OnOk result (IsPermutation rows.old.items rows.new.items) }
+    ensures sorted { OnOk result (AreSorted key rows.new.items) }
 {
     rows.sort_by(|one, other| order_by(key, one, other))?;
     Ok(())
@@ -197,7 +199,7 @@ fn order_by(key: KeyField, one: &Row, other: &Row) -> Ordering
     key_in(&one.bytes, key).cmp(key_in(&other.bytes, key))
 }
 
-/// Reports each row that doesn't come after the row before it by its key: if rows are sorted, it has the same key.
+/// Reports each of sorted rows that doesn't come after the row before it by its key: it has the same key.
 #[tactic(auto, using(crate::proofs::KeyLemmas::none_compared, crate::proofs::KeyLemmas::one_more_compared, crate::proofs::KeyLemmas::all_compared))]
 fn find_same_keys(
     alloc: Global,
@@ -205,8 +207,10 @@ fn find_same_keys(
     key: KeyField,
     faults: &mut Faults,
 ) -> Result<(), LoadFault>
+    requires sorted { AreSorted key rows.now }
     ensures keyed { OnOk result (faults.new.count ≡ 0 → AreInKeyOrder (Some key) rows.now) }
     ensures before { OnOk result (faults.new.count ≡ 0 → faults.old.count ≡ 0) }
+    ensures reported { OnOk result (Reports (IsSameKey key rows.now) faults.old faults.new) }
 {
     for place in 1..rows.len() {
         tell_same_key(alloc, &rows[place - 1], &rows[place], key, faults)?;
@@ -214,7 +218,7 @@ fn find_same_keys(
     Ok(())
 }
 
-/// Reports a row that doesn't come after another one by its key.
+/// Reports a row that doesn't come after another one by its key: it has the same key.
 fn tell_same_key(
     alloc: Global,
     one: &Row,
@@ -222,8 +226,10 @@ fn tell_same_key(
     key: KeyField,
     faults: &mut Faults,
 ) -> Result<(), LoadFault>
+    requires sorted { comes_before key next.now one.now ≡ false }
     ensures behind { OnOk result (faults.new.count ≡ 0 → ComesBefore key one.now next.now) }
     ensures before { OnOk result (faults.new.count ≡ 0 → faults.old.count ≡ 0) }
+    ensures reported { OnOk result (Reports (HasSameKey key one.now next.now) faults.old faults.new) }
 {
     match order_by(key, one, next) {
         Ordering::Less => Ok(()),

@@ -149,13 +149,17 @@ fn put_status(draft: &mut Draft, status: Status) {
 
 fn put_examples(draft: &mut Draft, examples: &[Example]) {
     put_section(draft, "EXAMPLES");
+    let mut is_first = true;
     for example in examples {
+        if !is_first {
+            draft.put(".PP\n");
+        }
+        is_first = false;
         put_example(draft, *example);
     }
 }
 
 fn put_example(draft: &mut Draft, example: Example) {
-    draft.put(".PP\n");
     put_text(draft, example.purpose);
     draft.put(":\n.PP\n.RS 4\n.nf\n");
     put_text(draft, example.line);

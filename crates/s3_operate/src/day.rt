@@ -6,14 +6,15 @@ use crate::saving::{Place, end_day, end_unwritten, status_of};
 use s3_cli::{CliFault, SessionFault};
 use s3_command_line::{FILE, OUT_OF_MEMORY};
 use s3_day_files::{
-    DayFault, DayJournal, KeptOutputs, Order, Output, Outputs, Paper, ReadDecks, Watch,
-    remove_made, write_deck,
+    DayFault, DayJournal, KeptOutputs, NamedOutput, Order, Output, Outputs, Paper, ReadDecks,
+    Watch, remove_made, write_deck,
 };
 use s3_day_log::{Begun, DayLog};
 use s3_desk::{Day, Printing, operate_printing};
 use s3_host_files::StandardOutput;
 use s3_operating::{Closing, Desk, Journal, Questioned, Seat, Settings, Tape, Verdict};
-use s3_refusals::{Reason, Shown};
+use s3_paper_commands::OutputReason;
+use s3_refusals::Shown;
 use s3_replay::Performed;
 use s3_replies::Rules;
 use s3_reports::Reports;
@@ -49,7 +50,7 @@ const REPLIES_TYPED: &'static str =
     "replies are read from this terminal, one a line, as halts are asked; control-D ends them\n";
 
 /// The desk of the command.
-pub type OwnDesk<'a> = Desk<'a, Stdin, Stderr, Output, Watch<'a>>;
+pub type OwnDesk<'a> = Desk<'a, Stdin, Stderr, NamedOutput<'a>, Watch<'a>>;
 
 /// The desk with the reports, which go to standard output.
 type PrintingDesk<'a> = Printing<OwnDesk<'a>, StandardOutput<'a>>;
@@ -141,6 +142,8 @@ fn printing_of<'a>(
     log: Option<Output>,
 ) -> Result<PrintingDesk<'a>, AllocError> {
     let is_one_read = day.is_one_read;
+    let script = NamedOutput::of(rt, order.script, script)?;
+    let log = NamedOutput::of(rt, order.log, log)?;
     match Reports::new(rt.alloc(), StandardOutput::new(rt)) {
         Ok(reports) => Ok(Printing::new(
             desk_of(rt, order, day, script, log),
@@ -286,8 +289,8 @@ fn desk_of<'a>(
     rt: &'a HostRuntime,
     order: &Order<'_>,
     day: Prepared<'a>,
-    script: Option<Output>,
-    log: Option<Output>,
+    script: Option<NamedOutput<'a>>,
+    log: Option<NamedOutput<'a>>,
 ) -> OwnDesk<'a> {
     let Prepared {
         begun,
@@ -472,7 +475,7 @@ fn pack_before(alloc: Global, order: &Order<'_>, pack: &[u8]) -> Result<Vec<u8>,
 fn report_output_failure(rt: &HostRuntime, failure: Option<io::Error>) {
     let _ = match failure {
         Some(error) => {
-            let reason = Reason(error);
+            let reason = OutputReason(error);
             writeln!(
                 rt.stderr(),
                 "the reports can't be written to standard output: {reason}"

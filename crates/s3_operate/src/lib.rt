@@ -10,6 +10,7 @@
 ghost use Rattle.std.specs.Prelude.{◌≤◌};
 
 mod book;
+mod damage;
 mod day;
 mod inherited_words;
 mod noted;
@@ -17,6 +18,7 @@ mod pages;
 mod saving;
 
 use clap::ArgMatches;
+use damage::report_damage;
 use day::{Prepared, operate_prepared};
 use inherited_words::words_again;
 use s3_cards::LevelId;
@@ -486,7 +488,7 @@ fn mount<'n>(
     pack: DayPack,
 ) -> Result<Mounted<'n>, DayFault<'n>> {
     let DayPack { bytes, locked } = pack;
-    let bytes = mountable(rt, order.pack, bytes)?;
+    let bytes = mountable(rt, order, bytes)?;
     match Outputs::open(rt, order, locked) {
         Ok(outputs) => Ok(Mounted { bytes, outputs }),
         Err(fault) => Err(fault),
@@ -494,16 +496,22 @@ fn mount<'n>(
 }
 
 /// A pack that can be mounted, as it was given; any other is refused before an output is emptied, with the command that shows why.
+/// Damage is reported if the day saves the pack.
 fn mountable<'a>(
     rt: &HostRuntime,
-    path: Option<&str>,
+    order: &Order<'_>,
     pack: Vec<u8>,
 ) -> Result<Vec<u8>, DayFault<'a>> {
     let beginning = beginning_words(&pack);
     match Pack::over(rt.alloc(), MemoryStore::from_bytes(pack)) {
-        Ok(Pack { pool, areas: _ }) => Ok(pool.into_bytes()),
+        Ok(Pack { pool, areas }) => {
+            if let (Some(path), Some(_)) = (order.pack, order.save) {
+                report_damage(rt, path, &areas);
+            }
+            Ok(pool.into_bytes())
+        }
         Err(Refused { pool: _, fault }) => {
-            tell_refused(rt, path, beginning, fault);
+            tell_refused(rt, order.pack, beginning, fault);
             Err(DayFault::Cli(refused(fault)))
         }
     }

@@ -191,8 +191,8 @@ fn write_pages(
     };
     match form {
         Form::Text => write_text(alloc, lines, &mut writer)?,
-        Form::Document { has_bars, size } => {
-            write_pdf(alloc, title.as_bytes(), lines, has_bars, size, &mut writer)?;
+        Form::Document { look, size } => {
+            write_pdf(alloc, title.as_bytes(), lines, look, size, &mut writer)?;
         }
         Form::Book => write_html(alloc, title, lines, &mut writer)?,
     }
@@ -277,10 +277,7 @@ pub fn push_file(
     }
     path.push_str(match form {
         Form::Text => ".txt",
-        Form::Document {
-            has_bars: _,
-            size: _,
-        } => ".pdf",
+        Form::Document { look: _, size: _ } => ".pdf",
         Form::Book => ".html",
     })?;
     Ok(())

@@ -2,11 +2,13 @@
 
 use crate::day::{Over, OwnDesk, test_outputs, test_written};
 use s3_cards::LevelId;
-use s3_day_files::{DayFault, DayJournal, KeptOutputs, Order, SetAside, end_aside, take_back};
+use s3_day_files::{
+    DayFault, DayJournal, KeptOutput, KeptOutputs, Order, SetAside, end_aside, take_back,
+};
 use s3_day_log::{DayOver, Event, NamedFile, checksum};
-use s3_host_files::{FileFault, Kept, Limit, LockedPack, save_new_pack, save_pack};
+use s3_host_files::{FileFault, Limit, LockedPack, save_new_pack, save_pack};
 use s3_journal::LevelCount;
-use s3_operating::{Verdict, Wish};
+use s3_operating::{Lost, Verdict, Wish};
 use s3_paper_commands::status::{DONE, FILE_FAILED, PASSED_OVER, PERSON_NEEDED};
 use s3_refusals::{Reason, Shown};
 use std::alloc::{AllocError, Global};
@@ -168,7 +170,7 @@ fn sync_script<'n>(
     kept: &KeptOutputs,
 ) -> Result<(), DayFault<'n>> {
     if desk.has_script() {
-        sync(rt, &kept.script, order.script)
+        sync(rt, &kept.script, order.script, desk.script_len())
     } else {
         Ok(())
     }
@@ -231,25 +233,36 @@ fn sync_log<'n>(
     kept: &KeptOutputs,
 ) -> Result<(), DayFault<'n>> {
     if desk.has_log() {
-        sync(rt, &kept.log, order.log)
+        sync(rt, &kept.log, order.log, 0)
     } else {
         Ok(())
     }
 }
 
-/// Brings an output to the disk.
+/// Brings an output to the disk, whose file must still have its name and at least so many bytes.
 fn sync<'n>(
     rt: &HostRuntime,
-    output: &Option<Kept>,
+    output: &Option<KeptOutput>,
     name: Option<&'n str>,
+    written: u64,
 ) -> Result<(), DayFault<'n>> {
     let (Some(output), Some(name)) = (output, name) else {
         return Ok(());
     };
-    match output.sync() {
-        Ok(()) => Ok(()),
-        Err(error) => Err(unsynced(rt, name, &error)),
+    if let Err(error) = output.sync() {
+        return Err(unsynced(rt, name, &error));
     }
+    match output.lost(rt, name, written) {
+        Some(lost) => Err(lost_name(rt, name, lost)),
+        None => Ok(()),
+    }
+}
+
+/// Reports why the file of an output no longer keeps what was written, and gives the fault.
+fn lost_name<'n>(rt: &HostRuntime, name: &'n str, lost: Lost) -> DayFault<'n> {
+    let (shown, words) = (Shown(name), lost.words());
+    let _ = writeln!(rt.stderr(), "{shown} isn't written: {words}");
+    DayFault::File(name)
 }
 
 /// Reports why an output can't be brought to the disk, and gives the fault.

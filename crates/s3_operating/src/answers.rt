@@ -1,8 +1,8 @@
 //! Replies that are given without a question: by the log of a day that is done again, and by rules.
 
 use s3_cards::{LevelId, Name};
-use s3_day_log::{DayLog, LoggedReply, Replier};
-use s3_operator::{HaltCode, allowed, letters};
+use s3_day_log::{AnsweredHalt, DayLog, LoggedHalt, Replier};
+use s3_operator::HaltCode;
 use s3_replies::Rules;
 
 /// Whoever gives a reply.
@@ -53,30 +53,25 @@ pub(crate) fn ruled(
     }
 }
 
-/// The reply of a log to a level's halt, after so many that were given in the level, if it is one to this halt.
-pub(crate) fn logged(
+/// The answer of a log to a halt, after so many replies that were given in its level, if the log's reply there is one to this halt.
+pub(crate) fn logged(log: Option<&DayLog>, given: usize, halt: &LoggedHalt) -> Option<Answer> {
+    let digit = log?.answer(given, halt)?;
+    Some(Answer {
+        digit,
+        giver: Giver::Log,
+    })
+}
+
+/// The reply that a log has after so many that were given in a halt's level, if it is one to another halt.
+pub(crate) fn to_another(
     log: Option<&DayLog>,
-    level: LevelId,
     given: usize,
-    code: HaltCode,
-) -> Option<Answer> {
-    match log {
-        Some(log) => answer_in(log, level, given, code),
-        None => None,
+    halt: &LoggedHalt,
+) -> Option<AnsweredHalt> {
+    let log = log?;
+    let reply = log.reply(halt.level, given)?;
+    match log.answer(given, halt) {
+        Some(_) => None,
+        None => Some(*reply),
     }
-}
-
-fn answer_in(log: &DayLog, level: LevelId, given: usize, code: HaltCode) -> Option<Answer> {
-    match log.reply(level, given) {
-        Some(reply) if is_reply_to(code, reply) => Some(Answer {
-            digit: reply.digit,
-            giver: Giver::Log,
-        }),
-        _ => None,
-    }
-}
-
-/// Whether a reply of a log is one to a halt, and one that the halt allows.
-fn is_reply_to(code: HaltCode, reply: &LoggedReply) -> bool {
-    letters(reply.code) == letters(code) && allowed(code, reply.digit)
 }

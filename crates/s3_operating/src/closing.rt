@@ -154,11 +154,11 @@ impl<'a> Levels<'a> {
         let Some(log) = self.settings.logged else {
             return;
         };
-        if let Some(reply) = log.reply(seat.level, seat.replies) {
+        if let Some(next) = log.reply(seat.level, seat.replies) {
             message.push("  no halt got the log's next reply, ");
-            message.push_number(u64::from(reply.digit));
+            message.push_number(u64::from(next.reply.digit));
             message.push(" to ");
-            message.push_letters(reply.code);
+            message.push_letters(next.reply.code);
             message.push(": compare the halts with those of the log\n");
         }
     }

@@ -286,6 +286,7 @@ impl<'a, R: Read + Drop, W: Write + Drop, F: Write + Drop, C: Clock + Drop> Desk
         self.note_halt(machine, level, halt, evidence)?;
         self.log_level(level)?;
         self.test_outputs()?;
+        self.tell_not_logged(level, halt.code)?;
         if self.levels.given(level, halt.code).is_some() {
             return Ok(());
         }
@@ -295,6 +296,17 @@ impl<'a, R: Read + Drop, W: Write + Drop, F: Write + Drop, C: Clock + Drop> Desk
         self.tell(text.as_str());
         self.levels.seat_mut(level).shown = Some(text);
         Ok(())
+    }
+
+    /// Reports that the log's next reply isn't one to a halt, if that is so.
+    fn tell_not_logged(&mut self, level: LevelId, code: HaltCode) -> Result<(), AllocError> {
+        match self.levels.not_logged(level, code) {
+            Some(message) => {
+                self.tell_counted()?;
+                self.tell_message(message)
+            }
+            None => Ok(()),
+        }
     }
 
     /// Notes a halt with its block, if halts are noted.

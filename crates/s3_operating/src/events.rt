@@ -88,13 +88,18 @@ pub(crate) fn ending(level: LevelId, ledger: &Ledger, place: usize) -> Option<Ev
 }
 
 /// A halt, and the card that it is logged with, in the job that was begun last.
-pub(crate) fn halt_of(level: LevelId, ledger: &Ledger, code: HaltCode, card: Option<u16>) -> Event {
-    Event::Halt(LoggedHalt {
+pub(crate) fn halt_of(
+    level: LevelId,
+    ledger: &Ledger,
+    code: HaltCode,
+    card: Option<u16>,
+) -> LoggedHalt {
+    LoggedHalt {
         level,
         job: number_in_log(ledger.begun().len().saturating_sub(1)),
         code,
         card,
-    })
+    }
 }
 
 /// The number of a job as the log has it, from its place.

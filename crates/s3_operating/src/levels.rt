@@ -1,10 +1,11 @@
 //! Both levels as the desk sees them, and what answers their halts.
 
-use crate::answers::{Answer, Giver, logged, ruled};
+use crate::answers::{Answer, Giver, logged, ruled, to_another};
 use crate::asking::{is_allowed, push_help, push_last_lines, push_words};
 use crate::changes::{has_changed, push_changes};
 use crate::desk::{Questioned, Settings};
 use crate::given::Given;
+use crate::lost::Lost;
 use crate::message::Message;
 use crate::progress::{push_job_at, push_last_job, push_progress};
 use crate::seat::Seat;
@@ -12,6 +13,7 @@ use crate::tally::Tally;
 use crate::unread::push_unread;
 use s3_bureau::{Bureau, Halt};
 use s3_cards::{CardFault, LevelId};
+use s3_day_log::{AnsweredHalt, LoggedHalt};
 use s3_decks::DeckText;
 use s3_desk::Evidence;
 use s3_evidence::Begun;
@@ -21,6 +23,7 @@ use s3_replies::Typed;
 use s3_store::PackStore;
 use std::alloc::{AllocError, Global};
 use std::io;
+use std::io::ErrorKind;
 
 /// What came of a line that was typed.
 #[derive(Clone, Copy)]
@@ -128,10 +131,20 @@ impl<'a> Levels<'a> {
     /// The reply to a level's halt that needs no question, if there is one.
     pub(crate) fn given(&self, level: LevelId, code: HaltCode) -> Option<Answer> {
         let seat = self.seat(level);
-        match logged(self.settings.logged, level, seat.replies, code) {
+        match logged(self.settings.logged, seat.replies, &seat.logged_halt(code)) {
             Some(answer) => Some(answer),
             None => ruled(self.settings.rules, level, code, seat.ledger.program()),
         }
+    }
+
+    /// Reports that the log's next reply in a level isn't one to the halt that waits there, if that is so.
+    pub(crate) fn not_logged(&self, level: LevelId, code: HaltCode) -> Option<Message> {
+        let seat = self.seat(level);
+        let halt = seat.logged_halt(code);
+        let logged = to_another(self.settings.logged, seat.replies, &halt)?;
+        let mut message = Message::new(self.alloc);
+        push_not_logged(&mut message, logged, halt);
+        Some(message)
     }
 
     /// Whether the halt of a level, if one waits there, will be answered without a question.
@@ -436,7 +449,7 @@ impl<'a> Levels<'a> {
         message.push("\nthe ");
         message.push(what);
         message.push(" can't be written: ");
-        message.push_error(error);
+        push_failure(&mut message, error);
         message.push("\n");
         message
     }
@@ -573,6 +586,49 @@ fn halt_text<S: PackStore>(
     let mut text = String::new(alloc);
     push_halt(&mut text, alloc, machine, deck, jobs, level, halt, evidence)?;
     Ok(text)
+}
+
+/// Appends why an output can't be written, and what to do.
+fn push_failure(message: &mut Message, error: &io::Error) {
+    if let Some(lost) = Lost::of(error.kind())
+        && error.raw_os_error().is_none()
+    {
+        return message.push(lost.words());
+    }
+    match error.kind() {
+        ErrorKind::StorageFull => message.push("its disk is full; make space there"),
+        ErrorKind::QuotaExceeded => {
+            message.push("your share of its disk is full; make space there");
+        }
+        _ => message.push_error(error),
+    }
+}
+
+/// Appends that a log's reply isn't one to a halt: `level 1: the log's next reply, 3, is to UR in job 5 at card 178, and this halt is
+/// UR in job 6 at card 201: the log doesn't answer it`.
+fn push_not_logged(message: &mut Message, logged: AnsweredHalt, halt: LoggedHalt) {
+    message.push_level(halt.level);
+    message.push(": the log's next reply, ");
+    message.push_number(u64::from(logged.reply.digit));
+    message.push(", is to ");
+    message.push_letters(logged.reply.code);
+    if let Some(of) = logged.halt {
+        push_where(message, of);
+    }
+    message.push(", and this halt is ");
+    message.push_letters(halt.code);
+    push_where(message, halt);
+    message.push(": the log doesn't answer it\n");
+}
+
+/// Appends where a halt is: ` in job 5 at card 178`.
+fn push_where(message: &mut Message, halt: LoggedHalt) {
+    message.push(" in job ");
+    message.push_number(u64::from(halt.job));
+    if let Some(card) = halt.card {
+        message.push(" at card ");
+        message.push_number(u64::from(card));
+    }
 }
 
 /// Appends a card of a level's deck: `card 178 (day1.job, line 12)`.

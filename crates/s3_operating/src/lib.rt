@@ -3,7 +3,8 @@
 //! docs/OPERATING.md has all of it.
 //!
 //! Each call is proved to be safe and to return. Unless a write has failed, `Desk::close` is proved to end the script's file with the
-//! script of the entries that it gets (`HasScript`), and `Journal::note` to add to the log the line of its event (`IsNoted`). Tested: which
+//! script of the entries that it gets (`HasScript`), and `Journal::note` to add to the log the line of its event (`IsNoted`). `Lost::find`
+//! is proved to find why a file no longer keeps what is written to it. Tested: which
 //! events are logged, what is printed, and that the program gives `close` what `operate_printing` has performed. The other proved
 //! parts of the operator are in other crates: lines of replies and rules in `s3_replies`, the reports in `s3_reports` and
 //! `s3_desk` (`Printing`), and which jobs of a day have begun and how they ended in `s3_day_log`. What a day gives, for this
@@ -22,6 +23,7 @@ mod events;
 mod given;
 mod journal;
 mod levels;
+mod lost;
 mod message;
 mod noted;
 mod printed;
@@ -35,6 +37,7 @@ pub use closing::Closing;
 pub use day_deck::{DayDeck, JoinedFiles};
 pub use desk::{Desk, Questioned, Settings, Wish};
 pub use journal::Journal;
+pub use lost::{AtOutput, Lost};
 pub use noted::{JobTurns, NotedHalt};
 pub use printed::PrintedJob;
 pub use s3_day_log::{LevelEnd, Replier, Verdict};

@@ -7,7 +7,7 @@ use crate::message::Message;
 use crate::noted::NotedHalt;
 use s3_bureau::Halt;
 use s3_cards::{CardFault, Deck, DeckFault, LevelId};
-use s3_day_log::{Event, Ledger, Replier};
+use s3_day_log::{Event, Ledger, LoggedHalt, Replier};
 use s3_decks::{DeckText, JobEntry};
 use s3_evidence::Begun as JobsOfHalts;
 use s3_level::Level;
@@ -32,6 +32,8 @@ pub struct Seat<'a> {
     pub(crate) waits: Option<HaltCode>,
     /// The number of the card that this halt is about, from 1, if there is one.
     pub(crate) card: Option<usize>,
+    /// The card that this halt is logged with.
+    logged_card: Option<u16>,
     /// The last reply that a rule or a log gave, if it was reported.
     pub(crate) given: Option<Given>,
     /// What was shown of that halt, if anything was.
@@ -40,8 +42,8 @@ pub struct Seat<'a> {
     pub(crate) replies: usize,
     /// Whether nothing was left to do when the level was seen last, but to print queued lines, which it may.
     pub(crate) is_idle: bool,
-    /// A halt that isn't in the log yet, and the card that it is logged with.
-    unlogged: Option<(HaltCode, Option<u16>)>,
+    /// A halt that isn't in the log yet.
+    unlogged: Option<LoggedHalt>,
     /// How many jobs are in the log as begun.
     begun: usize,
     /// How many jobs are in the log as over.
@@ -72,6 +74,7 @@ impl<'a> Seat<'a> {
             halts: 0,
             waits: None,
             card: None,
+            logged_card: None,
             given: None,
             shown: None,
             replies: 0,
@@ -163,7 +166,8 @@ impl<'a> Seat<'a> {
             Some((card, _number)) => Some(*card),
             None => self.ledger.last_card(held),
         };
-        self.unlogged = Some((halt.code, card));
+        self.logged_card = card;
+        self.unlogged = Some(self.logged_halt(halt.code));
         self.card = match card {
             Some(card) => Some(usize::from(card)),
             None => self.first_card_of(halt.code),
@@ -171,6 +175,11 @@ impl<'a> Seat<'a> {
         self.halts = self.halts.saturating_add(1);
         self.waits = Some(halt.code);
         self.shown = None;
+    }
+
+    /// The halt that waits, for these letters, as the log has it.
+    pub(crate) fn logged_halt(&self, code: HaltCode) -> LoggedHalt {
+        halt_of(self.level, &self.ledger, code, self.logged_card)
     }
 
     /// The first card of the last job that was begun, for a halt of a job that can't be started.
@@ -235,7 +244,7 @@ impl<'a> Seat<'a> {
     /// Takes the halt that isn't in the log yet.
     fn next_halt(&mut self) -> Option<Event> {
         match self.unlogged.take() {
-            Some((code, card)) => Some(halt_of(self.level, &self.ledger, code, card)),
+            Some(halt) => Some(Event::Halt(halt)),
             None => None,
         }
     }

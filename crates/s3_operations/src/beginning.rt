@@ -5,7 +5,7 @@ ghost use Rattle.s3_meaning.specs.Environment.{date_part as date_part_spec};
 ghost use Rattle.s3_operations.specs.Inner.Held.{IsSound, Changes, digits_and_decimals, form_in_shape};
 ghost use Rattle.s3_operations.specs.Inner.Beginning.{Begins, IsDate, IsZeros, are_fields_in_range, with_date};
 
-use crate::constants::add_constants;
+use crate::constants::{add_constants, slots_of};
 use crate::indicators::Indicators;
 use crate::texts::Texts;
 use crate::values::Values;
@@ -37,13 +37,17 @@ fn form_of(shape: Shape) -> Form
     }
 }
 
-/// A zero for each field, and its form.
-fn zeros(alloc: Global, fields: &[Defined<Shape>]) -> Result<(Vec<i64>, Vec<Form>), AllocError>
+/// A zero for each field, and its form, with space for so many slots.
+fn zeros(
+    alloc: Global,
+    fields: &[Defined<Shape>],
+    slots: usize,
+) -> Result<(Vec<i64>, Vec<Form>), AllocError>
     requires { are_fields_in_range fields.now ≡ true }
     ensures { IfOk result (λ zeros. IsZeros fields.now zeros.0.items zeros.1.items) }
 {
-    let mut numbers = Vec::with_capacity(alloc, fields.len())?;
-    let mut forms = Vec::with_capacity(alloc, fields.len())?;
+    let mut numbers = Vec::with_capacity(alloc, slots)?;
+    let mut forms = Vec::with_capacity(alloc, slots)?;
     for field in fields {
         numbers.push(0)?;
         forms.push(form_of(field.meaning))?;
@@ -102,7 +106,7 @@ impl Values {
         requires { IsDate date }
         ensures { IfOk result (Begins program.now switches date) }
     {
-        let (mut numbers, mut forms) = zeros(alloc, program.fields.as_slice())?;
+        let (mut numbers, mut forms) = zeros(alloc, program.fields.as_slice(), slots_of(program))?;
         add_constants(&mut numbers, &mut forms, program)?;
         let texts = Texts::of(alloc, program)?;
         let mut values = Values {

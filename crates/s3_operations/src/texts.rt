@@ -3,7 +3,7 @@ ghost use Rattle.std.specs.Prelude.{◌≡◌, ◌≤◌, ◌+◌, ◌-◌, ◌+
 ghost use Rattle.s3_meaning.specs.Calculating.{moved_right, zoned};
 ghost use Rattle.s3_operations.specs.Inner.Texts.{Area, IsAdded, IsCut, length_of as length_of_spec};
 
-use crate::constants::text_of;
+use crate::constants::{slots_of, text_of};
 use crate::laying::{lay, lay_within};
 use s3_cards::ebcdic::BLANK;
 use s3_decimal::{Dec, zoned_write};
@@ -14,6 +14,9 @@ use std::marker::Model;
 
 /// How many digits a number has at most.
 pub(crate) const MOST_DIGITS: usize = 15;
+
+/// How many bytes texts have on average, about: the space of texts that need more grows.
+const USUAL_LENGTH: usize = 6;
 
 /// Where the text of a slot lies.
 #[derive(Clone, Copy)]
@@ -142,8 +145,9 @@ impl Texts {
         ensures texts { IfOk result (λ texts. texts_of texts ≡ blank_texts program.now.fields.items ++ map (λ constant. constant.text) (constants program.now)) }
         ensures area { IfOk result (HasTexts program.now) }
     {
-        let mut bytes = Vec::new(alloc);
-        let mut spans = Vec::with_capacity(alloc, program.fields.len())?;
+        let slots = slots_of(program);
+        let mut bytes = Vec::with_capacity(alloc, slots.saturating_mul(USUAL_LENGTH))?;
+        let mut spans = Vec::with_capacity(alloc, slots)?;
         for field in &program.fields {
             add_blank(&mut bytes, &mut spans, length_of(field.meaning))?;
         }

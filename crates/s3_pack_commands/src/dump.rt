@@ -1,7 +1,7 @@
 //! `bureau dump` and `bureau restore`: a pack as text, and the pack that a text represents.
 ghost use Rattle.std.specs.Prelude.{◌≤◌};
 
-use crate::dump_layouts::{asked_files, file_layouts, layouts_found};
+use crate::dump_layouts::{asked_files, file_layouts, layouts_found, missing_notes};
 use clap::ArgMatches;
 use s3_data_commands::fault::{Fault, Use, of_call, of_pack};
 use s3_data_commands::filled::Words;
@@ -20,10 +20,10 @@ use s3_paper_commands::status::{
     DONE, FILE_WRONG, NOTHING_SAVED, OPTIONS_WRONG, PACK_SAVED, PERSON_NEEDED, REFUSED,
 };
 use s3_paper_commands::words::{CommandWords, Example, Status, Takes, Word, value_of};
-use s3_refusals::{beginning_words, begins_as_pack};
+use s3_refusals::{WideText, beginning_words, begins_as_pack, wide_text};
 use std::alloc::{AllocError, Global};
-use std::fs;
 use std::io::{IsTerminal, Write};
+use std::{fs, io};
 
 /// The refusal of a text that is too long.
 const TOO_LONG: &str =
@@ -31,6 +31,12 @@ const TOO_LONG: &str =
 
 /// The refusal of standard input that can't be read.
 const UNREAD: &str = "standard input can't be read; give it the dump by < FILE or by a pipe";
+
+/// The first line of each dump.
+const FIRST_NOTE: &[u8] = b"# a dump of `bureau`: [codes], *zeros, # notes";
+
+/// The bytes of a sector.
+const SECTOR: u64 = 256;
 
 /// `bureau dump` and its options.
 pub const DUMP: CommandWords = CommandWords {
@@ -108,16 +114,21 @@ fn print_dump(rt: &HostRuntime, matches: &ArgMatches<'_>, path: &str) -> Result<
     let found = layouts_found(rt, path, &pack, &asked)?;
     let layouts = file_layouts(rt.alloc(), &found)?;
     let dump = s3_dump::dump(rt.alloc(), &pack, &layouts)?;
-    if StandardOutput::new(rt)
-        .write_all(dump.text.as_slice())
-        .is_err()
-    {
+    let notes = missing_notes(rt.alloc(), &found)?;
+    if write_texts(rt, dump.text.as_slice(), notes.as_str().as_bytes()).is_err() {
         return Err(Fault::File(output_sentence(rt.alloc())?));
     }
     for file in &dump.unlaid {
         tell(rt, unlaid_sentence(rt.alloc(), path, file))?;
     }
     Ok(())
+}
+
+/// Writes two texts to standard output, one after the other.
+fn write_texts(rt: &HostRuntime, one: &[u8], other: &[u8]) -> io::Result<()> {
+    let mut output = StandardOutput::new(rt);
+    output.write_all(one)?;
+    output.write_all(other)
 }
 
 /// The sentence that reports how many records of a file have no fields in its dump.
@@ -152,6 +163,7 @@ fn save_restored(rt: &HostRuntime, matches: &ArgMatches<'_>, save: &str) -> Resu
         refuse_file_there(rt, save)?;
     }
     let text = dump_text(rt)?;
+    refuse_second_dump(rt, &text)?;
     let pack = restored(rt, &text)?;
     match fault_in(rt.alloc(), &pack)? {
         None => save_good(rt, matches, save, &pack),
@@ -172,11 +184,57 @@ fn save_good(
         work: Work::Restore,
     };
     let saved = saved(rt, matches, save, how, pack)?;
-    tell_done(
-        rt,
-        Words::of_path(save).fill(rt.alloc(), "{path} is restored"),
-        saved,
-    )
+    tell_done(rt, restored_sentence(rt.alloc(), save, pack), saved)
+}
+
+/// Which pack is restored, and how many bytes it has after its sectors, if it has any.
+fn restored_sentence(alloc: Global, save: &str, pack: &[u8]) -> Result<String, AllocError> {
+    let sentence = match bytes_after(pack) {
+        0 => "{path} is restored",
+        1 =>
+            "{path} is restored; 1 byte follows the sectors of its header, and no command reads it",
+        _ =>
+            "{path} is restored; {number} bytes follow the sectors of its header, and no command reads them",
+    };
+    Words::of_path(save)
+        .with_number(bytes_after(pack))
+        .fill(alloc, sentence)
+}
+
+/// How many bytes a pack has after the sectors of its header, whose number follows the mark of eight bytes.
+fn bytes_after(pack: &[u8]) -> u64 {
+    match pack.get(8..10) {
+        Some([high, low]) => {
+            let sectors = u64::from(*high) * 256 + u64::from(*low);
+            (pack.len() as u64).saturating_sub(sectors * SECTOR)
+        }
+        _ => 0,
+    }
+}
+
+/// Refuses a text in which a second dump begins, whose bytes would follow those of the first.
+fn refuse_second_dump(rt: &HostRuntime, text: &[u8]) -> Result<(), Fault> {
+    match second_dump(text) {
+        Some(line) => Err(refused(
+            Words::of_path("").with_number(line).fill(
+                rt.alloc(),
+                "line {number} of standard input begins a second dump; give the text that `bureau dump` printed for one pack",
+            ),
+        )),
+        None => Ok(()),
+    }
+}
+
+/// The number of the line, from 1, with which a second dump begins in a text, if one does.
+fn second_dump(text: &[u8]) -> Option<u64> {
+    let mut number = 0u64;
+    for line in text.split(|byte| *byte == b'\n') {
+        number = number.saturating_add(1);
+        if number > 1 && line == FIRST_NOTE {
+            return Some(number);
+        }
+    }
+    None
 }
 
 /// Saves a pack that can't be used, but only to a new name, even with `--overwrite`: its dump may have been cut off
@@ -280,12 +338,31 @@ fn no_dump(rt: &HostRuntime, text: &[u8], fault: RestoreFault) -> Fault {
 
 /// What is wrong with a line, and what helps.
 fn no_dump_words(text: &[u8], line: u64) -> &'static str {
-    if begins_as_pack(text) {
+    if let Some(words) = encoding_cure(text) {
+        words
+    } else if begins_as_pack(text) {
         "standard input is a pack, and no dump of one; copy it by `cp`, or give the text that `bureau dump` printed"
     } else if has_return(text, line) {
         "line {number} of standard input has a carriage return, which no dump has; take the carriage returns out first, as by `tr -d '\\r'`"
     } else {
         "line {number} of standard input isn't one of a dump; give the whole text that `bureau dump` printed"
+    }
+}
+
+/// What is wrong with the encoding of a text, if it is one in which no dump is.
+fn encoding_cure(text: &[u8]) -> Option<&'static str> {
+    if text.starts_with(&[0xef, 0xbb, 0xbf]) {
+        return Some(
+            "standard input begins with a byte order mark (EF BB BF), which no dump has; leave it out, as by `tail -c +4 DUMP`",
+        );
+    }
+    match wide_text(text)? {
+        WideText::Utf16Low | WideText::Utf16High => Some(
+            "standard input is text in UTF-16; convert it by `iconv -f UTF-16 -t UTF-8 DUMP`",
+        ),
+        WideText::Utf32Low | WideText::Utf32High => Some(
+            "standard input is text in UTF-32; convert it by `iconv -f UTF-32 -t UTF-8 DUMP`",
+        ),
     }
 }
 

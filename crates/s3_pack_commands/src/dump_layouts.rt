@@ -5,7 +5,7 @@ use s3_cards::Name;
 use s3_data_commands::fault::Fault;
 use s3_data_commands::filled::Words;
 use s3_data_commands::inputs::layouts_of;
-use s3_data_commands::pack_words::{area_number, label_of, mount_words, refused};
+use s3_data_commands::pack_words::{area_number, label_of, mount_words, refused, tell};
 use s3_data_commands::sentences::unload_sentence;
 use s3_dump::FileLayout;
 use s3_host_files::is_standard_error;
@@ -37,6 +37,8 @@ pub struct Asked<'a> {
 pub struct DeckLayouts {
     /// The label of their file.
     name: Name,
+    /// The area that the option names.
+    area: Option<u16>,
     /// For each area the record length of its file, if the layouts are for one there.
     lengths: [Option<u16>; 3],
     /// One for each record type.
@@ -186,8 +188,8 @@ fn is_same_file(one: &Asked<'_>, other: &Asked<'_>) -> bool {
     one.name == other.name && !are_apart
 }
 
-/// The layouts of files of a pack. Each file that the pack at the path doesn't have is reported, and each deck without a layout for
-/// its records.
+/// The layouts of files of a pack. Each file that the pack at the path doesn't have is reported, and has none. Each deck without a
+/// layout for its records is reported and refused.
 pub fn layouts_found(
     rt: &HostRuntime,
     path: &str,
@@ -202,7 +204,12 @@ pub fn layouts_found(
     let mut faults = Faults::none();
     for one in asked {
         let lengths = match lengths_of(rt.alloc(), path, &areas, one) {
-            Ok(lengths) => lengths,
+            Ok(Some(lengths)) => lengths,
+            Ok(None) => {
+                faults = faults.reported(rt);
+                tell(rt, no_file_sentence(rt.alloc(), path, one))?;
+                [None; 3]
+            }
             Err(fault) => {
                 faults = faults.add(rt, fault);
                 [None; 3]
@@ -230,13 +237,13 @@ fn areas_of(alloc: Global, path: &str, pack: &[u8]) -> Result<AreaSlots, Fault> 
     }
 }
 
-/// For each area the record length of the file that is meant there. Refused if there is none.
+/// For each area the record length of the file that is meant there; none if there is no file. Refused if its label is damaged.
 fn lengths_of(
     alloc: Global,
     path: &str,
     areas: &AreaSlots,
     asked: &Asked<'_>,
-) -> Result<[Option<u16>; 3], Fault> {
+) -> Result<Option<[Option<u16>; 3]>, Fault> {
     let mut lengths = [None; 3];
     let mut is_there = false;
     let mut damaged = None;
@@ -252,32 +259,45 @@ fn lengths_of(
             }
         }
     }
-    if is_there {
-        Ok(lengths)
-    } else {
-        Err(refused(no_file_sentence(alloc, path, asked, damaged)))
+    match damaged {
+        _ if is_there => Ok(Some(lengths)),
+        None => Ok(None),
+        Some(area) => Err(refused(unload_sentence(
+            alloc,
+            path,
+            area,
+            asked.label,
+            &UnloadFault::DamagedLabel,
+        ))),
     }
 }
 
-/// Why a pack hasn't a file; its label may be damaged in an area.
-fn no_file_sentence(
-    alloc: Global,
-    path: &str,
-    asked: &Asked<'_>,
-    damaged: Option<u16>,
-) -> Result<String, AllocError> {
-    match (damaged, asked.area) {
-        (Some(area), _) => {
-            unload_sentence(alloc, path, area, asked.label, &UnloadFault::DamagedLabel)
+/// Reports that a pack hasn't a file whose fields were to be printed.
+fn no_file_sentence(alloc: Global, path: &str, asked: &Asked<'_>) -> Result<String, AllocError> {
+    let sentence = match asked.area {
+        Some(_) =>
+            "{path} has no file {label} in area {area}, so no fields of it are printed; `bureau list --pack {path}` shows the files that it has",
+        None =>
+            "{path} has no file {label}, so no fields of it are printed; `bureau list --pack {path}` shows the files that it has",
+    };
+    Words::of_file(path, asked.area.unwrap_or(0), asked.label).fill(alloc, sentence)
+}
+
+/// The notes at the end of a dump about the files that the pack hasn't.
+pub fn missing_notes(alloc: Global, found: &[DeckLayouts]) -> Result<String, AllocError> {
+    let mut notes = String::new(alloc);
+    for deck in found {
+        if deck.lengths.iter().all(|length| length.is_none()) {
+            let sentence = match deck.area {
+                Some(_) => "# no file {field} in area {area}\n",
+                None => "# no file {field}\n",
+            };
+            Words::of_file("", deck.area.unwrap_or(0), "")
+                .with_fields(Some(deck.name), None)
+                .push(&mut notes, sentence)?;
         }
-        (None, Some(area)) => {
-            unload_sentence(alloc, path, area, asked.label, &UnloadFault::NotFound)
-        }
-        (None, None) => Words::of_file(path, 0, asked.label).fill(
-            alloc,
-            "{path} has no file {label}; `bureau list --pack {path}` shows those that it has",
-        ),
     }
+    Ok(notes)
 }
 
 /// The layouts of a deck for files with records of these lengths. Each file with records of another length is reported.
@@ -306,6 +326,7 @@ fn deck_layouts(
     faults.result(rt.alloc())?;
     Ok(DeckLayouts {
         name: asked.name,
+        area: asked.area,
         lengths,
         layouts,
     })

@@ -1,5 +1,5 @@
 -- The objects of pages, page by page.
-use Rattle.std.proofs.Common.{◌≡◌, ℕ, ◌+◌, ◌≤◌, suc, Bool, List, [], ◌∷◌, ◌++◌, Option, Result, Ok, Err, IsErrAnd, refl, sym, ap, subst, ◌∙◌, arith, append_assoc, append-nil, length}
+use Rattle.std.proofs.Common.{◌≡◌, ℕ, ◌+◌, ◌≤◌, suc, List, [], ◌∷◌, ◌++◌, Option, Result, Ok, Err, IsErrAnd, refl, sym, ap, subst, ◌∙◌, arith, append_assoc, append-nil, length}
 use Rattle.s3_cards.specs.Printed.{Printed}
 use Rattle.s3_pages.specs.Inner.Bodies.{page_bodies, page_body}
 use Rattle.s3_pages.specs.Inner.Drawing.{drawn_page, stream_body}
@@ -7,6 +7,7 @@ use Rattle.s3_pages.specs.declared.fault.PaperFault.{PaperFault}
 use Rattle.s3_pages.specs.Inner.Documents.{back_bodies, bodies_of, front_bodies, tree_number}
 use Rattle.s3_pages.specs.Inner.Tables.{Puts, Putting, end_behind, end_limit}
 use Rattle.s3_pages.specs.declared.object_table.Table.{Table}
+use Rattle.s3_pages.specs.declared.form.FormLook.{FormLook}
 use Rattle.s3_pages.specs.declared.size.PaperSize.{PaperSize}
 use Rattle.s3_pages.proofs.TableLemmas.{count_behind, long_first, long_second, puts_more, puts_none}
 
@@ -85,11 +86,11 @@ pages_failed size tree all was left old mid new before between after page fault 
     record { comes = λ is. pages_long size tree all was left old mid before between page so_far first (putting.comes (sym same ∙ is)) }
 
 -- the objects of a document, by what its pages are
-pub bodies_same : (size : PaperSize) (title : List ℕ) (has_bars : Bool) (tree count number : ℕ) (left pages : List (List Printed)) → tree ≡ tree_number count → number ≡ 4 → left ≡ pages → count ≡ length pages
-    → front_bodies has_bars ++ page_bodies size tree number left ++ back_bodies size title count ≡ bodies_of size title has_bars pages
+pub bodies_same : (size : PaperSize) (title : List ℕ) (look : FormLook) (tree count number : ℕ) (left pages : List (List Printed)) → tree ≡ tree_number count → number ≡ 4 → left ≡ pages → count ≡ length pages
+    → front_bodies look ++ page_bodies size tree number left ++ back_bodies size title count ≡ bodies_of size title look pages
 unfolding bodies_of
-bodies_same size title has_bars tree count number left pages is_tree is_four are_pages is_count =
-    ap (λ n. front_bodies has_bars ++ page_bodies size n number left ++ back_bodies size title count) is_tree
-    ∙ ap (λ n. front_bodies has_bars ++ page_bodies size (tree_number count) n left ++ back_bodies size title count) is_four
-    ∙ ap (λ ps. front_bodies has_bars ++ page_bodies size (tree_number count) 4 ps ++ back_bodies size title count) are_pages
-    ∙ ap (λ n. front_bodies has_bars ++ page_bodies size (tree_number n) 4 pages ++ back_bodies size title n) is_count
+bodies_same size title look tree count number left pages is_tree is_four are_pages is_count =
+    ap (λ n. front_bodies look ++ page_bodies size n number left ++ back_bodies size title count) is_tree
+    ∙ ap (λ n. front_bodies look ++ page_bodies size (tree_number count) n left ++ back_bodies size title count) is_four
+    ∙ ap (λ ps. front_bodies look ++ page_bodies size (tree_number count) 4 ps ++ back_bodies size title count) are_pages
+    ∙ ap (λ n. front_bodies look ++ page_bodies size (tree_number n) 4 pages ++ back_bodies size title n) is_count

@@ -8,5 +8,6 @@ pub mod Sizes
 pub mod Bodies
 pub mod Documents
 pub mod Drawing
+pub mod Forms
 pub mod Objects
 pub mod Tables

@@ -1,9 +1,9 @@
 //! The objects of a document of forms.
 ghost use Rattle.std.specs.Prelude.{◌≡◌, ◌++◌, OnOk};
 ghost use Rattle.std.specs.List.{flat_map, range_with_len};
-ghost use Rattle.s3_pages.specs.Inner.Bodies.{bars, form_body, info_body, kid, label_turn, page_body, root_body, tree_body};
+ghost use Rattle.s3_pages.specs.Inner.Bodies.{info_body, kid, label_turn, page_body, root_body, tree_body};
 
-use crate::drawing::{push_stream, push_text};
+use crate::drawing::push_text;
 use crate::numbers::push_number;
 use crate::size::{PaperSize, tree_head};
 use std::alloc::AllocError;
@@ -15,32 +15,8 @@ pub const FONT: &[u8] =
 /// What all pages are drawn with.
 pub const RESOURCES: &[u8] = b"<< /Font << /F 1 0 R >> /XObject << /B 2 0 R >> >>";
 
-/// What is said of the form on which all pages are printed, 14 7/8 by 11 inches.
-const FORM: &[u8] = b"/Type /XObject /Subtype /Form /BBox [0 0 1071 792] ";
-
 /// Page 0 comes after so many pages, from page 1 on.
 const PAGES_TO_ZERO: u64 = 9_999;
-
-/// Appends the form on which all pages are printed.
-#[tactic(auto, unfolding(crate::specs::Inner::Bodies::form_body))]
-pub fn push_form(text: &mut Vec<u8>, has_bars: bool) -> Result<(), AllocError>
-    ensures { OnOk result (text.new.items ≡ text.old.items ++ form_body has_bars) }
-{
-    let content = if has_bars {
-        drawn_bars()
-    } else {
-        b"".as_slice()
-    };
-    push_stream(text, FORM, content)
-}
-
-/// Eleven bars of three lines, with three lines between two.
-#[tactic(auto, unfolding(crate::specs::Inner::Bodies::bars))]
-fn drawn_bars() -> &'static [u8]
-    ensures { result.now ≡ bars }
-{
-    b"0.9 0.96 0.9 rg\n36 756 999 36 re\n36 684 999 36 re\n36 612 999 36 re\n36 540 999 36 re\n36 468 999 36 re\n36 396 999 36 re\n36 324 999 36 re\n36 252 999 36 re\n36 180 999 36 re\n36 108 999 36 re\n36 36 999 36 re\nf"
-}
 
 /// Appends a page, whose contents are another object.
 #[tactic(auto, unfolding(crate::specs::Inner::Bodies::page_body))]

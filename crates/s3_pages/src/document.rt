@@ -8,10 +8,11 @@ ghost use Rattle.s3_pages.specs.Inner.Bodies.{page_bodies};
 ghost use Rattle.s3_pages.specs.Inner.Documents.{back_bodies, bodies_of, document_of, front_bodies, tree_number};
 ghost use Rattle.s3_pages.specs.Inner.Tables.{IsTooLong, Putting};
 
-use crate::bodies::{FONT, RESOURCES, push_form, push_info, push_page_body, push_root, push_tree};
+use crate::bodies::{FONT, RESOURCES, push_info, push_page_body, push_root, push_tree};
 use crate::drawing::{push_page, push_stream};
+use crate::form::push_form;
 use crate::object_table::{Table, end_with, push_object, put_first_line, put_table, write};
-use crate::{Pages, PaperFault, PaperSize};
+use crate::{FormLook, Pages, PaperFault, PaperSize};
 use s3_cards::PrintLine;
 use std::alloc::Global;
 use std::io::Write;
@@ -19,7 +20,7 @@ use std::io::Write;
 /// The most pages of a document: readers number at most 8,388,607 objects, and a page has two.
 pub const MOST_PAGES: u32 = 4_000_000;
 
-/// Writes the pages of a job's lines as a PDF document, on forms of 132 columns and 66 lines with light bars or plain, as large as
+/// Writes the pages of a job's lines as a PDF document, on forms of 132 columns and 66 lines with a look, as large as
 /// they are or scaled to a size of paper. Lines at one place are drawn over each other. An empty page, and a job without lines, is an
 /// empty form. The title is a text of ASCII.
 ///
@@ -29,21 +30,19 @@ pub fn write_pdf<W: Write>(
     alloc: Global,
     title: &[u8],
     lines: &[PrintLine],
-    has_bars: bool,
+    look: FormLook,
     size: PaperSize,
     writer: &mut W,
 ) -> Result<(), PaperFault>
-    ensures wrote { OnOk result (Appends (W.contents writer.old) (W.contents writer.new) (document_of size title.now has_bars lines.now)) }
-    ensures too_long { IsErrOf result TooLong → IsTooLong size title.now has_bars lines.now }
+    ensures wrote { OnOk result (Appends (W.contents writer.old) (W.contents writer.new) (document_of size title.now look lines.now)) }
+    ensures too_long { IsErrOf result TooLong → IsTooLong size title.now look lines.now }
 {
     let Some(count) = page_count(lines) else {
         return Err(PaperFault::TooLong);
     };
     put_first_line(writer)?;
     let mut table = Table::new(alloc);
-    put_objects(
-        alloc, &mut table, title, lines, has_bars, size, count, writer,
-    )?;
+    put_objects(alloc, &mut table, title, lines, look, size, count, writer)?;
     put_table(alloc, &table, writer)
 }
 
@@ -67,17 +66,17 @@ fn put_objects<W: Write>(
     table: &mut Table,
     title: &[u8],
     lines: &[PrintLine],
-    has_bars: bool,
+    look: FormLook,
     size: PaperSize,
     count: u32,
     writer: &mut W,
 ) -> Result<(), PaperFault>
     requires begins { table.old.starts.items ≡ [] }
     requires count { count ≡ length (pages_of lines.now) }
-    ensures { Putting (bodies_of size title.now has_bars (pages_of lines.now)) table.old table.new (W.contents writer.old) (W.contents writer.new) result }
+    ensures { Putting (bodies_of size title.now look (pages_of lines.now)) table.old table.new (W.contents writer.old) (W.contents writer.new) result }
 {
     let tree = 4 + 2 * u64::from(count);
-    put_front(alloc, table, has_bars, writer)?;
+    put_front(alloc, table, look, writer)?;
     put_pages(alloc, table, Pages::of(lines), size, tree, writer)?;
     put_back(alloc, table, title, size, tree, count, writer)
 }
@@ -86,13 +85,13 @@ fn put_objects<W: Write>(
 fn put_front<W: Write>(
     alloc: Global,
     table: &mut Table,
-    has_bars: bool,
+    look: FormLook,
     writer: &mut W,
 ) -> Result<(), PaperFault>
-    ensures { Putting (front_bodies has_bars) table.old table.new (W.contents writer.old) (W.contents writer.new) result }
+    ensures { Putting (front_bodies look) table.old table.new (W.contents writer.old) (W.contents writer.new) result }
 {
     let mut form = Vec::new(alloc);
-    push_form(&mut form, has_bars)?;
+    push_form(alloc, &mut form, look)?;
     put_object(alloc, table, FONT, writer)?;
     put_two(alloc, table, form.as_slice(), RESOURCES, writer)
 }

@@ -6,13 +6,14 @@
 //! the pages, with a form feed between two pages, and `write_pdf` exactly the specified bytes: numbered objects, and a table with
 //! the place of each (`file_of`, `places`). `write_pdf` refuses a document as too long only if it has too many pages or bytes
 //! (`too_long`). Not specified: what a writer that fails has written, and when `NoMemory` comes. That PDF readers show the
-//! document as forms is tested by `tools/search/test-paper`.
+//! document as forms is tested by `tools/check/test-pdf`.
 #![tactic(auto)]
 
 mod bodies;
 mod document;
 mod drawing;
 mod fault;
+mod form;
 mod laws;
 mod numbers;
 mod object_table;
@@ -25,6 +26,7 @@ mod written;
 
 pub use document::{MOST_PAGES, write_pdf};
 pub use fault::PaperFault;
+pub use form::FormLook;
 pub use laws::pages_have_all_lines;
 pub use page_by_page::Pages;
 pub use page_text::{push_page, row_of};

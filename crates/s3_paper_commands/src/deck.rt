@@ -1,6 +1,7 @@
 //! The deck of some files, of which those of plain text are punched. A file `-` is standard input.
 ghost use Rattle.std.specs.Prelude.{◌≤◌, IfOk};
 
+use crate::encodings::deck_encoding_words;
 use crate::fault::CommandFault;
 use crate::input::{STANDARD_INPUT, read_input, shown_name};
 use crate::messages::Report;
@@ -9,7 +10,7 @@ use crate::typed_files::TypedFiles;
 use s3_decks::{DeckText, cards_len};
 use s3_host_files::{WRITTEN, read_within, stream_at};
 use s3_punch::{Begun, Punched, punch};
-use s3_refusals::begins_as_pack;
+use s3_refusals::{Shown, begins_as_pack};
 use std::alloc::AllocError;
 use std::io;
 use std::io::{ErrorKind, IsTerminal, Write};
@@ -75,14 +76,20 @@ pub fn read_deck<'a>(
     for path in paths {
         let name: &'a str = *path;
         match read_deck_file(rt, name) {
-            Ok(bytes) => standing = add_file(
-                rt,
-                &mut deck,
-                standing,
-                report,
-                shown_name(name),
-                bytes,
-            )?,
+            Ok(bytes) => match deck_encoding_words(&bytes) {
+                Some(words) => {
+                    tell_encoding(rt, report, shown_name(name), words);
+                    standing.is_faulty = true;
+                }
+                None => standing = add_file(
+                    rt,
+                    &mut deck,
+                    standing,
+                    report,
+                    shown_name(name),
+                    bytes,
+                )?,
+            },
             Err(CommandFault::File(name, error)) => {
                 let _ = CommandFault::File(name, error).tell(&mut rt.stderr());
                 is_unread = true;
@@ -91,6 +98,15 @@ pub fn read_deck<'a>(
         }
     }
     Ok(deck.finish(is_unread, standing.is_faulty))
+}
+
+/// Reports a file in an encoding in which no deck is read.
+fn tell_encoding(rt: &HostRuntime, report: Report, name: &str, words: &str) {
+    let name = Shown(name);
+    let _ = match report {
+        Report::Sentences => writeln!(rt.stderr(), "{name} {words}."),
+        Report::Messages => writeln!(rt.stderr(), "{name}:1:1: error: the file {words}"),
+    };
 }
 
 impl<'a> ReadDeck<'a> {

@@ -1,6 +1,7 @@
 //! Why a command doesn't do what it is asked.
 ghost use Rattle.std.specs.Prelude.{◌≤◌};
 
+use crate::output_reason::OutputReason;
 use crate::status::{FILE_FAILED, REFUSED, WRONG_WORDS};
 use s3_host_files::StandardStream;
 use s3_refusals::{Reason, Shown};
@@ -107,11 +108,11 @@ impl<'a> CommandFault<'a> {
                 let (name, stream) = (Shown(*name), stream.name());
                 writeln!(
                     writer,
-                    "bureau: {name} is also {stream}, so what is printed would get into it; send {stream} to another file"
+                    "bureau: {name} is also {stream}, so what is printed would get into it; send {stream} to another file, and restore {name} from a copy if `>` has emptied it"
                 )
             }
             CommandFault::Output(error) => {
-                let reason = Reason(*error);
+                let reason = OutputReason(*error);
                 writeln!(writer, "bureau: standard output can't be written: {reason}")
             }
             CommandFault::Options(reason) => writeln!(writer, "error: {reason}"),

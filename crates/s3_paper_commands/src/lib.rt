@@ -10,10 +10,12 @@
 mod characters;
 mod compile;
 mod deck;
+mod encodings;
 mod entries;
 mod fault;
 mod input;
 mod messages;
+mod output_reason;
 mod programs;
 mod punch;
 pub mod status;
@@ -23,6 +25,8 @@ pub mod words;
 
 pub use compile::{COMPILE, compile_files};
 pub use deck::is_plain_text;
+pub use encodings::{deck_encoding_words, encoding_words};
 pub use entries::{ENTRIES, list_entries};
 pub use input::STANDARD_INPUT;
+pub use output_reason::OutputReason;
 pub use punch::{PUNCH, punch_files, tell_punched};

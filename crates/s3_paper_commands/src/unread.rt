@@ -50,7 +50,7 @@ struct Unread<'a> {
 }
 
 /// Whether a line is a card.
-fn is_card(line: &[u8]) -> bool {
+pub(crate) fn is_card(line: &[u8]) -> bool {
     line.len() <= COLUMNS && line.iter().all(|byte| code_of_byte(*byte).is_some())
 }
 

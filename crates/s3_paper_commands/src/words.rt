@@ -169,6 +169,16 @@ impl Takes {
         }
     }
 
+    /// How help shows a number, and the least and the greatest one, if what is given is a number.
+    pub fn range(self) -> Option<(&'static str, u32, u32)> {
+        match self {
+            Takes::Number(shown, least, greatest) => Some((shown, least, greatest)),
+            Takes::U16Or(shown, _) => Some((shown, 0, u32::from(u16::MAX))),
+            Takes::U8Or(shown, _) => Some((shown, 0, u32::from(u8::MAX))),
+            _ => None,
+        }
+    }
+
     /// Whether what is given is the name of a file or a folder.
     pub fn is_file(self) -> bool {
         match self {

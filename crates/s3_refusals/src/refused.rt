@@ -149,7 +149,7 @@ fn explain_stream<W: Write>(
     let stream = stream.name();
     writeln!(
         writer,
-        "{name} is also {stream}, so what is printed would get into it. Nothing was done. Send {stream} to another file."
+        "{name} is also {stream}, so what is printed would get into it. Nothing was done. Send {stream} to another file, and restore {name} from a copy if `>` has emptied it."
     )
 }
 

@@ -8,7 +8,7 @@ ghost use Rattle.s3_replies.specs.Inner.Words.{BeginsWord, is_blank as is_blank_
 fn is_blank(byte: u8) -> bool
     ensures { result ≡ is_blank_spec byte }
 {
-    byte == b' ' || byte == b'\t'
+    byte == b' ' || byte == b'\t' || byte == b'\r'
 }
 
 /// How many blanks a text begins with.

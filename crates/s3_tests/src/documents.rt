@@ -1,9 +1,9 @@
 //! Documents that no command asks for: without lines, and with more pages than one may have. A whole one is in a worked row,
-//! `operate-paper-pdf`; `tools/search/test-paper` has others read by programs for PDF.
+//! `operate-paper-pdf`; `tools/check/test-pdf` has others read by programs for PDF.
 
 use s3_cards::ebcdic::BLANK;
 use s3_cards::{PRINT_POSITIONS, PrintLine};
-use s3_pages::{PaperFault, PaperSize, write_pdf};
+use s3_pages::{FormLook, PaperFault, PaperSize, write_pdf};
 use std::alloc::{AllocError, Global};
 use std::test::Fail;
 
@@ -15,7 +15,7 @@ fn a_document_without_lines_is_an_empty_form(rt: HostRuntime) {
         rt.alloc(),
         b"LIST (1)",
         &[],
-        false,
+        FormLook::Plain,
         PaperSize::Form,
         &mut bytes,
     );
@@ -40,7 +40,14 @@ fn many_pages(alloc: Global) -> Result<Vec<PrintLine>, AllocError> {
 fn a_document_of_too_many_pages_is_refused(rt: HostRuntime) -> Result<(), Fail> {
     let lines = many_pages(rt.alloc())?;
     let mut bytes = Vec::new(rt.alloc());
-    let refused = write_pdf(rt.alloc(), b"A", &lines, true, PaperSize::A4, &mut bytes);
+    let refused = write_pdf(
+        rt.alloc(),
+        b"A",
+        &lines,
+        FormLook::Full,
+        PaperSize::A4,
+        &mut bytes,
+    );
     assert!(rt; matches!(refused, Err(PaperFault::TooLong)));
     assert!(rt; bytes.is_empty());
     Ok(())

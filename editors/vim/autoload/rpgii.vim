@@ -75,6 +75,11 @@ function! rpgii#EntryAt(card, column) abort
   return l:found
 endfunction
 
+" Whether the line at the cursor is data of a job, as the syntax has it.
+function! s:IsData() abort
+  return synIDattr(synID(line("."), 1, 0), "name") ==# "rpgiiJob"
+endfunction
+
 " The column of the card at the cursor.
 function! s:Column() abort
   return strchars(rpgii#Card(strpart(getline("."), 0, col(".") - 1))) + 1
@@ -84,23 +89,27 @@ endfunction
 function! rpgii#Ruler() abort
   let l:card = rpgii#Card(getline("."))
   let l:entry = rpgii#EntryAt(l:card, s:Column())
-  if empty(l:entry)
+  if empty(l:entry) || s:IsData()
     return ""
   endif
   let l:columns = l:entry.from == l:entry.to ? l:entry.from : l:entry.from . "-" . l:entry.to
   return strcharpart(l:card, 5, 1) . " " . l:columns . " " . l:entry.name
 endfunction
 
-" The blanks up to the next entry of the sheet; of a line that is no card, up to every eighth column.
+" The blanks up to the next entry of the sheet; of a line that is no card, up to every eighth column. In Replace mode, what the line has
+" there stays, and the cursor moves over it.
 function! rpgii#Tab() abort
-  return repeat(" ", s:UpToStop(rpgii#Card(strpart(getline("."), 0, col(".") - 1))))
+  let l:before = strpart(getline("."), 0, col(".") - 1)
+  let l:count = s:UpToStop(rpgii#Card(l:before))
+  let l:passed = mode() =~# "^R" ? min([l:count, strchars(getline(".")) - strchars(l:before)]) : 0
+  return repeat("\<Right>", l:passed) . repeat(" ", l:count - l:passed)
 endfunction
 
 " Shows the tabs of the file as the sheet of the line at the cursor has them.
 function! rpgii#SetStops() abort
   let l:card = rpgii#Card(getline("."))
   let l:stops = get(g:rpgii_entries#stops, strcharpart(l:card, 5, 1), [])
-  if l:card =~# '^//' || empty(l:stops)
+  if l:card =~# '^//' || empty(l:stops) || s:IsData()
     let l:wanted = ""
   else
     let l:before = 1
@@ -116,12 +125,30 @@ function! rpgii#SetStops() abort
   endif
 endfunction
 
-" Completes the values of the entry at the cursor.
+" The command of :make. It compiles the files of the deck, with that of the buffer last.
+function! rpgii#MakeCommand() abort
+  let l:others = filter(copy(get(g:, "rpgii_files", [])), 'fnamemodify(v:val, ":p") !=# expand("%:p")')
+  let l:words = map(l:others, 'escape(shellescape(v:val), "%#|")')
+  return join([get(g:, "rpgii_bureau", "bureau"), "compile", "--messages"] + l:words + ["%:S"])
+endfunction
+
+" Counts the columns of the quickfix list in bytes, as Vim does; those of a message are characters.
+function! rpgii#CountBytes() abort
+  let l:entries = getqflist()
+  for l:entry in filter(copy(l:entries), 'v:val.valid && bufloaded(v:val.bufnr)')
+    let l:line = get(getbufline(l:entry.bufnr, l:entry.lnum), 0, "")
+    let l:entry.col = max([l:entry.col, byteidx(l:line, l:entry.col - 1) + 1])
+  endfor
+  call setqflist([], "r", {"items": l:entries})
+endfunction
+
+" Completes the values of the entry at the cursor. In Replace mode, a value is as wide as its entry.
 function! rpgii#Complete(is_first, base) abort
   let l:entry = rpgii#EntryAt(rpgii#Card(getline(".")), s:Column())
   if a:is_first
     return empty(l:entry) || empty(l:entry.values) ? -3 : min([l:entry.from - 1, col(".") - 1])
   endif
   let l:base = toupper(trim(a:base))
-  return filter(copy(get(l:entry, "values", [])), {_, value -> stridx(value, l:base) == 0})
+  let l:values = filter(copy(get(l:entry, "values", [])), {_, value -> stridx(value, l:base) == 0})
+  return mode() =~# "^R" ? map(l:values, {_, value -> printf("%-*S", l:entry.to - l:entry.from + 1, value)}) : l:values
 endfunction

@@ -22,6 +22,10 @@ augroup rpgii
   " tabs that the file has are shown as its sheet has them
   autocmd CursorMoved,CursorMovedI <buffer> call rpgii#SetStops()
 augroup END
+augroup rpgii_columns
+  autocmd! QuickFixCmdPost make
+  autocmd QuickFixCmdPost make if &filetype ==# "rpgii" | call rpgii#CountBytes() | endif
+augroup END
 call rpgii#SetStops()
 
 let b:undo_ftplugin = "setlocal textwidth< wrap< expandtab< comments< commentstring< omnifunc< statusline< vartabstop< makeprg< errorformat<"

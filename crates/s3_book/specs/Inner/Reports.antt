@@ -2,21 +2,23 @@
 use Rattle.std.specs.Prelude.{ℕ, List, [], ◌∷◌, ◌++◌, codes}
 use Rattle.s3_book.specs.Inner.Parts.{Piece, markup, value, report, page_of}
 
--- how all pages look: light or dark, and in print a form of 14 7/8 by 11 inches for each page of a report, with bars of three lines
+-- how all pages look: light or dark, neighbours in a chart apart, no table without a row, and in print a form of 14 7/8 by 11 inches for each page of a report, with bars of three lines
 abbrev pub style : List Piece
 style =
     markup (codes ":root{color-scheme:light dark;--ink:#111;--paper:#fff;--bar:#e1f2e1;--edge:#999;--one:#b9d4f0;--two:#f0d2ae}\n")
     ∷ markup (codes "@media screen and (prefers-color-scheme:dark){\n")
     ∷ markup (codes ":root{--ink:#eee;--paper:#151515;--bar:#1c331c;--edge:#777;--one:#24486e;--two:#6e4b1c}}\n")
     ∷ markup (codes "body{color:var(--ink);background:var(--paper);font:1rem/1.4 sans-serif;margin:1rem}\n")
-    ∷ markup (codes "a{color:inherit}\n")
+    ∷ markup (codes "a{color:inherit;white-space:nowrap}\n")
     ∷ markup (codes "table{border-collapse:collapse}\n")
+    ∷ markup (codes "table:not(:has(td)){display:none}\n")
     ∷ markup (codes "td,th{border-bottom:1px solid var(--edge);padding:.2rem .7rem;text-align:left;vertical-align:top}\n")
     ∷ markup (codes "pre{margin:0;white-space:pre-wrap}\n")
-    ∷ markup (codes ".chart{display:block;max-width:70rem;margin:.5rem 0}\n")
+    ∷ markup (codes ".chart{display:block;max-width:70rem;margin:.5rem 0;overflow:visible}\n")
     ∷ markup (codes ".lane{fill:none;stroke:var(--edge)}\n")
     ∷ markup (codes ".level1,.file{fill:var(--one)}\n")
     ∷ markup (codes ".level2{fill:var(--two)}\n")
+    ∷ markup (codes ".chart svg:nth-of-type(even) rect{opacity:.7}\n")
     ∷ markup (codes "text{fill:var(--ink);font:14px sans-serif}\n")
     ∷ markup (codes "section{position:relative;width:132ch;height:792pt;padding:0 4ch;margin:1rem 0;border:1px solid var(--edge);\n")
     ∷ markup (codes "font:10pt/12pt monospace;background:repeating-linear-gradient(var(--bar) 0 36pt,transparent 36pt 72pt);\n")
@@ -24,7 +26,7 @@ style =
     ∷ markup (codes "section div{height:12pt;white-space:pre}\n")
     ∷ markup (codes "section p{margin:-12pt 0 0}\n")
     ∷ markup (codes "@page form{size:14.875in 11in;margin:0}\n")
-    ∷ markup (codes "@media print{nav{display:none}tr,svg{break-inside:avoid}\n")
+    ∷ markup (codes "@media print{body{margin:0}nav{display:none}tr,svg{break-inside:avoid}\n")
     ∷ markup (codes "section{font-size:12pt;height:791pt;margin:0;padding:0 calc((1071pt - 132ch)/2);border:0;overflow:hidden;\n")
     ∷ markup (codes "break-after:page;break-inside:avoid}\n")
     ∷ markup (codes "section:last-child{break-after:auto}}\n")

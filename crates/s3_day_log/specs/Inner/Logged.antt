@@ -9,6 +9,8 @@ use Rattle.s3_operator.specs.Inner.Codes.{is_shown}
 use Rattle.s3_day_log.specs.declared.day_log.DayLog.{DayLog}
 use Rattle.s3_day_log.specs.declared.day_log.LogFault.{LogFault}
 use Rattle.s3_day_log.specs.declared.day_log.LogFault.TheVariants.{NoMemory, Line}
+use Rattle.s3_day_log.specs.declared.event.AnsweredHalt.{AnsweredHalt}
+use Rattle.s3_day_log.specs.declared.event.LoggedHalt.{LoggedHalt}
 use Rattle.s3_day_log.specs.declared.event.LoggedReply.{LoggedReply}
 use Rattle.s3_day_log.specs.Inner.Events.{File, Day, Said, begins, job_begins, job_ends, halts, replies, is_cut, stops, declines, saves, ends, day_of}
 use Rattle.s3_day_log.specs.Inner.Lines.{said_on, line_of, is_time, byte_most, short_most, long_most}
@@ -31,8 +33,10 @@ events_in text = map said_on (lines_ended text)
 -- ---- the log that events make
 pub record Log : Type 0 where
   pub begun : Day
-  pub replies1 : List LoggedReply
-  pub replies2 : List LoggedReply
+  pub replies1 : List AnsweredHalt
+  pub replies2 : List AnsweredHalt
+  pub waits1 : Option LoggedHalt
+  pub waits2 : Option LoggedHalt
   pub saved : Option (List ℕ)
   pub is_declined : Bool
   pub status : Option ℕ
@@ -55,11 +59,17 @@ abbrev pub is_sound : Day → Bool
 is_sound day = has_checksum_if_any day.pack && list_all has_checksum day.deck1 && list_all has_checksum day.deck2
 
 abbrev pub started : Day → Log
-started day = record { begun = day; replies1 = []; replies2 = []; saved = None; is_declined = false; status = None }
+started day = record { begun = day; replies1 = []; replies2 = []; waits1 = None; waits2 = None; saved = None; is_declined = false; status = None }
 
+-- a halt of a level, which its next reply is to
+abbrev pub with_halt : LevelId → LoggedHalt → Log → Log
+with_halt One halt log = record log { waits1 = Some halt }
+with_halt Two halt log = record log { waits2 = Some halt }
+
+-- a reply to the halt of its level that has none yet, if the log has such a halt
 abbrev pub with_reply : LevelId → LoggedReply → Log → Log
-with_reply One reply log = record log { replies1 = log.replies1 ++ reply ∷ [] }
-with_reply Two reply log = record log { replies2 = log.replies2 ++ reply ∷ [] }
+with_reply One reply log = record log { replies1 = log.replies1 ++ record { reply = reply; halt = log.waits1 } ∷ []; waits1 = None }
+with_reply Two reply log = record log { replies2 = log.replies2 ++ record { reply = reply; halt = log.waits2 } ∷ []; waits2 = None }
 
 -- the log with the pack that the day saves, if it has a checksum
 abbrev pub with_pack : File → Log → Option Log
@@ -79,7 +89,7 @@ abbrev pub continued : Said → Log → Option Log
 continued (begins day) log = None
 continued (job_begins job) log = Some log
 continued (job_ends job) log = Some log
-continued (halts halt) log = Some log
+continued (halts halt) log = Some (with_halt halt.level halt log)
 continued (replies reply) log = answered reply log
 continued (is_cut level) log = Some log
 continued stops log = Some log
@@ -131,7 +141,7 @@ log_of (first ∷ rest) = from_day (begun_by first) rest
 
 -- ---- the code's log
 abbrev pub log_in : DayLog → Log
-log_in log = record { begun = day_of log.begun; replies1 = log.replies1.items; replies2 = log.replies2.items; saved = option_map string_bytes log.saved; is_declined = log.is_declined; status = log.status }
+log_in log = record { begun = day_of log.begun; replies1 = log.replies1.items; replies2 = log.replies2.items; waits1 = log.waits1; waits2 = log.waits2; saved = option_map string_bytes log.saved; is_declined = log.is_declined; status = log.status }
 
 -- a text is read as the log of its events, or refused by the first line that is refused, or where memory runs out
 abbrev pub IsRead : (text : List ℕ) → Result DayLog LogFault → Type 0
@@ -157,7 +167,7 @@ Takes number after new (Err NoMemory) = Unit {0}
 Takes number after new (Err (Line line)) = (after ≡ None) × (line ≡ number)
 
 -- a log's replies to the halts of a level, in their order
-abbrev pub replies_at : LevelId → DayLog → List LoggedReply
+abbrev pub replies_at : LevelId → DayLog → List AnsweredHalt
 replies_at One log = log.replies1.items
 replies_at Two log = log.replies2.items
 

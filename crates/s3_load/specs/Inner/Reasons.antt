@@ -1,5 +1,5 @@
 -- What is reported of the rows of a table: no row without a reason.
-use Rattle.std.specs.Prelude.{◌≡◌, ◌≢◌, ◌<◌, ◌⊎◌, ◌∷◌, ◌++◌, ℕ, true, Option, Some, List, [], length, get_or}
+use Rattle.std.specs.Prelude.{◌≡◌, ◌≢◌, ◌+◌, ◌<◌, ◌⊎◌, ◌∷◌, ◌++◌, ℕ, true, Option, Some, None, List, [], length, get_or}
 use Rattle.std.specs.List.{All, Contains, list_any}
 use Rattle.csv.specs.Reading.{AreRecords, ReadRecord, strip_bom}
 use Rattle.csv.specs.declared.parser.State.TheVariants as st
@@ -8,13 +8,16 @@ use Rattle.s3_cards.specs.declared.name.Name.{Name}
 use Rattle.s3_cells.specs.Inner.Fields.{IsNotTaken, Takes, field_bytes}
 use Rattle.s3_cells.specs.Inner.Values.{GetsValue}
 use Rattle.s3_cells.specs.declared.field.Field.{Field}
+use Rattle.s3_lines.specs.declared.sheet.KeyField.{KeyField}
 use Rattle.s3_record_types.specs.Inner.Chosen.{IsFaultIn}
 use Rattle.s3_record_types.specs.declared.chosen.ChosenRecords.{ChosenRecords}
 use Rattle.s3_load.specs.declared.fault.Reason.{Reason}
-use Rattle.s3_load.specs.declared.fault.Reason.TheVariants.{Cell, Cells, OtherType, OverLines}
+use Rattle.s3_load.specs.declared.fault.Reason.TheVariants.{Cell, Cells, OtherType, OverLines, SameKey}
 use Rattle.s3_load.specs.declared.fault.ValueFault.{ValueFault}
 use Rattle.s3_load.specs.declared.rows.Faults.{Faults}
+use Rattle.s3_load.specs.declared.rows.Row.{Row}
 use Rattle.s3_load.specs.Inner.Columns.{has_byte}
+use Rattle.s3_load.specs.Inner.KeyOrder.{key_in}
 use Rattle.s3_load.specs.Inner.Quotes.{is_line_end}
 use Rattle.s3_load.specs.Inner.Records.{empty_record}
 use Rattle.s3_load.specs.Inner.Tables.{IsReading, table_config}
@@ -114,3 +117,29 @@ pub record ReportsRows (text : List ℕ) (delimiter : ℕ) (heading : List (List
   pub cells : List (List (List ℕ))
   pub are_records : AreRecords (table_config delimiter) st.StartRecord (strip_bom text) (heading ∷ cells)
   pub reports : Reports (IsFaultAmong record_length columns filled chosen cells) old new
+
+-- ---- keys
+-- a row has the key of another one, whose line the report names with the key
+abbrev pub IsKeyReason : KeyField → (one next : Row) → Reason → Type 0
+IsKeyReason key one next (SameKey line codes) = (line ≡ one.line) × (codes.items ≡ key_in key next.bytes.items)
+IsKeyReason key one next _ = ⊥
+
+pub record HasSameKey (key : KeyField) (one next : Row) (fault : ValueFault) : Type 0 where
+  pub same : key_in key one.bytes.items ≡ key_in key next.bytes.items
+  pub line : fault.line ≡ next.line
+  pub reason : IsKeyReason key one next fault.reason
+
+-- one of these rows has the key of the row before it
+pub record IsSameKey (key : KeyField) (rows : List Row) (fault : ValueFault) : Type 0 where
+  pub place : ℕ
+  pub within : place + 1 < length rows
+  pub one : Row
+  pub next : Row
+  pub is_one : one ≡ get_or rows place one
+  pub is_next : next ≡ get_or rows (place + 1) next
+  pub same : HasSameKey key one next fault
+
+-- .. if the file has a key
+abbrev pub ReportsKeys : Option KeyField → List Row → (old new : Faults) → Type 0
+ReportsKeys None rows old new = new ≡ old
+ReportsKeys (Some key) rows old new = Reports (IsSameKey key rows) old new

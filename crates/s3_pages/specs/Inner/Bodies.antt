@@ -1,5 +1,5 @@
 -- The objects of a document of forms.
-use Rattle.std.specs.Prelude.{ℕ, ◌+◌, ◌*◌, ◌/◌, Bool, List, [], ◌∷◌, ◌++◌, codes, if◌then◌else◌}
+use Rattle.std.specs.Prelude.{ℕ, ◌+◌, ◌*◌, ◌/◌, List, [], ◌∷◌, ◌++◌, codes}
 use Rattle.std.specs.Fmt.{decimal}
 use Rattle.std.specs.List.{flat_map, range_with_len}
 use Rattle.s3_cards.specs.Printed.{Printed}
@@ -10,16 +10,6 @@ use Rattle.s3_pages.specs.declared.size.PaperSize.{PaperSize}
 -- object 1: ten columns to the inch
 unfoldable pub font_body : List ℕ
 font_body = codes "<< /Type /Font /Subtype /Type1 /BaseFont /Courier /Encoding /WinAnsiEncoding >>"
-
--- eleven bars of three lines, with three lines between two
-unfoldable pub bars : List ℕ
-bars =
-    codes "0.9 0.96 0.9 rg\n36 756 999 36 re\n36 684 999 36 re\n36 612 999 36 re\n36 540 999 36 re\n36 468 999 36 re\n36 396 999 36 re\n"
-    ++ codes "36 324 999 36 re\n36 252 999 36 re\n36 180 999 36 re\n36 108 999 36 re\n36 36 999 36 re\nf"
-
--- object 2: the form on which all pages are printed, 14 7/8 by 11 inches, with bars or plain
-unfoldable pub form_body : Bool → List ℕ
-form_body has_bars = stream_body (codes "/Type /XObject /Subtype /Form /BBox [0 0 1071 792] ") (if has_bars then bars else [])
 
 -- object 3: what all pages are drawn with
 unfoldable pub resources_body : List ℕ

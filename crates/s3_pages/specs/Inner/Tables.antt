@@ -1,11 +1,12 @@
 -- Objects that are written, and the table of their places.
-use Rattle.std.specs.Prelude.{◌≡◌, ℕ, ◌+◌, ◌^◌, ◌<◌, ◌≤◌, ◌⊎◌, Bool, List, ◌++◌, Option, Result, length, MatchResult}
+use Rattle.std.specs.Prelude.{◌≡◌, ℕ, ◌+◌, ◌^◌, ◌<◌, ◌≤◌, ◌⊎◌, List, ◌++◌, Option, Result, length, MatchResult}
 use Rattle.std.specs.Io.KnownBytes.{Appends}
 use Rattle.s3_cards.specs.Printed.{Printed}
 use Rattle.s3_pages.specs.Inner.Pages.{pages_of}
 use Rattle.s3_pages.specs.declared.fault.PaperFault.{PaperFault}
 use Rattle.s3_pages.specs.declared.fault.PaperFault.TheVariants.{TooLong}
 use Rattle.s3_pages.specs.Inner.Documents.{document_of}
+use Rattle.s3_pages.specs.declared.form.FormLook.{FormLook}
 use Rattle.s3_pages.specs.Inner.Objects.{joined, numbered, places}
 use Rattle.s3_pages.specs.declared.size.PaperSize.{PaperSize}
 use Rattle.s3_pages.specs.declared.object_table.Table.{Table}
@@ -33,5 +34,5 @@ pub record Putting (bodies : List (List ℕ)) (old new : Table) (before after : 
   pub comes : MatchResult result (λ _. Puts bodies old new before after) (λ fault. fault ≡ TooLong → end_limit ≤ end_behind old bodies)
 
 -- a document has too many pages, or bytes
-abbrev pub IsTooLong : PaperSize → List ℕ → Bool → List Printed → Type 0
-IsTooLong size title has_bars lines = (4000000 < length (pages_of lines)) ⊎ (end_limit ≤ length (document_of size title has_bars lines))
+abbrev pub IsTooLong : PaperSize → List ℕ → FormLook → List Printed → Type 0
+IsTooLong size title look lines = (4000000 < length (pages_of lines)) ⊎ (end_limit ≤ length (document_of size title look lines))

@@ -2,9 +2,9 @@
 use Rattle.std.specs.Prelude.{◌≡◌, ℕ, ◌==◌, List, [], ◌∷◌, Bool, true, false, ◌||◌, not, filter}
 use Rattle.std.specs.List.{slice_split, take_while}
 
--- words are divided by blanks and tabs
+-- words are divided by blanks, tabs and carriage returns, so that lines may end in CR LF
 abbrev pub is_blank : ℕ → Bool
-is_blank byte = byte == 32 || byte == 9
+is_blank byte = byte == 32 || byte == 9 || byte == 13
 
 abbrev pub is_some_word : List ℕ → Bool
 is_some_word [] = false

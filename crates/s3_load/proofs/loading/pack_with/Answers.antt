@@ -6,6 +6,7 @@ use Rattle.s3_pack_care.proofs.Frames.{IsSaved, file_only, saved_is}
 use Rattle.s3_load.specs.Inner.Filling.{records_of}
 use Rattle.s3_load.specs.Inner.Loaded.{ChangesLoaded, IsOfLoad, IsReplaced}
 use Rattle.s3_load.proofs.LoadedPacks.{area_few, file_on}
+use Rattle.s3_load.proofs.Shapes.{shape_on}
 use Rattle.s3_load.proofs.loading.pack_with.Goals as goal
 
 pub returns-clause-loaded : goal.returns-clause-loaded
@@ -34,3 +35,7 @@ returns-clause-only c =
     let mounts : mounted (contents_of pack) ≡ Ok header = sym (ap mounted c.in_ok-mounted.ensures.same) ∙ c.in_ok-mounted.ensures.mounted.mounts in
     file_only pack bytes (area_of order.level) order.name store (area_few order.level) is_saved (IsReplaced order header (contents_of pack) (area_of order.level)) (IsOfLoad order (contents_of pack) (contents_of bytes)) changes
     (λ k own. inl own) (λ i k gone within. inr (record { header = header; mounts = mounts; slot = i; gone = gone; at = within }))
+
+pub returns-clause-shaped : goal.returns-clause-shaped
+returns-clause-shaped c =
+    shape_on c.args.order.now c.in_ok-mounted.mounted.areas c.in_ok-mounted.mounted.pool (contents_of c.args.pack.now) c.in_ok-mounted.ensures.mounted c.in_ok-mounted.ensures.same c.in_ok-shaped.ensures

@@ -19,7 +19,7 @@ returns g c = λ text source.
     record {
       heading = heading;
       columns = c.in_ok-columns.columns;
-      named = c.in_ok-columns.ensures;
+      named = c.in_ok-columns.ensures.heading;
       made = c.in_ok-rows.rows.items;
       are_rows = c.in_ok-rows.ensures.rows (c.in_ok-sort_by_key.ensures.before none) text heading begun;
       same = c.in_ok-sort_by_key.ensures.same;

@@ -10,31 +10,31 @@ use Rattle.s3_pages.proofs.document.put_objects.Goals as goal
 pub returns : goal.returns
 returns g c =
     let number = length c.put_front.new.table.starts.items + 1 in
-    let counted = count_behind (front_bodies c.args.has_bars) _ _ _ _ c.in_ok-put_front.ensures.comes in
+    let counted = count_behind (front_bodies c.args.look) _ _ _ _ c.in_ok-put_front.ensures.comes in
     let none : length c.args.table.now.starts.items ≡ 0 = ap length c.requires.begins in
     let four : number ≡ 4 = omega (arith, counted, none) in
     putting_as _ _ _ _ _ _ _
-    (putting_more (front_bodies c.args.has_bars ++ page_bodies c.args.size (tree_number c.from.result) number (pages_left c.of.result)) (back_bodies c.args.size c.args.title.now c.args.count) _ _ _ _ _ _ _ _
-    (putting_more (front_bodies c.args.has_bars) (page_bodies c.args.size (tree_number c.from.result) number (pages_left c.of.result)) _ _ _ _ _ _ _ _ c.in_ok-put_front.ensures c.in_ok-put_pages.ensures)
+    (putting_more (front_bodies c.args.look ++ page_bodies c.args.size (tree_number c.from.result) number (pages_left c.of.result)) (back_bodies c.args.size c.args.title.now c.args.count) _ _ _ _ _ _ _ _
+    (putting_more (front_bodies c.args.look) (page_bodies c.args.size (tree_number c.from.result) number (pages_left c.of.result)) _ _ _ _ _ _ _ _ c.in_ok-put_front.ensures c.in_ok-put_pages.ensures)
     c.put_back.ensures)
-    (bodies_same c.args.size c.args.title.now c.args.has_bars (tree_number c.from.result) c.args.count number (pages_left c.of.result) (pages_of c.args.lines.now) (ap tree_number c.from.ensures) four c.of.ensures.pages c.requires.count)
+    (bodies_same c.args.size c.args.title.now c.args.look (tree_number c.from.result) c.args.count number (pages_left c.of.result) (pages_of c.args.lines.now) (ap tree_number c.from.ensures) four c.of.ensures.pages c.requires.count)
 
 pub returns-in_err-put_front : goal.returns-in_err-put_front
 returns-in_err-put_front g c =
     putting_as _ _ _ _ _ _ _
-    (putting_longer (front_bodies c.args.has_bars ++ page_bodies c.args.size (tree_number c.args.count) 4 (pages_of c.args.lines.now)) (back_bodies c.args.size c.args.title.now c.args.count) _ _ _ _ _ _
-    (putting_failed (front_bodies c.args.has_bars) (page_bodies c.args.size (tree_number c.args.count) 4 (pages_of c.args.lines.now)) _ _ _ _ _ _ c.in_err-put_front.ensures c.from_residual.ensures.1)
+    (putting_longer (front_bodies c.args.look ++ page_bodies c.args.size (tree_number c.args.count) 4 (pages_of c.args.lines.now)) (back_bodies c.args.size c.args.title.now c.args.count) _ _ _ _ _ _
+    (putting_failed (front_bodies c.args.look) (page_bodies c.args.size (tree_number c.args.count) 4 (pages_of c.args.lines.now)) _ _ _ _ _ _ c.in_err-put_front.ensures c.from_residual.ensures.1)
     c.from_residual.ensures.1)
-    (bodies_same c.args.size c.args.title.now c.args.has_bars (tree_number c.args.count) c.args.count 4 (pages_of c.args.lines.now) (pages_of c.args.lines.now) refl refl refl c.requires.count)
+    (bodies_same c.args.size c.args.title.now c.args.look (tree_number c.args.count) c.args.count 4 (pages_of c.args.lines.now) (pages_of c.args.lines.now) refl refl refl c.requires.count)
 
 pub returns-in_err-put_pages : goal.returns-in_err-put_pages
 returns-in_err-put_pages g c =
     let number = length c.put_front.new.table.starts.items + 1 in
-    let counted = count_behind (front_bodies c.args.has_bars) _ _ _ _ c.in_ok-put_front.ensures.comes in
+    let counted = count_behind (front_bodies c.args.look) _ _ _ _ c.in_ok-put_front.ensures.comes in
     let none : length c.args.table.now.starts.items ≡ 0 = ap length c.requires.begins in
     let four : number ≡ 4 = omega (arith, counted, none) in
     putting_as _ _ _ _ _ _ _
-    (putting_longer (front_bodies c.args.has_bars ++ page_bodies c.args.size (tree_number c.from.result) number (pages_left c.of.result)) (back_bodies c.args.size c.args.title.now c.args.count) _ _ _ _ _ _
-    (putting_failed_later (front_bodies c.args.has_bars) (page_bodies c.args.size (tree_number c.from.result) number (pages_left c.of.result)) _ _ _ _ _ _ _ _ _ c.in_ok-put_front.ensures c.in_err-put_pages.ensures c.from_residual-in_err-put_pages.ensures.1)
+    (putting_longer (front_bodies c.args.look ++ page_bodies c.args.size (tree_number c.from.result) number (pages_left c.of.result)) (back_bodies c.args.size c.args.title.now c.args.count) _ _ _ _ _ _
+    (putting_failed_later (front_bodies c.args.look) (page_bodies c.args.size (tree_number c.from.result) number (pages_left c.of.result)) _ _ _ _ _ _ _ _ _ c.in_ok-put_front.ensures c.in_err-put_pages.ensures c.from_residual-in_err-put_pages.ensures.1)
     c.from_residual-in_err-put_pages.ensures.1)
-    (bodies_same c.args.size c.args.title.now c.args.has_bars (tree_number c.from.result) c.args.count number (pages_left c.of.result) (pages_of c.args.lines.now) (ap tree_number c.from.ensures) four c.of.ensures.pages c.requires.count)
+    (bodies_same c.args.size c.args.title.now c.args.look (tree_number c.from.result) c.args.count number (pages_left c.of.result) (pages_of c.args.lines.now) (ap tree_number c.from.ensures) four c.of.ensures.pages c.requires.count)

@@ -6,7 +6,7 @@ use Rattle.s3_cells.specs.Inner.Fields.{LiesIn}
 use Rattle.s3_load.specs.Inner.Columns.{AreNamed, LieApart, is_clear}
 use Rattle.s3_load.specs.Inner.Owners.{AreOwners, unowned}
 use Rattle.s3_load.proofs.OwnerLemmas.{named_within, none_left, unowned_left}
-use Rattle.s3_load.proofs.columns.read_columns.Goals as goal
+use Rattle.s3_load.proofs.columns.named_columns.Goals as goal
 
 pub find_overlaps-requires : goal.find_overlaps-requires
 find_overlaps-requires c =
@@ -15,8 +15,8 @@ find_overlaps-requires c =
     let among : All (Contains fields) named = subst (λ fs. All (Contains fs) named) c.deref.ensures.value c.in_ok-named.ensures.among in
     subst (All (LiesIn c.args.layout.now.record_length)) (sym c.deref-2.ensures.value) (named_within c.args.layout.now.record_length fields named c.args.layout.now.within among)
 
-pub returns-then-is_empty : goal.returns-then-is_empty
-returns-then-is_empty c =
+pub returns-then-is_empty-clause-heading : goal.returns-then-is_empty-clause-heading
+returns-then-is_empty-clause-heading c =
     let fields = c.args.layout.now.fields.items in
     let named = c.in_ok-named.named.items in
     let owners = c.in_ok-owners.owners.items in

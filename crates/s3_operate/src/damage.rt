@@ -1,0 +1,20 @@
+//! Damaged labels of a day's pack.
+
+use s3_labels::AreaSlots;
+use s3_pack_check::first_damaged;
+use s3_refusals::Shown;
+use std::io::Write;
+
+/// Reports the first damaged label of each level of a pack that the day saves: a job that makes a file may write over the records of that
+/// label's file.
+pub fn report_damage(rt: &HostRuntime, pack: &str, areas: &AreaSlots) {
+    for level in 1..3u16 {
+        if let Some(slot) = first_damaged(areas, level) {
+            let pack = Shown(pack);
+            let _ = writeln!(
+                rt.stderr(),
+                "level {level} of {pack} has a damaged label, in slot {slot}, and a job that makes a file may write over its records; bureau check --pack {pack} says what is wrong"
+            );
+        }
+    }
+}
