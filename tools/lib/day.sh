@@ -43,13 +43,13 @@ end_day() {
 
 tell_stopped() {
     [ -n "$signal" ] || signal=$((status - 128))
-    log=$(log_of "$@")
+    log=$(log_of "$@" | tr '[:cntrl:]' '?')
     if [ -n "$log" ]; then
-        again="to do it again with the replies so far, give --redo $log, and another name for --log"
+        again="to do it again with the replies so far, give --redo $log, and another name for --log; a day whose pack is saved by now is refused"
     else
-        again="to do it again, give the same command; with --log FILE the replies are kept for --redo"
+        again="to do it again, give the same command, unless the file of --save has changed: then the pack is saved; with --log FILE the replies are kept for --redo"
     fi
-    say "signal $signal has ended the day before its end: the pack is saved only if a line above says so; $again" || true
+    say "signal $signal has ended the day before its end; $again" || true
 }
 
 # Prints the file that --log names, or nothing.

@@ -3,13 +3,15 @@ ghost use Rattle.std.specs.Prelude.{◌≤◌, ◌≡◌};
 
 use crate::journaled_run::{has_journal, run_journaled};
 use crate::refusal::{fault_of, of_options, of_pack, reading, saving, session_refused};
+use crate::similar::explain_unknown;
 use crate::version::write_version;
 use crate::wrong_number::WrongNumber;
 use clap::error::ErrorKind;
 use clap::{ArgMatches, Error};
 use s3_cli::{CliFault, SessionFault, Watched, image_with, list, migrate, session_on, write_table};
 use s3_command_line::{
-    OUT_OF_MEMORY, command, command_of, names_standard_error, new_pack, option_without_name,
+    OUT_OF_MEMORY, command, command_of, input_conflict, names_standard_error, new_pack,
+    option_without_name,
 };
 use s3_data_commands::check_pack::check;
 use s3_data_commands::copy::copy;
@@ -188,6 +190,7 @@ fn explain(rt: &HostRuntime, error: &Error, words: &[String]) -> u8
         ErrorKind::DisplayVersion => write_version(rt),
         ErrorKind::DisplayHelp => print_help(rt, error, words),
         ErrorKind::ValueValidation => explain_value(rt, error, words),
+        ErrorKind::UnknownArgument => explain_unknown(rt, error),
         _ => error.print(rt),
     };
     if error.use_stderr() {
@@ -270,6 +273,22 @@ fn perform<'a>(rt: &'a HostRuntime, matches: &ArgMatches<'a>, words: &[String]) 
     if let Some(option) = option_without_name(name, matches) {
         return misuse_empty(rt, option);
     }
+    match input_conflict(rt.alloc(), name, matches) {
+        Ok(None) => perform_named(rt, name, matches, words),
+        Ok(Some(reason)) => misuse(rt, reason.as_str()),
+        Err(_) => refuse(rt, &OUT_OF_MEMORY),
+    }
+}
+
+/// Does what a command asks whose files have names, and gives the exit status.
+fn perform_named<'a>(
+    rt: &'a HostRuntime,
+    name: &str,
+    matches: &ArgMatches<'a>,
+    words: &[String],
+) -> u8
+    ensures { result ≤ 5 }
+{
     match name {
         "operate" => operate(rt, matches, words.get(2..).unwrap_or(&[])),
         "punch" => punch_files(rt, matches),

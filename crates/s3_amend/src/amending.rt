@@ -1,5 +1,5 @@
 //! A record amended.
-ghost use Rattle.std.specs.Prelude.{◌≡◌, ◌<◌, true, [], length, slice_get, Some, IfOk, OnOk};
+ghost use Rattle.std.specs.Prelude.{◌≡◌, ◌<◌, true, [], length, slice_get, Some, IfNone, IfOk, OnOk};
 ghost use Rattle.std.specs.List.{All};
 ghost use Rattle.s3_slots.specs.Inner.Kept.{IsOfPack};
 ghost use Rattle.s3_slots.specs.Labels.{sectors_of};
@@ -7,13 +7,12 @@ ghost use Rattle.s3_labels.specs.Contents.{contents_of};
 ghost use Rattle.s3_pack_care.specs.Inner.Frames.{ChangesBytes, ChangesRecords, IsInFile};
 ghost use Rattle.s3_pack_care.specs.Inner.Rows.{ChangesSectors};
 ghost use Rattle.s3_cells.specs.Inner.Fields.{LiesIn};
-ghost use Rattle.s3_record_types.specs.Inner.Chosen.{is_chosen};
 ghost use Rattle.s3_unload.specs.Inner.Ordered.{in_order};
 ghost use Rattle.s3_load.specs.Inner.Columns.{LieApart};
 ghost use Rattle.s3_load.specs.Inner.Records.{HasTaken};
 ghost use Rattle.s3_amend.specs.Inner.Settings.{AreNamed, values_of};
 ghost use Rattle.s3_amend.specs.Inner.Meant.{IsMeant};
-ghost use Rattle.s3_amend.specs.Inner.Amended.{AmendsFile, AmendsRecord, IsAmended};
+ghost use Rattle.s3_amend.specs.Inner.Amended.{AmendsFile, AmendsRecord, IsAmended, is_of_type};
 
 use crate::amendment::Amendment;
 use crate::choosing::{place_of, put_record, read_record};
@@ -24,7 +23,7 @@ use s3_cells::Field;
 use s3_labels::{FileLabel, LabelFault, Standing};
 use s3_pack_care::{MountedPack, bytes_after, mount, saved};
 use s3_pack_check::slots_of;
-use s3_record_types::ChosenRecords;
+use s3_record_types::{ChosenRecords, TypeFault};
 use s3_slots::standing_of;
 use s3_store::MemoryStore;
 use std::alloc::{AllocError, Global};
@@ -211,8 +210,8 @@ fn change(
     requires apart { LieApart named.now }
     requires counted { length named.now ≡ length amendment.now.settings.now }
     ensures taken { OnOk result (HasTaken named.now (values_of amendment.now.settings.now) after.old (length named.now) after.new) }
-    ensures was_chosen { OnOk result (is_chosen amendment.now.chosen.now before.now ≡ true) }
-    ensures chosen { OnOk result (is_chosen amendment.now.chosen.now after.new ≡ true) }
+    ensures was_chosen { OnOk result (is_of_type amendment.now.chosen.now before.now ≡ true) }
+    ensures chosen { OnOk result (is_of_type amendment.now.chosen.now after.new ≡ true) }
 {
     let mut mistakes = Vec::new(alloc);
     take_values(alloc, named, amendment.settings, after, &mut mistakes)?;
@@ -232,15 +231,25 @@ fn note_types(
     after: &[u8],
     mistakes: &mut Vec<Mistake>,
 ) -> Result<(), AllocError>
-    ensures was_chosen { OnOk result (mistakes.new.items ≡ [] → is_chosen chosen.now before.now ≡ true) }
-    ensures chosen { OnOk result (mistakes.new.items ≡ [] → is_chosen chosen.now after.now ≡ true) }
+    ensures was_chosen { OnOk result (mistakes.new.items ≡ [] → is_of_type chosen.now before.now ≡ true) }
+    ensures chosen { OnOk result (mistakes.new.items ≡ [] → is_of_type chosen.now after.now ≡ true) }
     ensures before { OnOk result (mistakes.new.items ≡ [] → mistakes.old.items ≡ []) }
 {
-    if let Some(fault) = chosen.fault_in(before) {
+    if let Some(fault) = type_fault(chosen, before) {
         return note(mistakes, Mistake::OtherType(fault));
     }
-    match chosen.fault_in(after) {
+    match type_fault(chosen, after) {
         Some(fault) => note(mistakes, Mistake::LeavesType(fault)),
         None => Ok(()),
+    }
+}
+
+/// Why a record isn't of the chosen type. If no type is chosen, it is of none.
+fn type_fault(chosen: &ChosenRecords, bytes: &[u8]) -> Option<TypeFault>
+    ensures { IfNone result (is_of_type chosen.now bytes.now ≡ true) }
+{
+    match chosen {
+        ChosenRecords::All => Some(TypeFault::NoType),
+        ChosenRecords::OfType(..) => chosen.fault_in(bytes),
     }
 }

@@ -31,7 +31,7 @@ pub struct Amendment<'a> {
     pub name: Name,
     /// The fields of its records.
     pub layout: &'a Layout,
-    /// The type of the record.
+    /// The type of the record; of all records none is amended.
     pub chosen: &'a ChosenRecords,
     /// The record.
     pub which: Which<'a>,

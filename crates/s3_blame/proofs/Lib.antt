@@ -1,3 +1,4 @@
+pub mod OwnLemmas
 pub mod PartLemmas
 pub mod Shown
 pub mod SourceLemmas

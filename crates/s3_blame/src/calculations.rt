@@ -5,7 +5,8 @@ ghost use Rattle.s3_program.specs.Indications.{is_overflow_entry};
 ghost use Rattle.s3_program.specs.Places.{is_late as is_late_spec};
 ghost use Rattle.s3_sheets.specs.declared.kind.CardKind.TheVariants as kind;
 ghost use Rattle.s3_blame.specs.Inner.Entries.{entries_tested};
-ghost use Rattle.s3_blame.specs.Inner.Marks.{span, are_of};
+ghost use Rattle.s3_blame.specs.Inner.Marks.{fails, span, are_of};
+ghost use Rattle.s3_blame.specs.Inner.OwnMarks.{are_marked, marks_of_calculation};
 
 use crate::known::{Known, differences, is_date};
 use crate::parts::{Part, at_fault, entry, entry_alone};
@@ -29,7 +30,8 @@ pub fn calculation_entries(
     is_cut: bool,
     number: u8,
 ) -> Result<Vec<FaultyEntry>, AllocError>
-    ensures { IfOk result (λ found. are_of card number (entries_tested kind.Calculation number) found.items ≡ true) }
+    ensures of { IfOk result (λ found. are_of card number (entries_tested kind.Calculation number) found.items ≡ true) }
+    ensures own { IfOk result (λ found. are_marked card number (marks_of_calculation line.now number) found.items ≡ true) }
 {
     match number {
         5 => at_fault(alloc, card, number, &undefined_parts(known, line)),
@@ -143,7 +145,8 @@ fn is_overflow(indicator: Option<Indicator>) -> bool
 /// The entries of diagnostic 7: each overflow indicator.
 #[tactic(auto, using(crate::proofs::TableLemmas::calculation_7))]
 fn overflow_parts(line: &CalculationLine) -> [Part; 3]
-    ensures { map span result ≡ entries_tested kind.Calculation 7 }
+    ensures spans { map span result ≡ entries_tested kind.Calculation 7 }
+    ensures fails { map fails result ≡ map is_overflow_entry line.now.indicators }
 {
     let [first, second, third] = line.indicators;
     [

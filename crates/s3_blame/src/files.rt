@@ -1,8 +1,10 @@
 //! F cards: 6 and 12.
-ghost use Rattle.std.specs.Prelude.{◌≡◌, true, map, IfOk};
+ghost use Rattle.std.specs.Prelude.{◌≡◌, ◌∷◌, ◌||◌, [], true, map, IfOk};
+ghost use Rattle.s3_program.specs.FileTable.{is_card_file as is_card_spec, is_print_file as is_print_spec};
 ghost use Rattle.s3_sheets.specs.declared.kind.CardKind.TheVariants as kind;
 ghost use Rattle.s3_blame.specs.Inner.Entries.{entries_tested};
-ghost use Rattle.s3_blame.specs.Inner.Marks.{span, are_of};
+ghost use Rattle.s3_blame.specs.Inner.Marks.{fails, span, are_of};
+ghost use Rattle.s3_blame.specs.Inner.OwnMarks.{are_marked, marks_of_file, use_fails};
 
 use crate::parts::{Part, at_fault, entry};
 use s3_diagnose::files::{is_card_file, is_print_file};
@@ -13,7 +15,8 @@ use std::alloc::{AllocError, Global};
 /// The entries of diagnostic 6 on an F card: its name.
 #[tactic(auto, using(crate::proofs::TableLemmas::file_6))]
 fn name_part() -> [Part; 1]
-    ensures { map span result ≡ entries_tested kind.File 6 }
+    ensures value { map span result ≡ entries_tested kind.File 6 }
+    ensures fails { map fails result ≡ true ∷ [] }
 {
     [entry(7, 14, true)]
 }
@@ -22,7 +25,8 @@ fn name_part() -> [Part; 1]
 /// uses tests.
 #[tactic(auto, using(crate::proofs::TableLemmas::file_12))]
 fn use_parts(file: &FileLine) -> [Part; 6]
-    ensures { map span result ≡ entries_tested kind.File 12 }
+    ensures spans { map span result ≡ entries_tested kind.File 12 }
+    ensures fails { map fails result ≡ use_fails (is_card_spec file.now || is_print_spec file.now) }
 {
     let is_second = is_card_file(file) || is_print_file(file);
     [
@@ -42,7 +46,8 @@ pub fn file_entries(
     file: &FileLine,
     number: u8,
 ) -> Result<Vec<FaultyEntry>, AllocError>
-    ensures { IfOk result (λ found. are_of card number (entries_tested kind.File number) found.items ≡ true) }
+    ensures of { IfOk result (λ found. are_of card number (entries_tested kind.File number) found.items ≡ true) }
+    ensures own { IfOk result (λ found. are_marked card number (marks_of_file file.now number) found.items ≡ true) }
 {
     match number {
         6 => at_fault(alloc, card, number, &name_part()),

@@ -5,6 +5,7 @@ ghost use Rattle.s3_program.specs.Indications.{is_text_form};
 ghost use Rattle.s3_sheets.specs.declared.kind.CardKind.TheVariants as kind;
 ghost use Rattle.s3_blame.specs.Inner.Entries.{entries_tested, kind_of_input};
 ghost use Rattle.s3_blame.specs.Inner.Marks.{span, are_of};
+ghost use Rattle.s3_blame.specs.Inner.OwnMarks.{are_marked, marks_of_field, marks_of_input, marks_of_or, marks_of_record, marks_of_word};
 
 use crate::known::{Known, differences, is_date, shape_of_field};
 use crate::parts::{Part, at_fault, entry, entry_alone};
@@ -24,7 +25,8 @@ pub fn input_entries(
     line: &InputLine,
     number: u8,
 ) -> Result<Vec<FaultyEntry>, AllocError>
-    ensures { IfOk result (λ found. are_of card number (entries_tested (kind_of_input line.now) number) found.items ≡ true) }
+    ensures of { IfOk result (λ found. are_of card number (entries_tested (kind_of_input line.now) number) found.items ≡ true) }
+    ensures own { IfOk result (λ found. are_marked card number (marks_of_input line.now number) found.items ≡ true) }
 {
     match line {
         InputLine::Field(field) => field_entries(alloc, known, walk, card, field, number),
@@ -37,7 +39,8 @@ pub fn input_entries(
 /// The entries to blame for a number of a record line's card. 5, 12: its file. 11: its indicator.
 #[tactic(auto, using(crate::proofs::TableLemmas::record_5, crate::proofs::TableLemmas::record_11, crate::proofs::TableLemmas::record_12))]
 fn record_entries(alloc: Global, card: u16, number: u8) -> Result<Vec<FaultyEntry>, AllocError>
-    ensures { IfOk result (λ found. are_of card number (entries_tested kind.Record number) found.items ≡ true) }
+    ensures of { IfOk result (λ found. are_of card number (entries_tested kind.Record number) found.items ≡ true) }
+    ensures own { IfOk result (λ found. are_marked card number (marks_of_record number) found.items ≡ true) }
 {
     match number {
         5 => at_fault(alloc, card, number, &entry_alone(7, 14)),
@@ -50,7 +53,8 @@ fn record_entries(alloc: Global, card: u16, number: u8) -> Result<Vec<FaultyEntr
 /// The entries to blame for a number of an OR line's card. 9: the word. 11: its indicator.
 #[tactic(auto, using(crate::proofs::TableLemmas::or_9, crate::proofs::TableLemmas::or_11))]
 fn or_entries(alloc: Global, card: u16, number: u8) -> Result<Vec<FaultyEntry>, AllocError>
-    ensures { IfOk result (λ found. are_of card number (entries_tested kind.RecordOr number) found.items ≡ true) }
+    ensures of { IfOk result (λ found. are_of card number (entries_tested kind.RecordOr number) found.items ≡ true) }
+    ensures own { IfOk result (λ found. are_marked card number (marks_of_or number) found.items ≡ true) }
 {
     match number {
         9 => at_fault(alloc, card, number, &entry_alone(14, 16)),
@@ -62,7 +66,8 @@ fn or_entries(alloc: Global, card: u16, number: u8) -> Result<Vec<FaultyEntry>, 
 /// The entries to blame for a number of an AND line's card. 9: the word.
 #[tactic(auto, using(crate::proofs::TableLemmas::and_9))]
 fn and_entries(alloc: Global, card: u16, number: u8) -> Result<Vec<FaultyEntry>, AllocError>
-    ensures { IfOk result (λ found. are_of card number (entries_tested kind.RecordAnd number) found.items ≡ true) }
+    ensures of { IfOk result (λ found. are_of card number (entries_tested kind.RecordAnd number) found.items ≡ true) }
+    ensures own { IfOk result (λ found. are_marked card number (marks_of_word number) found.items ≡ true) }
 {
     match number {
         9 => at_fault(alloc, card, number, &entry_alone(14, 16)),
@@ -80,7 +85,8 @@ fn field_entries(
     field: &FieldLine,
     number: u8,
 ) -> Result<Vec<FaultyEntry>, AllocError>
-    ensures { IfOk result (λ found. are_of card number (entries_tested kind.Field number) found.items ≡ true) }
+    ensures of { IfOk result (λ found. are_of card number (entries_tested kind.Field number) found.items ≡ true) }
+    ensures own { IfOk result (λ found. are_marked card number (marks_of_field number) found.items ≡ true) }
 {
     match number {
         6 => at_fault(alloc, card, number, &shape_parts(known, field)),

@@ -5,7 +5,8 @@
 //! `compile`. For a diagnostic of a single card, `entries_of` is proved to give the entries of `faulty_entries` of `s3_sheets`,
 //! and `columns_of` their columns. For 5 to 12, each marked entry is proved to be one that the number's condition tests on cards
 //! of that kind (`AreTested`): two sources that differ only in this entry of one card have and don't have the number, as in
-//! `specs/Inner/Entries.antt`. Only tested: which of the tested entries are marked for 5 to 12.
+//! `specs/Inner/Entries.antt`. An entry is proved to be marked if its own card decides that, as each overflow indicator for 7
+//! (`specs/Inner/OwnMarks.antt`). Only tested: which entries are marked for 5 to 12 if other cards decide it.
 
 #![tactic(auto)]
 

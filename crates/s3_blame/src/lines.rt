@@ -1,8 +1,11 @@
 //! The entries to blame for 5 to 12.
-ghost use Rattle.std.specs.Prelude.{◌≡◌, true, IfOk, OnOk};
-ghost use Rattle.std.specs.List.{list_all};
+ghost use Rattle.std.specs.Prelude.{◌≡◌, ℕ, true, IfOk, OnOk};
+ghost use Rattle.std.specs.List.{All, list_all};
+ghost use Rattle.s3_lines.specs.Inner.Ascending.{cards_ascend};
+ghost use Rattle.s3_diagnose.specs.Inner.Order.{AreInOrder};
 ghost use Rattle.s3_blame.specs.Inner.Entries.{entries_on};
 ghost use Rattle.s3_blame.specs.Inner.Marks.{are_of, are_listed_on, is_listed};
+ghost use Rattle.s3_blame.specs.Inner.OwnMarks.{BeginsAt, HasAllMarks, HasMarks, MarksFirst, PassesLine};
 
 use crate::calculations::calculation_entries;
 use crate::files::file_entries;
@@ -25,7 +28,8 @@ fn line_entries(
     later: &[Line],
     number: u8,
 ) -> Result<Vec<FaultyEntry>, AllocError>
-    ensures { IfOk result (λ found. are_of line.now.card number (entries_on line.now.sheet number) found.items ≡ true) }
+    ensures of { IfOk result (λ found. are_of line.now.card number (entries_on line.now.sheet number) found.items ≡ true) }
+    ensures own { IfOk result (λ found. HasMarks line.now found.items number) }
 {
     match &line.sheet {
         SheetLine::Header(_) => Ok(Vec::new(alloc)),
@@ -49,15 +53,20 @@ fn line_entries(
 }
 
 /// The diagnostics of a list from the first on that isn't of a card before this one.
-fn from_card(told: &[Diagnostic], card: u16) -> &[Diagnostic] {
-    let before = told
-        .iter()
-        .take_while(|diagnostic| diagnostic.card < card)
-        .count();
-    told.get(before..).unwrap_or(&[])
+#[tactic(auto, using(crate::proofs::OwnLemmas::begins_here, crate::proofs::OwnLemmas::begins_nowhere))]
+fn from_card(told: &[Diagnostic], card: u16) -> &[Diagnostic]
+    ensures { BeginsAt card told.now result.now }
+{
+    for (place, diagnostic) in told.iter().enumerate() {
+        if diagnostic.card >= card {
+            return &told[place..];
+        }
+    }
+    &[]
 }
 
 /// The entries to blame for the diagnostics of a line's card. They come before the entries of the cards after it.
+#[tactic(auto, using(crate::proofs::OwnLemmas::none_so_far, crate::proofs::OwnLemmas::ends_at_other, crate::proofs::OwnLemmas::ends_with_all))]
 fn entries_of_card(
     alloc: Global,
     known: &Known,
@@ -66,7 +75,8 @@ fn entries_of_card(
     later: &[Line],
     told: &[Diagnostic],
 ) -> Result<Vec<FaultyEntry>, AllocError>
-    ensures { IfOk result (λ found. are_listed_on line.now found.items ≡ true) }
+    ensures listed { IfOk result (λ found. are_listed_on line.now found.items ≡ true) }
+    ensures first { IfOk result (λ found. MarksFirst line.now told.now found.items) }
 {
     let mut found = Vec::new(alloc);
     for diagnostic in told {
@@ -90,7 +100,8 @@ fn pass_line(
     told: &[Diagnostic],
     found: &mut Vec<FaultyEntry>,
 ) -> Result<(), AllocError>
-    ensures { OnOk result (list_all (is_listed lines.now) found.old.items ≡ true → list_all (is_listed lines.now) found.new.items ≡ true) }
+    ensures listed { OnOk result (list_all (is_listed lines.now) found.old.items ≡ true → list_all (is_listed lines.now) found.new.items ≡ true) }
+    ensures passes { OnOk result (PassesLine lines.now place told.now found.old.items found.new.items) }
 {
     let Some(line) = lines.get(place) else {
         return Ok(());
@@ -102,13 +113,15 @@ fn pass_line(
 }
 
 /// The entries to blame for diagnostics of lines, given what the lines define.
+#[tactic(auto, using(crate::proofs::OwnLemmas::none_passed, crate::proofs::OwnLemmas::one_more_passed, crate::proofs::OwnLemmas::all_passed))]
 fn entries_of_lines(
     alloc: Global,
     known: &Known,
     lines: &[Line],
     told: &[Diagnostic],
 ) -> Result<Vec<FaultyEntry>, AllocError>
-    ensures { IfOk result (λ found. list_all (is_listed lines.now) found.items ≡ true) }
+    ensures listed { IfOk result (λ found. list_all (is_listed lines.now) found.items ≡ true) }
+    ensures marked { IfOk result (λ found. AreInOrder told.now → (from : ℕ) → cards_ascend from lines.now ≡ true → All (HasAllMarks told.now found.items) lines.now) }
 {
     let mut walk = Walk::new(alloc);
     let mut found = Vec::new(alloc);
@@ -126,7 +139,8 @@ pub fn later_entries(
     lines: &[Line],
     told: &[Diagnostic],
 ) -> Result<Vec<FaultyEntry>, AllocError>
-    ensures { IfOk result (λ found. list_all (is_listed lines.now) found.items ≡ true) }
+    ensures listed { IfOk result (λ found. list_all (is_listed lines.now) found.items ≡ true) }
+    ensures marked { IfOk result (λ found. AreInOrder told.now → (from : ℕ) → cards_ascend from lines.now ≡ true → All (HasAllMarks told.now found.items) lines.now) }
 {
     let known = Known::of(alloc, lines)?;
     entries_of_lines(alloc, &known, lines, told)

@@ -4,6 +4,7 @@ ghost use Rattle.std.specs.Prelude.{◌≡◌, true, map, IfOk};
 ghost use Rattle.s3_sheets.specs.declared.kind.CardKind.TheVariants as kind;
 ghost use Rattle.s3_blame.specs.Inner.Entries.{entries_tested, kind_of_output};
 ghost use Rattle.s3_blame.specs.Inner.Marks.{span, are_of};
+ghost use Rattle.s3_blame.specs.Inner.OwnMarks.{are_marked, marks_of_output, marks_of_output_field, marks_of_output_line, marks_of_word};
 
 use crate::known::Known;
 use crate::parts::{Part, at_fault, entry, entry_alone};
@@ -23,7 +24,8 @@ pub fn output_entries(
     line: &OutputLine,
     number: u8,
 ) -> Result<Vec<FaultyEntry>, AllocError>
-    ensures { IfOk result (λ found. are_of card number (entries_tested (kind_of_output line.now) number) found.items ≡ true) }
+    ensures of { IfOk result (λ found. are_of card number (entries_tested (kind_of_output line.now) number) found.items ≡ true) }
+    ensures own { IfOk result (λ found. are_marked card number (marks_of_output line.now number) found.items ≡ true) }
 {
     match line {
         OutputLine::Line(first) => line_entries(alloc, known, walk, card, first, number),
@@ -38,6 +40,7 @@ pub fn output_entries(
 fn word_entries(alloc: Global, card: u16, number: u8) -> Result<Vec<FaultyEntry>, AllocError>
     ensures and { IfOk result (λ found. are_of card number (entries_tested kind.OutputAnd number) found.items ≡ true) }
     ensures or { IfOk result (λ found. are_of card number (entries_tested kind.OutputOr number) found.items ≡ true) }
+    ensures own { IfOk result (λ found. are_marked card number (marks_of_word number) found.items ≡ true) }
 {
     match number {
         9 => at_fault(alloc, card, number, &entry_alone(14, 16)),
@@ -56,7 +59,8 @@ fn line_entries(
     line: &OutputCard,
     number: u8,
 ) -> Result<Vec<FaultyEntry>, AllocError>
-    ensures { IfOk result (λ found. are_of card number (entries_tested kind.OutputLine number) found.items ≡ true) }
+    ensures of { IfOk result (λ found. are_of card number (entries_tested kind.OutputLine number) found.items ≡ true) }
+    ensures own { IfOk result (λ found. are_marked card number (marks_of_output_line number) found.items ≡ true) }
 {
     match number {
         5 => at_fault(alloc, card, number, &entry_alone(7, 14)),
@@ -114,7 +118,8 @@ fn field_entries(
     field: &OutputField,
     number: u8,
 ) -> Result<Vec<FaultyEntry>, AllocError>
-    ensures { IfOk result (λ found. are_of card number (entries_tested kind.OutputField number) found.items ≡ true) }
+    ensures of { IfOk result (λ found. are_of card number (entries_tested kind.OutputField number) found.items ≡ true) }
+    ensures own { IfOk result (λ found. are_marked card number (marks_of_output_field number) found.items ≡ true) }
 {
     match number {
         5 => at_fault(alloc, card, number, &entry_alone(32, 37)),

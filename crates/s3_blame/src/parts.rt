@@ -1,6 +1,7 @@
 //! The entries that the condition of a number tests on a card.
 ghost use Rattle.std.specs.Prelude.{◌≡◌, true, [], ◌∷◌, map, filter, IfOk};
 ghost use Rattle.s3_blame.specs.Inner.Marks.{span, fails, entry_of, are_of};
+ghost use Rattle.s3_blame.specs.Inner.OwnMarks.{are_marked, chosen};
 
 use s3_sheets::FaultyEntry;
 use std::alloc::{AllocError, Global};
@@ -31,7 +32,8 @@ pub fn entry(from: usize, to: usize, is_at_fault: bool) -> Part
 
 /// The entry of a number that blames one entry alone.
 pub fn entry_alone(from: usize, to: usize) -> [Part; 1]
-    ensures { map span result ≡ (from, to) ∷ [] }
+    ensures spans { map span result ≡ (from, to) ∷ [] }
+    ensures fails { map fails result ≡ true ∷ [] }
 {
     [entry(from, to, true)]
 }
@@ -59,7 +61,7 @@ fn entries_of_parts(
 
 /// The entries to blame for a number of a card: those that its condition tests and that are in error. Refused only if memory runs
 /// out.
-#[tactic(auto, using(crate::proofs::PartLemmas::at_fault_are_parts))]
+#[tactic(auto, using(crate::proofs::PartLemmas::at_fault_are_parts, crate::proofs::OwnLemmas::at_fault_are_marked))]
 pub fn at_fault(
     alloc: Global,
     card: u16,
@@ -68,6 +70,7 @@ pub fn at_fault(
 ) -> Result<Vec<FaultyEntry>, AllocError>
     ensures value { IfOk result (λ found. found.items ≡ map (entry_of card number) (filter fails parts.now)) }
     ensures among { IfOk result (λ found. are_of card number (map span parts.now) found.items ≡ true) }
+    ensures marked { IfOk result (λ found. are_marked card number (chosen (map fails parts.now) (map span parts.now)) found.items ≡ true) }
 {
     let found = entries_of_parts(alloc, card, number, parts)?;
     Ok(found)

@@ -74,7 +74,7 @@ shown_held (Packed d c) bytes k h = packed_held bytes (packed_form d (length byt
 pub shown_again : (kind : FieldKind) (bytes : List ℕ) → is_kind_of kind (length bytes) ≡ true → is_shown_in kind bytes ≡ true → IsAsWritten kind bytes → bytes_of kind (length bytes) (value_in kind bytes) ≡ bytes
 shown_again (TextKind c) bytes k h written = text_again bytes h
 shown_again (Zoned d c) bytes k h written = sym written
-shown_again (Date f) bytes k h written = date_again f bytes h
+shown_again (Date f) bytes k h written = date_again f bytes h written
 shown_again (Packed d c) bytes k h written = sym written
 
 -- ---- cells

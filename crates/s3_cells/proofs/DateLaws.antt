@@ -6,7 +6,7 @@ use Rattle.std.specs.Bool.{◌==◌}
 use Rattle.std.specs.List.{list_all}
 use Rattle.std.proofs.lemmas.Bool.{and_parts, cases_Bool, eqb-true, leb-true, ne_eqb}
 use Rattle.s3_cards.specs.Codes.{code_page, ebcdic, host_of, shown_byte}
-use Rattle.s3_cells.specs.Inner.Dates.{date_bytes, date_in, date_of, date_read, date_text, has_form, has_no_date, is_date, is_date_or_none, is_day, none_of, two, two_at}
+use Rattle.s3_cells.specs.Inner.Dates.{IsDateAsWritten, are_all, date_bytes, date_in, date_of, date_read, date_text, has_form, has_no_date, is_date, is_date_or_none, is_day, none_of, two, two_at}
 use Rattle.s3_cells.specs.Inner.Numbers.{is_digit}
 use Rattle.s3_cells.specs.Inner.Texts.{has_code, trimmed}
 use Rattle.s3_cells.specs.Inner.Values.{Characters, IsTidy, Value}
@@ -138,13 +138,25 @@ not_none form text h = elim (cases_Bool (has_no_date form (ebcdic text))) [
     date : IsDate text
     date = dated text h
 
-    clash : (form : DateField) → has_no_date form (ebcdic text) ≡ true → ⊥
-    clash TextDate none =
+    blank : are_all 64 (ebcdic text) ≡ true → ⊥
+    blank none =
         let two_of = first_two 64 text date none in
         both (is_digit date.a) (and_parts _ _ date.digits).0 (ap is_digit (sym two_of.0 ∙ blank_shown))
-    clash NumberDate none =
+
+    zeros : are_all 240 (ebcdic text) ≡ true → ⊥
+    zeros none =
         let two_of = first_two 240 text date none in
         both (is_day (two date.a date.b) (two date.c date.d) (two date.e date.f)) date.day (no_month date.a date.b date.c date.d date.e date.f (sym zero_shown ∙ two_of.0) (sym zero_shown ∙ two_of.1))
+
+    written : (form : DateField) → are_all (none_of form) (ebcdic text) ≡ true → ⊥
+    written TextDate none = blank none
+    written NumberDate none = zeros none
+
+    clash : (form : DateField) → has_no_date form (ebcdic text) ≡ true → ⊥
+    clash form none = elim (or_cases (are_all (none_of form) (ebcdic text)) (are_all 64 (ebcdic text)) none) [
+      | inl as_written ↦ written form as_written
+      | inr as_blank ↦ blank as_blank
+    ]
 
 -- ---- from a date to its bytes and back
 pub some_bytes : (form : DateField) (width : ℕ) (text : List ℕ) → is_date text ≡ true → date_bytes form width text ≡ ebcdic text
@@ -156,7 +168,7 @@ date_codes_back text h = let date = dated text h in codes_back text (digits_have
 pub date_shown : (form : DateField) (width : ℕ) (text : List ℕ) → ((length text == 0) ≡ true) ⊎ (is_date text ≡ true) → (has_no_date form (date_bytes form width text) || is_date (map shown_byte (date_bytes form width text))) ≡ true
 date_shown form width text (inl none) =
     ap (λ t. has_no_date form (date_bytes form width t) || is_date (map shown_byte (date_bytes form width t))) (nothing_in text none)
-    ∙ ap (λ p. p || is_date (map shown_byte (replicate width (none_of form)))) (none_written (none_of form) width)
+    ∙ ap (λ p. (p || are_all 64 (replicate width (none_of form))) || is_date (map shown_byte (replicate width (none_of form)))) (none_written (none_of form) width)
 date_shown form width text (inr some) =
     or_right (has_no_date form (date_bytes form width text)) (is_date (map shown_byte (date_bytes form width text)))
     (ap (λ bytes. is_date (map shown_byte bytes)) (some_bytes form width text some) ∙ ap is_date (date_codes_back text some) ∙ some)
@@ -164,7 +176,7 @@ date_shown form width text (inr some) =
 pub date_back : (form : DateField) (width : ℕ) (text : List ℕ) → ((length text == 0) ≡ true) ⊎ (is_date text ≡ true) → date_in form (date_bytes form width text) ≡ text
 date_back form width text (inl none) =
     ap (λ t. date_in form (date_bytes form width t)) (nothing_in text none)
-    ∙ ap (λ p. cond p [] (map shown_byte (replicate width (none_of form)))) (none_written (none_of form) width) ∙ sym (nothing_in text none)
+    ∙ ap (λ p. cond (p || are_all 64 (replicate width (none_of form))) [] (map shown_byte (replicate width (none_of form)))) (none_written (none_of form) width) ∙ sym (nothing_in text none)
 date_back form width text (inr some) =
     ap (date_in form) (some_bytes form width text some) ∙ ap (λ p. cond p [] (map shown_byte (ebcdic text))) (not_none form text some) ∙ date_codes_back text some
 
@@ -176,14 +188,19 @@ in_bytes bytes false h = or_right (length (map shown_byte bytes) == 0) (is_date 
 pub date_held : (form : DateField) (bytes : List ℕ) → (has_no_date form bytes || is_date (map shown_byte bytes)) ≡ true → is_date_or_none (date_in form bytes) ≡ true
 date_held form bytes h = in_bytes bytes (has_no_date form bytes) h
 
-bytes_again : (form : DateField) (bytes : List ℕ) (none : Bool) → has_no_date form bytes ≡ none → (none || is_date (map shown_byte bytes)) ≡ true → date_bytes form (length bytes) (cond none [] (map shown_byte bytes)) ≡ bytes
-bytes_again form bytes true is h = none_again (none_of form) bytes is
-bytes_again form bytes false is h =
+none_of_again : (form : DateField) (bytes : List ℕ) → IsDateAsWritten form bytes → (are_all (none_of form) bytes ≡ true) ⊎ (are_all 64 bytes ≡ true) → replicate (length bytes) (none_of form) ≡ bytes
+none_of_again form bytes written (inl zeros) = none_again (none_of form) bytes zeros
+none_of_again TextDate bytes written (inr blank) = none_again 64 bytes blank
+none_of_again NumberDate bytes written (inr blank) = absurd (both (are_all 64 bytes) blank written)
+
+bytes_again : (form : DateField) (bytes : List ℕ) (none : Bool) → IsDateAsWritten form bytes → has_no_date form bytes ≡ none → (none || is_date (map shown_byte bytes)) ≡ true → date_bytes form (length bytes) (cond none [] (map shown_byte bytes)) ≡ bytes
+bytes_again form bytes true written is h = none_of_again form bytes written (or_cases (are_all (none_of form) bytes) (are_all 64 bytes) is)
+bytes_again form bytes false written is h =
     let date = dated (map shown_byte bytes) h in
     some_bytes form (length bytes) (map shown_byte bytes) h ∙ codes_again bytes (ap (list_all is_digit) date.is ∙ date.digits)
 
-pub date_again : (form : DateField) (bytes : List ℕ) → (has_no_date form bytes || is_date (map shown_byte bytes)) ≡ true → date_bytes form (length bytes) (date_in form bytes) ≡ bytes
-date_again form bytes h = bytes_again form bytes (has_no_date form bytes) refl h
+pub date_again : (form : DateField) (bytes : List ℕ) → (has_no_date form bytes || is_date (map shown_byte bytes)) ≡ true → IsDateAsWritten form bytes → date_bytes form (length bytes) (date_in form bytes) ≡ bytes
+date_again form bytes h written = bytes_again form bytes (has_no_date form bytes) written refl h
 
 -- ---- cells
 pub date_cell : (text : List ℕ) → ((length text == 0) ≡ true) ⊎ (is_date text ≡ true) → date_read (date_text text) ≡ Some text

@@ -4,7 +4,7 @@ use Rattle.std.specs.List.{All}
 use Rattle.std.proofs.lemmas.List.{map-append, take_more}
 use Rattle.std.proofs.lemmas.List.Elements.{All-get_or}
 use Rattle.s3_cells.specs.Inner.Fields.{LiesIn}
-use Rattle.s3_cells.specs.Inner.Styles.{form_of, form_styled}
+use Rattle.s3_cells.specs.Inner.Styles.{form_styled}
 use Rattle.s3_cells.specs.declared.field.Field.{Field}
 use Rattle.s3_cells.specs.declared.styles.CellStyle.{CellStyle}
 

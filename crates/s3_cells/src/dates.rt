@@ -1,7 +1,7 @@
 //! Dates: six digits MMDDYY in a record, YYYY-MM-DD in a cell. The years are 1900 to 1999. A field without a date is an empty cell.
 ghost use Rattle.std.specs.Prelude.{◌≡◌, ◌==◌, ◌++◌, true, length, map, ◌<◌, OnOk, OnErr, IfErr};
 ghost use Rattle.s3_cards.specs.Codes.{shown_byte};
-ghost use Rattle.s3_cells.specs.Inner.Dates.{date_read as date_read_spec, date_text, date_of as date_of_spec, days_in as days_in_spec, has_form as has_form_spec, has_no_date, is_date as is_date_spec, is_day as is_day_spec, none_of, two};
+ghost use Rattle.s3_cells.specs.Inner.Dates.{are_all as are_all_spec, date_read as date_read_spec, date_text, date_of as date_of_spec, days_in as days_in_spec, has_form as has_form_spec, has_no_date, is_date as is_date_spec, is_day as is_day_spec, none_of, two};
 ghost use Rattle.s3_cells.specs.Inner.Refusals.{IsHidden};
 ghost use Rattle.s3_cells.specs.Inner.Values.{GetsValue, SaysNone, cell_text, is_kind_of, is_shown_in, value_in};
 ghost use Rattle.s3_cells.specs.declared.kind.FieldKind.TheVariants.{Date as DateKind};
@@ -18,11 +18,11 @@ use std::alloc::AllocError;
 pub enum DateField {
     /// A text of six characters: without a date it is blank.
     Text,
-    /// A zoned number of six digits: without a date it is 0.
+    /// A zoned number of six digits: without a date it is 0, or blank.
     Number,
 }
 
-/// The byte of a field without a date.
+/// The byte that is written into a field without a date.
 fn none(form: DateField) -> u8
     ensures { result ≡ none_of form }
 {
@@ -32,12 +32,18 @@ fn none(form: DateField) -> u8
     }
 }
 
-/// Whether a field has no date.
+/// Whether all bytes are this one.
+fn are_all(byte: u8, bytes: &[u8]) -> bool
+    ensures { result ≡ are_all_spec byte bytes.now }
+{
+    bytes.iter().all(|other| *other == byte)
+}
+
+/// Whether a field has no date. A blank number has none: the machine reads it as 0.
 fn is_none(form: DateField, bytes: &[u8]) -> bool
     ensures { result ≡ has_no_date form bytes.now }
 {
-    let byte = none(form);
-    bytes.iter().all(|other| *other == byte)
+    are_all(none(form), bytes) || are_all(BLANK, bytes)
 }
 
 /// The number of two digits.

@@ -9,7 +9,8 @@ pub fn what_is_taken_is_shown()
     ensures value { (kind : Kind) (width : ℕ) (value : Value) → is_kind_of kind width ≡ true → is_held kind width value ≡ true → IsTidy value → value_in kind (bytes_of kind width value) ≡ value }
 {}
 
-/// Bytes whose value can be shown are the bytes of that value, if a number is in the form in which the machine writes it.
+/// Bytes whose value can be shown are the bytes of that value, if a number is in the form in which the machine writes it, and a date that
+/// is a number isn't blank.
 pub fn what_is_shown_is_taken()
     ensures held { (kind : Kind) (bytes : List ℕ) → is_kind_of kind (length bytes) ≡ true → is_shown_in kind bytes ≡ true → is_held kind (length bytes) (value_in kind bytes) ≡ true }
     ensures bytes { (kind : Kind) (bytes : List ℕ) → is_kind_of kind (length bytes) ≡ true → is_shown_in kind bytes ≡ true → IsAsWritten kind bytes → bytes_of kind (length bytes) (value_in kind bytes) ≡ bytes }

@@ -6,10 +6,12 @@
 
 mod defaults;
 mod faults;
+mod inputs;
 mod program;
 mod words;
 
 pub use defaults::new_pack;
 pub use faults::{FILE, OUT_OF_MEMORY};
+pub use inputs::input_conflict;
 pub use program::{ABOUT, VERSION};
 pub use words::{command, command_of, commands, names_standard_error, option_without_name};

@@ -10,7 +10,7 @@ use s3_data_commands::load::LOAD;
 use s3_data_commands::sort::SORT;
 use s3_data_commands::unload::UNLOAD;
 use s3_data_commands::words::{AGAIN, JOURNAL as JOURNAL_FILE, JSON, PACK, SAVE};
-use s3_host_files::{is_input_standard_error, is_standard_error};
+use s3_host_files::{is_input, is_input_standard_error, is_standard_error};
 use s3_pack_commands::amend::AMEND;
 use s3_pack_commands::dump::{DUMP, RESTORE};
 use s3_paper_commands::status::{
@@ -18,7 +18,7 @@ use s3_paper_commands::status::{
     PERSON_NEEDED, REFUSED,
 };
 use s3_paper_commands::words::{Choice, CommandWords, Example, Status, Takes, Word};
-use s3_paper_commands::{COMPILE, ENTRIES, PUNCH, STANDARD_INPUT};
+use s3_paper_commands::{COMPILE, ENTRIES, PUNCH};
 use std::alloc::{AllocError, Global};
 
 /// How many lines of a level may be queued in a new pack, by default.
@@ -224,6 +224,22 @@ const FORM_LOOKS: &'static [Choice] = &[
     },
 ];
 
+/// The statuses of a day that may become 0.
+const EXIT_ZERO: &'static [Choice] = &[
+    Choice {
+        name: "5",
+        help: "Of status 5: a job was passed over or ended by a reply",
+    },
+    Choice {
+        name: "4",
+        help: "Of status 4: a level isn't done",
+    },
+    Choice {
+        name: "4,5",
+        help: "Of both",
+    },
+];
+
 /// `bureau operate` and its options.
 const OPERATE: CommandWords = CommandWords {
     name: "operate",
@@ -280,7 +296,7 @@ const OPERATE: CommandWords = CommandWords {
         Word {
             name: "deck1",
             takes: Takes::Files,
-            help: "The deck of level 1; several files are one deck, and those that end in .rpg or .punch are plain text",
+            help: "The deck of level 1; several files are one deck, and those that end in .rpg or .punch are plain text; - is standard input, as for --deck2, --pack and --redo",
         },
         Word {
             name: "deck2",
@@ -399,8 +415,8 @@ const OPERATE: CommandWords = CommandWords {
         },
         Word {
             name: "exit-zero",
-            takes: Takes::Value("STATUS"),
-            help: "Ends with status 0 in place of 5, 4, or both as 4,5; log and journal keep the status of the day",
+            takes: Takes::OneOf("STATUS", EXIT_ZERO),
+            help: "Ends with status 0 in place of another; log and journal keep the status of the day",
         },
         Word {
             name: "overwrite",
@@ -661,7 +677,7 @@ fn is_error_value(rt: &HostRuntime, name: Option<&str>) -> bool {
 
 /// Whether a name leads to the file of standard error, or means standard input, which is that file.
 fn is_error_name(rt: &HostRuntime, name: &str) -> bool {
-    if name == STANDARD_INPUT {
+    if is_input(name) {
         is_input_standard_error(rt)
     } else {
         is_standard_error(rt, name)

@@ -60,15 +60,9 @@ fn numbers_of(
     matches: &ArgMatches<'_>,
     thousands: Option<&str>,
 ) -> Result<NumberCells, Fault> {
-    let decimal = match matches.get_str("decimal").unwrap_or(".") {
-        "." => DecimalMark::Point,
-        "," => DecimalMark::Comma,
-        _ => {
-            return Err(wrong_words(
-                rt.alloc(),
-                "the mark before the decimals is a point or a comma; give --decimal . or --decimal ,",
-            ));
-        }
+    let decimal = match matches.get_str("decimal") {
+        Some(",") => DecimalMark::Comma,
+        _ => DecimalMark::Point,
     };
     Ok(NumberCells {
         decimal,
@@ -76,7 +70,7 @@ fn numbers_of(
     })
 }
 
-/// What a cell may have between thousands.
+/// What a cell may have between thousands, which is one of `THOUSANDS`. Refused for the mark before the decimals.
 fn thousands_of(
     rt: &HostRuntime,
     decimal: DecimalMark,
@@ -89,13 +83,9 @@ fn thousands_of(
         }
         (Some(" "), _) => Ok(Thousands::Blank),
         (Some("'"), _) => Ok(Thousands::Apostrophe),
-        (Some("." | ","), _) => Err(wrong_words(
+        (Some(_), _) => Err(wrong_words(
             rt.alloc(),
             "the mark between thousands is the one before the decimals too; give --decimal , with --thousands . or --thousands , alone",
-        )),
-        _ => Err(wrong_words(
-            rt.alloc(),
-            "the mark between thousands is a point, a comma, a blank or an apostrophe",
         )),
     }
 }

@@ -7,7 +7,7 @@ use crate::pack_words::{mount_words, pack_of, refused};
 use crate::sentences::output_sentence;
 use crate::words::{JSON, PACK};
 use clap::ArgMatches;
-use s3_host_files::StandardOutput;
+use s3_host_files::{StandardOutput, shown_name};
 use s3_pack_check::{CheckFault, Wrong, check_pack, push_cause};
 use s3_paper_commands::status::{DONE, FILE_WRONG, OPTIONS_WRONG, PERSON_NEEDED, REFUSED};
 use s3_paper_commands::words::{CommandWords, Example, Status, value_of};
@@ -98,7 +98,7 @@ fn waiting_sentence(alloc: Global, path: &str, count: usize) -> Result<String, A
         1 => ("slot", "needs"),
         _ => ("slots", "need"),
     };
-    let path = Shown(path);
+    let path = Shown(shown_name(path));
     format!(in alloc;
         "{count} {slots} of {path} {need} a person: put back the bytes of a label that are known, or free its slot by `bureau delete --slot`, and load a file again whose index is wrong"
     )

@@ -32,7 +32,7 @@ pub const COPY: CommandWords = CommandWords {
         Word {
             name: "pack",
             takes: Takes::Needed("FILE"),
-            help: "The pack that has the file",
+            help: "The pack that has the file; - is standard input, as for --into",
         },
         AREA,
         LABEL,
@@ -133,7 +133,8 @@ fn copy_file(rt: &HostRuntime, matches: &ArgMatches<'_>) -> Result<(), Fault> {
         work: Work::Copy,
     };
     let saved = saved(rt, matches, order.save, save, &pack)?;
-    tell_done(rt, copied_sentence(rt.alloc(), order), saved)
+    tell_done(rt, copied_sentence(rt.alloc(), order), saved);
+    Ok(())
 }
 
 /// The pack that gets the copy, with it.

@@ -89,7 +89,8 @@ fn delete_file(rt: &HostRuntime, matches: &ArgMatches<'_>) -> Result<(), Fault> 
         rt,
         deleted_sentence(rt.alloc(), matches, area, save, freed),
         saved,
-    )
+    );
+    Ok(())
 }
 
 /// The file of the slot that is to be freed, if its label is valid.

@@ -2,10 +2,10 @@
 ghost use Rattle.std.specs.Prelude.{◌≤◌};
 
 use crate::filled::push_shown_name;
-use s3_host_files::{FileFault, Hindrance, StandardStream};
+use s3_host_files::{FileFault, Hindrance, StandardStream, shown_name};
 use s3_journal_files::JournalRefusal;
 use s3_paper_commands::status::{FILE_FAILED, PERSON_NEEDED, REFUSED, WRONG_WORDS};
-use s3_refusals::{Reason, Shown, call_words};
+use s3_refusals::{Reason, Shown, call_words, tell_holder};
 use std::alloc::{AllocError, AllocFailed, Global};
 use std::io;
 use std::io::{ErrorKind, Write};
@@ -40,6 +40,16 @@ impl From<AllocError> for Fault {
 impl<T: Drop> From<AllocFailed<T>> for Fault {
     fn from(_: AllocFailed<T>) -> Fault {
         Fault::NoMemory
+    }
+}
+
+impl Use {
+    /// What messages call a file of this use.
+    fn shown(self, path: &str) -> &str {
+        match self {
+            Use::Reads => shown_name(path),
+            Use::Saves => path,
+        }
     }
 }
 
@@ -92,7 +102,7 @@ fn push_call(
     error: &io::Error,
     path: &str,
 ) -> Result<(), AllocError> {
-    push_shown_name(text, path)?;
+    push_shown_name(text, used.shown(path))?;
     text.push_str(match used {
         Use::Reads => " can't be read: ",
         Use::Saves => " can't be saved: ",
@@ -130,12 +140,16 @@ pub fn of_journal(rt: &HostRuntime, refusal: &JournalRefusal<'_>) -> Fault {
 
 /// What a failed call on the file of a pack is.
 pub fn of_pack(rt: &HostRuntime, used: Use, fault: &FileFault, path: &str) -> Fault {
+    let path = used.shown(path);
     let shown = Shown(path);
     match fault {
         FileFault::Call(error) => of_call(rt, used, error, path),
-        FileFault::InUse => refused_or_memory(format!(in rt.alloc();
-            "the pack {shown} is in use by another command; try again when that is done"
-        )),
+        FileFault::InUse => {
+            tell_holder(rt, path);
+            refused_or_memory(format!(in rt.alloc();
+                "the pack {shown} is in use by another command; try again when that is done"
+            ))
+        }
         FileFault::Exists => refused_or_memory(format!(in rt.alloc();
             "{shown} is there already; give another name, or --overwrite to write over it"
         )),

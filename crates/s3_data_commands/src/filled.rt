@@ -2,13 +2,14 @@
 //! choose among such sentences takes no memory, so a function that chooses one of many can't fail before its end.
 
 use s3_cards::{Name, host_byte, word_len};
+use s3_host_files::shown_name;
 use s3_refusals::Shown;
 use std::alloc::{AllocError, Global};
 
 /// The values that a sentence can name.
 #[derive(Clone, Copy)]
 pub struct Words<'a> {
-    /// `{path}`: the file of a pack, or of the deck that has a layout.
+    /// `{path}`: the file of a pack, or of the deck that has a layout; `-` is standard input. `{given}`: the same as it was given.
     path: &'a str,
     /// `{area}`: 0 for the masters, 1 or 2 for a level.
     area: u16,
@@ -78,7 +79,8 @@ impl<'a> Words<'a> {
     /// Appends the value of a name.
     fn push_value(self, text: &mut String, name: &str) -> Result<(), AllocError> {
         match name {
-            "path" => push_shown_name(text, self.path),
+            "path" => push_shown_name(text, shown_name(self.path)),
+            "given" => push_shown_name(text, self.path),
             "area" => push_number(text, u64::from(self.area)),
             "label" => push_shown_name(text, self.label),
             "number" => push_number(text, self.number),

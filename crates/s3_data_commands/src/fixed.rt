@@ -10,12 +10,12 @@ use s3_layout::SourceLayout;
 use s3_load::{LoadFault, Reason, ValueFault};
 use s3_paper_commands::words::{Choice, Takes, Word};
 use s3_record_types::ChosenRecords;
-use s3_refusals::{Shown, wide_text};
+use s3_refusals::wide_text;
 use s3_unload::{FixedForm, UnloadFault};
 use std::alloc::{AllocError, Global};
 
 /// The longest record of a pack.
-const LONGEST_RECORD: u16 = 1_024;
+const LONGEST_RECORD: u32 = 1_024;
 
 /// Bytes as the form of records.
 pub const AS_EBCDIC: Choice = Choice {
@@ -39,8 +39,8 @@ pub const LINE_FEEDS: Word = Word {
 /// The record length if no layout is given.
 pub const RECORD_LENGTH: Word = Word {
     name: "record-length",
-    takes: Takes::Value("N"),
-    help: "The record length in place of a layout, 1 to 1024: a file without a key; needs --as ebcdic or ascii",
+    takes: Takes::Number("N", 1, LONGEST_RECORD),
+    help: "The record length in place of a layout: a file without a key; needs --as ebcdic or ascii",
 };
 
 /// The form of records of a fixed length that the options ask for; none for another form.
@@ -100,7 +100,7 @@ pub fn refuse_loaded_cells(rt: &HostRuntime, matches: &ArgMatches<'_>) -> Result
 
 /// The layout of records of the length that the options give, without fields and without a key.
 pub fn layout_of_length(rt: &HostRuntime, matches: &ArgMatches<'_>) -> Result<SourceLayout, Fault> {
-    let Some(text) = matches.get_str("record-length") else {
+    let Some(length) = record_length(matches) else {
         return Err(wrong_words(
             rt.alloc(),
             "load needs a layout; name a deck with the source by --layout, or with --as ebcdic or --as ascii give --record-length",
@@ -108,7 +108,7 @@ pub fn layout_of_length(rt: &HostRuntime, matches: &ArgMatches<'_>) -> Result<So
     };
     Ok(SourceLayout {
         layout: Layout {
-            record_length: length_in(rt, text)?,
+            record_length: length,
             fields: Vec::new(rt.alloc()),
         },
         key: None,
@@ -116,23 +116,10 @@ pub fn layout_of_length(rt: &HostRuntime, matches: &ArgMatches<'_>) -> Result<So
     })
 }
 
-/// The record length that a text gives.
-fn length_in(rt: &HostRuntime, text: &str) -> Result<u16, Fault> {
-    match text.parse::<u16>() {
-        Ok(length) if 1 <= length && length <= LONGEST_RECORD => Ok(length),
-        _ => Err(no_length(rt.alloc(), text)),
-    }
-}
-
-/// The refusal of a text that is no record length.
-fn no_length(alloc: Global, text: &str) -> Fault {
-    let text = Shown(text);
-    match format!(in alloc;
-        "--record-length {text} is no record length; give the bytes of a record, a number from 1 to 1024"
-    ) {
-        Ok(sentence) => Fault::Usage(sentence),
-        Err(_) => Fault::NoMemory,
-    }
+/// The record length that the options give, if they give one. The table of options has its range.
+fn record_length(matches: &ArgMatches<'_>) -> Option<u16> {
+    let length = matches.get_one::<u32>("record-length")?;
+    u16::try_from(length).ok()
 }
 
 /// Refuses options for records of a fixed length if a table is loaded, and a record length in addition to a layout.
@@ -141,10 +128,9 @@ pub fn test_length(
     matches: &ArgMatches<'_>,
     form: Option<FixedForm>,
 ) -> Result<(), Fault> {
-    let Some(text) = matches.get_str("record-length") else {
+    if record_length(matches).is_none() {
         return Ok(());
-    };
-    length_in(rt, text)?;
+    }
     if form.is_none() {
         return Err(wrong_words(
             rt.alloc(),

@@ -10,7 +10,7 @@ use s3_blame::diagnostic_words;
 use s3_cards::ebcdic::{AMPERSAND, ASTERISK, SLASH};
 use s3_cards::{Card, CardFault, Deck, DeckFault, Name};
 use s3_decks::{CardRange, DeckText, Statements, jobs_of};
-use s3_host_files::{keep_apart, read_within};
+use s3_host_files::{keep_apart, path_of, read_within, shown_name};
 use s3_layout::{Choice, LayoutFault, SourceLayout, read_layout, read_types, read_whole};
 use s3_lines::indicator::Indicator;
 use s3_paper_commands::{deck_encoding_words, is_plain_text, tell_punched};
@@ -42,6 +42,51 @@ pub fn layout_of(
     path: &str,
 ) -> Result<SourceLayout, Fault> {
     source_layout(rt, matches, path, false)
+}
+
+/// The layout that the options name, as `layout_of` gives it. If the file has one type of records alone, it is the type that is named.
+pub fn typed_layout_of(
+    rt: &HostRuntime,
+    matches: &ArgMatches<'_>,
+    path: &str,
+) -> Result<SourceLayout, Fault> {
+    let choice = choice_of(rt, matches)?;
+    let text = text_at(rt, path)?;
+    let deck = deck_of(rt, &text)?;
+    let source = source_in(rt, path, &deck)?;
+    match typed_layout_in(rt, &deck, source, choice) {
+        Ok(layout) => Ok(layout),
+        Err(fault) => Err(layout_fault(rt, path, &text, &deck, source, &fault)),
+    }
+}
+
+/// The layout of a source in a deck, of the type that is named or the only one.
+fn typed_layout_in(
+    rt: &HostRuntime,
+    deck: &Deck,
+    source: CardRange,
+    choice: Choice,
+) -> Result<SourceLayout, LayoutFault>
+    requires order { source.from ≤ source.to }
+    requires within { source.to ≤ length deck.now }
+{
+    let record_type = match choice.record_type {
+        Some(indicator) => Some(indicator),
+        None => only_type(&read_types(rt.alloc(), deck, source.from, source.to, choice.file)?),
+    };
+    let choice = Choice {
+        file: choice.file,
+        record_type,
+    };
+    read_layout(rt.alloc(), deck, source.from, source.to, choice)
+}
+
+/// The only one of some types, if there is one.
+fn only_type(types: &[Indicator]) -> Option<Indicator> {
+    match types {
+        [one] => Some(*one),
+        _ => None,
+    }
 }
 
 /// The length, the key and the type of the whole records that the options name, by the source in the deck at a path. The source may have
@@ -234,7 +279,7 @@ fn source_file_of(rt: &HostRuntime, text: &str) -> Result<Name, Fault> {
 
 /// The cards of the file at a path, each with its line there. A file of plain text is punched; what is wrong with it is reported.
 fn text_at<'a>(rt: &HostRuntime, path: &'a str) -> Result<DeckText<'a>, Fault> {
-    if let Err(fault) = keep_apart(rt, path) {
+    if let Err(fault) = keep_apart(rt, path_of(path)) {
         return Err(of_pack(rt, Use::Reads, &fault, path));
     }
     let bytes = match read_within(rt, path, DECK_LIMIT) {
@@ -248,14 +293,14 @@ fn text_at<'a>(rt: &HostRuntime, path: &'a str) -> Result<DeckText<'a>, Fault> {
         )));
     }
     if let Some(words) = deck_encoding_words(&bytes) {
-        let path = Shown(path);
+        let path = Shown(shown_name(path));
         return Err(refused(format!(in rt.alloc(); "{path} {words}")));
     }
     let mut text = DeckText::new(rt.alloc());
     if is_plain_text(path) {
         add_punched(&mut text, path, sound_punched(rt, path, &bytes)?)?;
     } else {
-        text.add(path, bytes)?;
+        text.add(shown_name(path), bytes)?;
     }
     Ok(text)
 }

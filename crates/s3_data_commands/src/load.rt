@@ -21,7 +21,7 @@ use crate::pack_words::{
 use crate::standard_input::{InputFault, read_input};
 use crate::words::{
     AGAIN, DATE_FIELDS, DECIMAL, DELIMITER, JOURNAL, LABEL, LAYOUT, LAYOUT_FILE, LAYOUT_TYPE,
-    LEVEL_ALIAS, LEVEL_AREA, MOST_RECORDS, OVERWRITE, PACK, SAFE_CELLS, SAVE,
+    LEVEL_ALIAS, LEVEL_AREA, MOST_RECORDS, OVERWRITE, PACK, SAFE_CELLS, SAVE, THOUSANDS,
 };
 use clap::ArgMatches;
 use s3_cards::ebcdic::DIGIT_0;
@@ -39,7 +39,7 @@ use std::alloc::{AllocError, Global};
 use std::io::{IsTerminal, Write};
 
 /// How many faults of a table are reported.
-const MOST_TOLD: usize = 20;
+pub const MOST_TOLD: usize = 20;
 
 /// How long a file is kept.
 const RETENTIONS: &'static [Choice] = &[
@@ -96,7 +96,10 @@ pub const LOAD: CommandWords = CommandWords {
         },
     ],
     words: &[
-        PACK,
+        Word {
+            help: "The pack",
+            ..PACK
+        },
         SAVE,
         LEVEL_AREA,
         LABEL,
@@ -150,8 +153,8 @@ pub const LOAD: CommandWords = CommandWords {
         DECIMAL,
         Word {
             name: "thousands",
-            takes: Takes::Value("C"),
-            help: "The mark that the table may have between thousands: . or , or a blank or an apostrophe",
+            takes: Takes::OneOf("C", THOUSANDS),
+            help: "The mark that the table may have between thousands",
         },
         Word {
             name: "capitals",
@@ -253,7 +256,8 @@ fn load_table(rt: &HostRuntime, matches: &ArgMatches<'_>) -> Result<(), Fault> {
         rt,
         done_sentence(rt.alloc(), &words, replaced, &loaded),
         saved,
-    )
+    );
+    Ok(())
 }
 
 /// The layout of the source in a deck, with the cells that the options ask for; for records of a fixed length only their length and
@@ -437,10 +441,11 @@ fn replaced_file(alloc: Global, words: &LoadWords<'_>, pack: &[u8]) -> Option<Re
 }
 
 /// How many records the file of a pack has that was loaded.
-fn loaded_count(alloc: Global, words: &LoadWords<'_>, loaded: &[u8]) -> u32 {
+fn loaded_count(alloc: Global, words: &LoadWords<'_>, loaded: &[u8]) -> Result<u32, AllocError> {
     match file_size(alloc, loaded, number_of(words.level), words.name) {
-        Ok(Some(size)) => size.records,
-        _ => 0,
+        Ok(Some(size)) => Ok(size.records),
+        Ok(None) => Ok(0),
+        Err(_) => Err(AllocError),
     }
 }
 
@@ -451,7 +456,7 @@ fn done_sentence(
     replaced: Option<ReplacedFile>,
     loaded: &[u8],
 ) -> Result<String, AllocError> {
-    let count = loaded_count(alloc, words, loaded);
+    let count = loaded_count(alloc, words, loaded)?;
     match replaced {
         Some(file) => replaced_sentence(alloc, words, file, count),
         None => loaded_sentence(alloc, words, count),
@@ -710,7 +715,7 @@ fn fault_sentence(
 }
 
 /// Reports how many of so many faults aren't reported.
-fn tell_others(rt: &HostRuntime, count: u64) {
+pub fn tell_others(rt: &HostRuntime, count: u64) {
     let others = count.saturating_sub(MOST_TOLD as u64);
     if others == 1 {
         let _ = writeln!(rt.stderr(), "1 other error isn't shown");

@@ -7,8 +7,8 @@ use crate::journaling::OpenJournal;
 use clap::ArgMatches;
 use s3_cards::{LevelId, Name, is_name, to_ebcdic};
 use s3_host_files::{
-    FileFault, Limit, LockedPack, Target, is_empty_at, is_pack_at, keep_save_apart, read_pack,
-    read_to_save, save_new_pack, save_pack,
+    FileFault, Limit, LockedPack, Target, is_empty_at, is_input, is_pack_at, keep_save_apart,
+    read_pack, read_to_save, save_new_pack, save_pack, shown_name,
 };
 use s3_journal::Work;
 use s3_labels::{LabelFault, MountFault};
@@ -120,7 +120,7 @@ pub fn test_begin(alloc: Global, path: &str, pack: &[u8]) -> Result<(), Fault> {
     if words.is_empty() {
         return Ok(());
     }
-    let path = Shown(path);
+    let path = Shown(shown_name(path));
     Err(refused(format!(in alloc; "{path} {words}")))
 }
 
@@ -191,7 +191,7 @@ fn is_folder(rt: &HostRuntime, path: &str) -> bool {
 
 /// Refuses to save over a file that the command reads in addition to the pack that it changes: its other contents would be lost.
 pub fn keep_input(rt: &HostRuntime, save: &str, input: &str) -> Result<(), Fault> {
-    if !is_same_file(rt, save, input) {
+    if is_input(input) || !is_same_file(rt, save, input) {
         return Ok(());
     }
     let shown = Shown(save);
@@ -234,23 +234,23 @@ pub fn tell(rt: &HostRuntime, sentence: Result<String, AllocError>) -> Result<()
     Ok(())
 }
 
-/// Reports what was done to a pack that is saved, as `tell` does, and whether another pack was replaced.
-pub fn tell_done(
-    rt: &HostRuntime,
-    sentence: Result<String, AllocError>,
-    saved: SavedPack<'_>,
-) -> Result<(), Fault> {
-    if !saved.is_other_replaced {
-        return tell(rt, sentence);
-    }
-    let sentence = sentence?;
-    let sentence = sentence.as_str();
+/// Reports what was done to a pack that is saved, and whether another pack was replaced; if there is no memory for the sentence, that the
+/// pack is saved.
+pub fn tell_done(rt: &HostRuntime, sentence: Result<String, AllocError>, saved: SavedPack<'_>) {
     let path = Shown(saved.path);
-    let _ = writeln!(
-        rt.stderr(),
-        "bureau: {sentence}; the pack that {path} had is replaced"
-    );
-    Ok(())
+    let Ok(sentence) = sentence else {
+        let _ = writeln!(rt.stderr(), "bureau: the pack is saved in {path}");
+        return;
+    };
+    let sentence = sentence.as_str();
+    let _ = if saved.is_other_replaced {
+        writeln!(
+            rt.stderr(),
+            "bureau: {sentence}; the pack that {path} had is replaced"
+        )
+    } else {
+        writeln!(rt.stderr(), "bureau: {sentence}")
+    };
 }
 
 /// Why nothing is done to the files of a pack, as one sentence. The file is named by its label, or in words by its slot.
@@ -278,7 +278,7 @@ fn care_words(fault: CareFault) -> &'static str {
         CareFault::NoMemory => "",
         CareFault::Label(fault) | CareFault::SourceLabel(fault) => label_words(fault),
         CareFault::NoFile =>
-            "{label} in area {area} of {path} has no file; `bureau list --pack {path} --table` shows the slots that have one",
+            "{label} in area {area} of {path} has no file; `bureau list --pack {given} --table` shows the slots that have one",
         CareFault::NoSlot => "area {area} of {path} has no {label}; its slots are 0 to 31",
         CareFault::Exists =>
             "area {area} of {path} has a file {label} already; delete it first, or give another label by --as",
@@ -387,9 +387,9 @@ pub fn mount_words(fault: MountFault) -> &'static str {
 pub fn label_words(fault: LabelFault) -> &'static str {
     match fault {
         LabelFault::NotFound =>
-            "area {area} of {path} has no file {label}; `bureau list --pack {path}` shows those that it has",
+            "area {area} of {path} has no file {label}; `bureau list --pack {given}` shows those that it has",
         LabelFault::DamagedLabel =>
-            "{label} in area {area} of {path} is damaged; `bureau check --pack {path}` reports its slot and why: correct its label, or free the slot by `bureau delete --slot`",
+            "{label} in area {area} of {path} is damaged; `bureau check --pack {given}` reports its slot and why: correct its label, or free the slot by `bureau delete --slot`",
         LabelFault::Master => "a master of {path} has the label {label}; give another one by --as",
         LabelFault::NoSpace =>
             "area {area} of {path} has no space for {label}; delete a file there, or make a larger pack",
@@ -463,8 +463,11 @@ pub fn no_room_for_copy<'a>(
     }
 }
 
-/// How many tracks a file of the pack at a path takes, if it has the file.
+/// How many tracks a file of the pack at a path takes, if it has the file. Standard input is read once, so it isn't known there.
 fn tracks_of(rt: &HostRuntime, path: &str, area: u16, name: Name) -> Result<Option<u16>, Fault> {
+    if is_input(path) {
+        return Ok(None);
+    }
     let pack = pack_of(rt, path)?;
     match file_size(rt.alloc(), &pack, area, name) {
         Ok(Some(size)) => Ok(Some(size.tracks)),
@@ -472,8 +475,11 @@ fn tracks_of(rt: &HostRuntime, path: &str, area: u16, name: Name) -> Result<Opti
     }
 }
 
-/// The free space of an area of the pack at a path; none if it isn't known.
+/// The free space of an area of the pack at a path; none if it isn't known, as that of standard input, which is read once.
 pub fn room_in(rt: &HostRuntime, path: &str, area: u16) -> Result<Option<FreeRoom>, Fault> {
+    if is_input(path) {
+        return Ok(None);
+    }
     let pack = pack_of(rt, path)?;
     Ok(free_room(rt.alloc(), &pack, area).ok())
 }

@@ -5,7 +5,7 @@ use crate::pack_words::{label_words, mount_words};
 use s3_cells::{Field, ShowFault};
 use s3_labels::LabelFault;
 use s3_layout::LayoutFault;
-use s3_unload::UnloadFault;
+use s3_unload::{HiddenValue, UnloadFault};
 use std::alloc::{AllocError, Global};
 
 /// Why the source of a deck is no layout.
@@ -147,16 +147,67 @@ fn push_hidden(
     field: Field,
     fault: ShowFault,
 ) -> Result<(), AllocError> {
-    let from = u32::from(field.start) + 1;
-    let to = u32::from(field.start) + u32::from(field.width);
+    write!(text, "record {record} of {label} can't be shown: ")?;
+    push_value(text, field, fault)?;
+    if let ShowFault::NoDate(_) = fault {
+        push_cure(text, field, fault)?;
+    }
+    text.push_str("; the rows before it are written, and --as hex shows its bytes")
+}
+
+/// Why a value can't be shown, and what helps, if several can't be.
+pub fn value_sentence(
+    alloc: Global,
+    label: &str,
+    value: HiddenValue,
+) -> Result<String, AllocError> {
+    let mut text = String::new(alloc);
+    let record = value.record;
+    write!(text, "record {record} of {label}: ")?;
+    push_value(&mut text, value.field, value.fault)?;
+    push_cure(&mut text, value.field, value.fault)?;
+    Ok(text)
+}
+
+/// That so many values of a file can't be shown, given the number of the first record that has one.
+pub fn hidden_values_sentence<'a>(
+    alloc: Global,
+    path: &'a str,
+    area: u16,
+    label: &'a str,
+    count: u64,
+    first: u32,
+) -> Result<String, AllocError> {
+    let mut text = Words::of_file(path, area, label).with_number(count).fill(
+        alloc,
+        "{number} values of {label} in area {area} of {path} can't be shown",
+    )?;
     write!(
         text,
-        "record {record} of {label} can't be shown: the field "
+        "; the rows before record {first} are written, and --as hex shows the bytes"
     )?;
+    Ok(text)
+}
+
+/// Appends a field, its positions, and why its value can't be shown.
+fn push_value(text: &mut String, field: Field, fault: ShowFault) -> Result<(), AllocError> {
+    let from = u32::from(field.start) + 1;
+    let to = u32::from(field.start) + u32::from(field.width);
+    text.push_str("the field ")?;
     push_name(text, Some(field.name))?;
     write!(text, " in positions {from} to {to} ")?;
-    push_reason(text, fault)?;
-    text.push_str("; the rows before it are written, and --as hex shows its bytes")
+    push_reason(text, fault)
+}
+
+/// Appends what helps if the value of a field can't be shown.
+fn push_cure(text: &mut String, field: Field, fault: ShowFault) -> Result<(), AllocError> {
+    text.push_str("; correct it by `bureau amend`")?;
+    if let ShowFault::NoDate(_) = fault {
+        text.push_str(", or leave ")?;
+        push_name(text, Some(field.name))?;
+        text.push_str(" out of --date-fields")?;
+    }
+    Ok(())
 }
 
 fn push_reason(text: &mut String, fault: ShowFault) -> Result<(), AllocError> {

@@ -123,7 +123,8 @@ fn sort_file(rt: &HostRuntime, matches: &ArgMatches<'_>) -> Result<(), Fault> {
         work: Work::Sort,
     };
     let saved = saved(rt, matches, order.save, save, &pack)?;
-    tell_done(rt, sorted_sentence(rt.alloc(), &order), saved)
+    tell_done(rt, sorted_sentence(rt.alloc(), &order), saved);
+    Ok(())
 }
 
 /// A pack with a copy of a file of a level in addition to it.

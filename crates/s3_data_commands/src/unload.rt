@@ -7,8 +7,12 @@ use crate::fixed::{
     AS_ASCII, AS_EBCDIC, LINE_FEEDS, fixed_form, hidden_place, hidden_sentence, refuse_cells,
 };
 use crate::inputs::{delimiter_of, layout_of, whole_records_of};
+use crate::load::{MOST_TOLD, tell_others};
 use crate::pack_words::{area_number, label_of, pack_of, tell, wrong_words};
-use crate::sentences::{other_records_sentence, others_sentence, unload_sentence};
+use crate::sentences::{
+    hidden_values_sentence, other_records_sentence, others_sentence, unload_sentence,
+    value_sentence,
+};
 use crate::words::{
     AREA, DATE_FIELDS, DECIMAL, DELIMITER, LABEL, LAYOUT, LAYOUT_FILE, LAYOUT_TYPE, PACK,
     SAFE_CELLS,
@@ -20,8 +24,9 @@ use s3_layout::SourceLayout;
 use s3_paper_commands::status::{DONE, FILE_WRONG, OPTIONS_WRONG, PERSON_NEEDED, REFUSED};
 use s3_paper_commands::words::{Choice, CommandWords, Example, Status, Takes, Word, value_of};
 use s3_record_types::ChosenRecords;
-use s3_unload::{Area, FixedForm, LineForm, UnloadFault, find_file};
+use s3_unload::{Area, FixedForm, LineForm, UnloadFault, find_file, hidden_values};
 use std::alloc::Global;
+use std::io::Write;
 
 /// The forms in which records are written.
 const FORMS: &'static [Choice] = &[
@@ -128,7 +133,15 @@ fn unload_file(rt: &HostRuntime, matches: &ArgMatches<'_>) -> Result<(), Fault> 
     test_words(rt, matches, form)?;
     let done = match (form, matches.get_str("layout")) {
         (Some(form), _) => unload_lines(rt, path, area, name, form)?,
-        (None, Some(layout)) => unload_table(rt, matches, path, area, name, layout)?,
+        (None, Some(layout)) => {
+            let file = PackFile {
+                path,
+                area: number,
+                label,
+                name,
+            };
+            unload_table(rt, matches, file, layout)?
+        }
         (None, None) => {
             return Err(wrong_words(
                 rt.alloc(),
@@ -271,9 +284,7 @@ fn unload_lines(
 fn unload_table(
     rt: &HostRuntime,
     matches: &ArgMatches<'_>,
-    path: &str,
-    area: Area,
-    name: Name,
+    file: PackFile<'_>,
     layout: &str,
 ) -> Result<Result<u32, UnloadFault>, Fault> {
     let delimiter = delimiter_of(rt, matches)?;
@@ -288,17 +299,60 @@ fn unload_table(
         layout_of(rt, matches, layout)?,
         reading,
     )?;
-    let pack = pack_of(rt, path)?;
-    Ok(s3_unload::unload(
+    let pack = pack_of(rt, file.path)?;
+    let done = s3_unload::unload(
         rt.alloc(),
         &pack,
-        area,
-        name,
+        area_of(file.area),
+        file.name,
         &layout.layout,
         &layout.records,
         delimiter,
         &mut StandardOutput::new(rt),
-    ))
+    );
+    if let Err(UnloadFault::Hidden(first, ..)) = done {
+        tell_hidden(rt, &pack, file, &layout, first)?;
+    }
+    Ok(done)
+}
+
+/// Reports all values of a table that can't be shown, a line each, and refuses them, given the number of the first record that has one.
+/// A single one is left to the caller.
+fn tell_hidden(
+    rt: &HostRuntime,
+    pack: &[u8],
+    file: PackFile<'_>,
+    layout: &SourceLayout,
+    first: u32,
+) -> Result<(), Fault> {
+    let found = match hidden_values(
+        rt.alloc(),
+        pack,
+        area_of(file.area),
+        file.name,
+        &layout.layout,
+        &layout.records,
+        MOST_TOLD,
+    ) {
+        Ok(found) => found,
+        Err(_) => return Err(Fault::NoMemory),
+    };
+    if found.count < 2 {
+        return Ok(());
+    }
+    for value in &found.values {
+        let sentence = value_sentence(rt.alloc(), file.label, *value)?;
+        let sentence = sentence.as_str();
+        let _ = writeln!(rt.stderr(), "{sentence}");
+    }
+    tell_others(rt, found.count);
+    let PackFile {
+        path,
+        area,
+        label,
+        ..
+    } = file;
+    Err(Fault::Waits(hidden_values_sentence(rt.alloc(), path, area, label, found.count, first)?))
 }
 
 /// The area of a number.

@@ -9,7 +9,7 @@ pub const MOST_RECORDS: u32 = 999_999;
 pub const PACK: Word = Word {
     name: "pack",
     takes: Takes::Needed("FILE"),
-    help: "The pack",
+    help: "The pack; - is standard input",
 };
 
 /// The form for other programs.
@@ -109,6 +109,7 @@ pub const LAYOUT_TYPE: Word = Word {
 /// What is between the cells of a table.
 pub const DELIMITER: Word = Word {
     name: "delimiter",
+    // any character of ASCII may be one, which is no list
     takes: Takes::Value("C"),
     help: "The character between the cells, a comma by default",
 };
@@ -120,11 +121,43 @@ pub const SAFE_CELLS: Word = Word {
     help: "A text that begins with = + - or @ has an apostrophe before it in the table",
 };
 
+/// The marks that a number may have before its decimals.
+pub const DECIMALS: &'static [Choice] = &[
+    Choice {
+        name: ".",
+        help: "A point",
+    },
+    Choice {
+        name: ",",
+        help: "A comma",
+    },
+];
+
+/// The marks that a number may have between its thousands.
+pub const THOUSANDS: &'static [Choice] = &[
+    Choice {
+        name: ".",
+        help: "A point, with --decimal ,",
+    },
+    Choice {
+        name: ",",
+        help: "A comma",
+    },
+    Choice {
+        name: " ",
+        help: "A blank",
+    },
+    Choice {
+        name: "'",
+        help: "An apostrophe",
+    },
+];
+
 /// What is before the decimals of a number.
 pub const DECIMAL: Word = Word {
     name: "decimal",
-    takes: Takes::Value("C"),
-    help: "The mark before the decimals in the table, . or , and a point by default",
+    takes: Takes::OneOf("C", DECIMALS),
+    help: "The mark before the decimals in the table; a point by default",
 };
 
 /// The fields that are dates.

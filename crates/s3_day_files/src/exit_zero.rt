@@ -3,7 +3,7 @@ ghost use Rattle.std.specs.Prelude.{◌≡◌, ◌==◌, ◌||◌, ◌&&◌, if�
 
 use s3_paper_commands::status::{DONE, PASSED_OVER, PERSON_NEEDED};
 
-/// Why a list of statuses isn't taken.
+/// Why a value isn't taken. The table of options lists the values, so that the parser reports any other first.
 const WRONG: &str = "--exit-zero takes 5, 4 or 4,5";
 
 /// In place of which exit statuses the command ends with 0.
@@ -16,23 +16,19 @@ pub struct ExitZero {
 }
 
 impl ExitZero {
-    /// What a list of statuses says, as `4,5`; without a list each status stays.
-    pub fn read(list: Option<&str>) -> Result<ExitZero, &'static str> {
-        let mut read = ExitZero {
-            is_unfinished: false,
-            is_passed: false,
+    /// What the value of the option says; without one each status stays.
+    pub fn read(value: Option<&str>) -> Result<ExitZero, &'static str> {
+        let (is_unfinished, is_passed) = match value {
+            None => (false, false),
+            Some("4") => (true, false),
+            Some("5") => (false, true),
+            Some("4,5") => (true, true),
+            Some(_) => return Err(WRONG),
         };
-        let Some(list) = list else {
-            return Ok(read);
-        };
-        for status in list.split(',') {
-            match status {
-                "4" => read.is_unfinished = true,
-                "5" => read.is_passed = true,
-                _ => return Err(WRONG),
-            }
-        }
-        Ok(read)
+        Ok(ExitZero {
+            is_unfinished,
+            is_passed,
+        })
     }
 
     /// The exit status of the command, given that of its day.

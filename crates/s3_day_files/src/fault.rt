@@ -174,6 +174,14 @@ impl<'a> DayFault<'a> {
         }
     }
 
+    /// Whether another command has a file of the day.
+    pub fn is_in_use(&self) -> bool {
+        matches!(
+            self,
+            DayFault::InUse(_) | DayFault::Journal(JournalRefusal::InUse(_))
+        )
+    }
+
     /// The exit status of the refusal.
     pub fn status(&self) -> u8
         ensures { result ≤ 3 }

@@ -3,14 +3,14 @@
 use crate::begun::{named_file, words_kept};
 use crate::fault::DayFault;
 use crate::level_deck::LevelDeck;
-use crate::log_line::line_sentence;
+use crate::log_line::{first_sentence, line_sentence};
 use crate::order::Order;
 use crate::strays::{ListedDecks, look_for_strays};
 use crate::taking_up::take_up;
 use s3_cards::LevelId;
 use s3_command_line::new_pack;
 use s3_day_log::{Begun, DayLog, LogFault};
-use s3_host_files::{LockedPack, read_pack, read_to_save, read_within};
+use s3_host_files::{LockedPack, read_pack, read_to_save, read_within, shown_name};
 use s3_operating::DayDeck;
 use s3_paper_commands::encoding_words;
 use s3_refusals::Shown;
@@ -78,7 +78,7 @@ impl DayPack {
         };
         match read_to_save(rt, path, save) {
             Ok((bytes, locked)) => Ok(DayPack { bytes, locked }),
-            Err(fault) => Err(DayFault::of_pack(&fault, path)),
+            Err(fault) => Err(DayFault::of_pack(&fault, shown_name(path))),
         }
     }
 
@@ -89,7 +89,7 @@ impl DayPack {
                 bytes,
                 locked: None,
             }),
-            Err(fault) => Err(DayFault::of_pack(&fault, path)),
+            Err(fault) => Err(DayFault::of_pack(&fault, shown_name(path))),
         }
     }
 }
@@ -161,7 +161,7 @@ impl<'a> Decks<'a> {
     }
 }
 
-/// The bytes of a file, up to a limit.
+/// The bytes of a file, or of standard input, up to a limit.
 pub fn read_text<'a>(
     rt: &HostRuntime,
     path: &'a str,
@@ -169,8 +169,10 @@ pub fn read_text<'a>(
 ) -> Result<Vec<u8>, DayFault<'a>> {
     match read_within(rt, path, limit) {
         Ok(bytes) => Ok(bytes),
-        Err(error) if error.kind() == ErrorKind::FileTooLarge => Err(DayFault::TooLarge(path)),
-        Err(error) => Err(DayFault::of(&error, path)),
+        Err(error) if error.kind() == ErrorKind::FileTooLarge => Err(DayFault::TooLarge(shown_name(
+            path,
+        ))),
+        Err(error) => Err(DayFault::of(&error, shown_name(path))),
     }
 }
 
@@ -220,6 +222,7 @@ fn rules_refused<'a>(rt: &HostRuntime, path: &str, fault: &RulesFault) -> DayFau
 /// The log of a day that is done again.
 pub fn read_log<'a>(rt: &HostRuntime, path: &'a str) -> Result<DayLog, DayFault<'a>> {
     let bytes = read_text(rt, path, LOG_LIMIT)?;
+    let path = shown_name(path);
     if let Some(words) = encoding_words(&bytes) {
         let path = Shown(path);
         let _ = writeln!(rt.stderr(), "{path} {words}");
@@ -248,10 +251,7 @@ pub fn read_log<'a>(rt: &HostRuntime, path: &'a str) -> Result<DayLog, DayFault<
 /// Why a text is no log, by its first line that is refused: the end of a sentence that begins with the line.
 fn line_words(rt: &HostRuntime, text: &str, line: usize) -> Result<String, AllocError> {
     if line <= 1 {
-        String::from_str(
-            rt.alloc(),
-            "isn't the first line of a log; give the whole file that --log wrote",
-        )
+        first_sentence(rt.alloc(), first_line_of(text))
     } else if begins_log(rt, text, line) {
         String::from_str(
             rt.alloc(),

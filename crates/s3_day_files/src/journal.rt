@@ -5,7 +5,7 @@ use crate::inputs::Decks;
 use crate::order::Order;
 use crate::outputs::limit_of;
 use s3_day_log::checksum;
-use s3_host_files::FileFault;
+use s3_host_files::{FileFault, shown_name};
 use s3_journal::{LevelCount, Operated, Posting, Work, checksum_of_deck};
 use s3_journal_files::{GivenPack, JournalFile, JournalRefusal, MadeJournal, NewLine};
 use s3_operating::Questioned;
@@ -104,7 +104,10 @@ pub fn begin_day<'a>(
 impl<'a> DayJournal<'a> {
     fn test_start(&self, rt: &HostRuntime, order: &Order<'a>) -> Result<(), JournalRefusal<'a>> {
         let pack = GivenPack {
-            name: order.pack.unwrap_or("the new pack"),
+            name: order
+                .pack
+                .map(|name| shown_name(name))
+                .unwrap_or("the new pack"),
             sum: self.given.pack.as_str(),
         };
         let cure = if order.is_once { ONCE } else { AGAIN };

@@ -1,7 +1,9 @@
 //! Which files an output replaces.
+ghost use Rattle.std.specs.Prelude.{◌≡◌};
+ghost use Rattle.s3_day_files.specs.Inner.Kinds.{is_begun_as as is_begun_as_spec};
+ghost use Rattle.s3_day_files.specs.declared.kind.Kind.TheVariants.{Script};
 
-use std::fs::File;
-use std::io::Read;
+use s3_host_files::beginning_of;
 use std::{fs, io};
 
 /// What an output is.
@@ -15,31 +17,35 @@ pub enum Kind {
     Deck,
 }
 
+/// How many bytes of a file show what it is.
+const SHOWN: usize = 6;
+
 impl Kind {
     /// Whether such an output may replace the file at a path: the file is empty, or begins as such an output does, or it isn't a regular
     /// file. A file that can't be read is not replaced.
     pub fn may_replace(self, rt: &HostRuntime, path: &str) -> bool {
         match fs::metadata(rt, path) {
-            Ok(found) if found.is_file() => self.begins(rt, path),
+            Ok(found) if found.is_file() => self.is_begun_at(rt, path),
             _ => true,
         }
     }
 
     /// Whether a file is empty, or begins as such an output does.
-    fn begins(self, rt: &HostRuntime, path: &str) -> bool {
-        match beginning(rt, path) {
-            Ok(Some(bytes)) => self.is_beginning(&bytes),
-            Ok(None) => true,
+    fn is_begun_at(self, rt: &HostRuntime, path: &str) -> bool {
+        match beginning_of(rt, path, SHOWN) {
+            Ok(bytes) => bytes.is_empty() || self.is_begun_as(&bytes),
             Err(_) => false,
         }
     }
 
-    fn is_beginning(self, bytes: &[u8; 6]) -> bool {
+    /// Whether bytes begin as such an output does.
+    fn is_begun_as(self, bytes: &[u8]) -> bool
+        ensures { result ≡ is_begun_as_spec self bytes.now }
+    {
         match self {
-            Kind::Script => matches!(bytes[0], b'T' | b'D' | b'R')
-                && matches!(bytes[1], b'1' | b'2'),
-            Kind::Log => bytes == b"{\"at\":",
-            Kind::Deck => bytes[0] == b'/' && bytes[1] == b'/',
+            Kind::Script => is_entry(bytes),
+            Kind::Log => bytes.starts_with(b"{\"at\":"),
+            Kind::Deck => bytes.starts_with(b"//"),
         }
     }
 
@@ -54,12 +60,40 @@ impl Kind {
     }
 }
 
-/// The first six bytes of a file, with zeros where it is shorter; none of an empty file.
-fn beginning(rt: &HostRuntime, path: &str) -> io::Result<Option<[u8; 6]>> {
-    let mut file = File::open(rt, path)?;
-    let mut bytes = [0u8; 6];
-    match file.read(&mut bytes)? {
-        0 => Ok(None),
-        _ => Ok(Some(bytes)),
+/// Whether bytes begin as the entry of a level in a script does.
+fn is_entry(bytes: &[u8]) -> bool
+    ensures { result ≡ is_begun_as_spec Script bytes.now }
+{
+    bytes.starts_with(b"T1")
+        || bytes.starts_with(b"T2")
+        || bytes.starts_with(b"D1")
+        || bytes.starts_with(b"D2")
+        || bytes.starts_with(b"R1")
+        || bytes.starts_with(b"R2")
+}
+
+/// What follows the first time in the log of a day that was refused before its first turn.
+const REFUSED: &[u8] = b"Z\",\"event\":\"refused\"";
+
+/// Where that is in the log.
+const REFUSED_AT: usize = 26;
+
+/// How many bytes of a log show it.
+const REFUSED_TO: usize = 64;
+
+/// Whether a file is the log of a day that was refused before its first turn.
+pub fn is_refused_log(rt: &HostRuntime, path: &str) -> bool {
+    match begins_with_refusal(rt, path) {
+        Ok(is_refused) => is_refused && Kind::Log.may_replace(rt, path),
+        Err(_) => false,
     }
+}
+
+fn begins_with_refusal(rt: &HostRuntime, path: &str) -> io::Result<bool> {
+    if !fs::metadata(rt, path)?.is_file() {
+        return Ok(false);
+    }
+    let bytes = beginning_of(rt, path, REFUSED_TO)?;
+    let after = bytes.as_slice().get(REFUSED_AT..).unwrap_or(&[]);
+    Ok(after.starts_with(REFUSED))
 }

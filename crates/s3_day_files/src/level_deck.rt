@@ -7,8 +7,9 @@ use crate::inputs::read_text;
 use s3_cards::LevelId;
 use s3_day_log::NamedFile;
 use s3_decks::cards_len;
+use s3_host_files::{is_input, shown_name};
 use s3_operating::JoinedFiles;
-use s3_paper_commands::{deck_encoding_words, is_plain_text, tell_punched};
+use s3_paper_commands::{deck_encoding_words, is_plain_text, tell_punched, tell_waiting};
 use s3_punch::{Begun, Punched, punch};
 use s3_refusals::{Shown, begins_as_pack};
 use std::alloc::{AllocError, Global};
@@ -57,13 +58,17 @@ impl<'a> LevelDeck<'a> {
     }
 }
 
-/// The bytes of a file of a deck. A pack is refused, and text in an encoding in which no deck is. A file without a card is reported.
+/// The bytes of a file of a deck, or of standard input. A pack is refused, and text in an encoding in which no deck is. A file without a card is reported.
 fn read_deck_file<'a>(
     rt: &HostRuntime,
     level: LevelId,
     name: &'a str,
 ) -> Result<Vec<u8>, DayFault<'a>> {
+    if is_input(name) {
+        tell_waiting(rt);
+    }
     let bytes = read_text(rt, name, TEXT_LIMIT)?;
+    let name = shown_name(name);
     if begins_as_pack(&bytes) {
         return Err(DayFault::PackAsDeck(name));
     }
@@ -103,6 +108,7 @@ impl<'a> Reading<'a> {
             let file = named_file(rt.alloc(), name, &bytes)?;
             self.deck.files.push(file)?;
         }
+        let name = shown_name(name);
         if is_plain_text(name) {
             return self.add_text(rt, name, &bytes);
         }

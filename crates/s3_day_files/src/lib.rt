@@ -1,9 +1,10 @@
 //! What `bureau operate` is asked, and the files around its day: what is read before the first turn, and the outputs, each of which is
 //! tried before the first turn and may overwrite nothing that it wasn't asked to.
 //!
-//! What is proved: each call is safe and returns, and the status that `--exit-zero` gives (`ExitZero::status_for`). Which file is refused
-//! for what, in which order, and the sentences are tested, by rows and by failed calls. That a kill loses no kept pack is tested by
-//! `tools/search/test-keep`. What files, the terminal and the clock give isn't claimed: they are used as the toolchain offers them.
+//! What is proved: each call is safe and returns, the status that `--exit-zero` gives (`ExitZero::status_for`), and which files are of the
+//! kind of an output, by their first bytes (`Kind::is_begun_as`). Which file is refused for what, in which order, and the sentences are
+//! tested, by rows and by failed calls. That a kill loses no kept pack is tested by `tools/search/test-keep`. What files, the terminal
+//! and the clock give isn't claimed: they are used as the toolchain offers them.
 
 #![tactic(auto)]
 
@@ -23,9 +24,11 @@ mod named_output;
 mod order;
 mod outputs;
 mod paper;
+mod refused_log;
 mod restoring;
 mod strays;
 mod taking_up;
+mod twice;
 mod watch;
 
 pub use begun::{Again, push_word, test_same};
@@ -41,6 +44,8 @@ pub use outputs::{
     KeptOutputs, Output, Outputs, remove_made, test_decks, test_journal, test_outputs, write_deck,
 };
 pub use paper::{Form, Paper};
+pub use refused_log::log_refusal;
 pub use strays::{ListedDecks, ReadDecks};
 pub use taking_up::list_jobs;
+pub use twice::report_twice;
 pub use watch::Watch;

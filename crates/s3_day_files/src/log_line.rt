@@ -13,6 +13,31 @@ const NO_LINE: &str =
 const NO_OBJECT: &str =
     "is no JSON object on a line of its own; write it as --log wrote it, or remove it and the lines after it";
 
+/// What is wrong with a text that doesn't begin as a log does.
+const NO_FIRST: &str = "isn't the first line of a log; give the whole file that --log wrote";
+
+/// What is wrong with the log of a refused day.
+const DAY_REFUSED: &str =
+    "is of a day that was refused before its first turn: nothing ran, so there is nothing to do again; give the day its own command, with its cause corrected";
+
+/// Why the first line of a log is refused, by its text: the end of a sentence that begins with the line.
+pub fn first_sentence(alloc: Global, line: &str) -> Result<String, AllocError> {
+    let mut scratch = Scratch::new(alloc);
+    match Value::parse(alloc, line, &mut scratch) {
+        Ok(value) if is_refusal(&value) => String::from_str(alloc, DAY_REFUSED),
+        Err(Error::OutOfMemory) => Err(AllocError),
+        _ => String::from_str(alloc, NO_FIRST),
+    }
+}
+
+/// Whether a value is the refusal of a day.
+fn is_refusal(value: &Value<'_>) -> bool {
+    match text_in(value, "event") {
+        Some(event) => event == "refused",
+        None => false,
+    }
+}
+
 /// Why a line is refused, by its text: the end of a sentence that begins with the line. For a reply it names the word that is wrong, and
 /// what may be there.
 pub fn line_sentence(alloc: Global, line: &str) -> Result<String, AllocError> {

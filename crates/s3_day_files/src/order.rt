@@ -6,6 +6,7 @@ use clap::ArgMatches;
 use s3_cards::LevelId;
 use s3_decks::Position;
 use s3_desk::Bounds;
+use s3_host_files::{is_input, shown_name};
 use s3_operating::Questioned;
 use std::alloc::AllocError;
 use std::io::IsTerminal;
@@ -16,8 +17,8 @@ const TURNS: u32 = 1_000_000_000;
 /// The most lines of a level, if the options don't say it.
 const LINES: u32 = 1_000_000;
 
-/// The name that means standard input in the place of a file of rules.
-const STANDARD_INPUT: &str = "-";
+/// The options of files that may be standard input.
+const INPUTS: [&str; 4] = ["pack", "deck1", "deck2", "redo"];
 
 /// Why `--replies` isn't taken.
 const TWICE: &str = "--replies takes one file, and - once";
@@ -95,7 +96,7 @@ impl<'a> Order<'a> {
             deck1,
             deck2,
             rules,
-            questioned: questioned(rt, has_lines),
+            questioned: questioned(rt, words, has_lines),
             bounds: Bounds {
                 turns: words.get_one::<u32>("turns").unwrap_or(TURNS),
                 lines: words.get_one::<u32>("lines").unwrap_or(LINES),
@@ -146,7 +147,7 @@ pub fn replies_of<'a>(words: &ArgMatches<'a>) -> Result<(Option<&'a str>, bool),
     let mut rules = None;
     let mut has_lines = false;
     for name in words.get_strs("replies").unwrap_or(&[]) {
-        if *name == STANDARD_INPUT {
+        if is_input(*name) {
             if has_lines {
                 return Err(TWICE);
             }
@@ -161,15 +162,21 @@ pub fn replies_of<'a>(words: &ArgMatches<'a>) -> Result<(Option<&'a str>, bool),
     Ok((rules, has_lines))
 }
 
-/// Who is asked if no rule answers.
-fn questioned(rt: &HostRuntime, has_lines: bool) -> Questioned {
+/// Who is asked if no rule answers. If standard input is a file of the day, nobody is.
+fn questioned(rt: &HostRuntime, words: &ArgMatches<'_>, has_lines: bool) -> Questioned {
     if has_lines {
         Questioned::Lines
-    } else if rt.stdin().is_terminal() {
+    } else if rt.stdin().is_terminal() && !INPUTS.iter().any(|word| has_input(words, *word)) {
         Questioned::Person
     } else {
         Questioned::Nobody
     }
+}
+
+/// Whether an option names standard input.
+fn has_input(words: &ArgMatches<'_>, word: &str) -> bool {
+    let names = words.get_strs(word).unwrap_or(&[]);
+    names.iter().any(|name| is_input(*name))
 }
 
 /// The line of a deck that a word gives.
@@ -178,7 +185,10 @@ fn position<'a>(words: &ArgMatches<'a>, word: &str) -> Result<Option<Position<'a
         return Ok(None);
     };
     match Position::read(given) {
-        Some(position) => Ok(Some(position)),
+        Some(Position { file, line }) => Ok(Some(Position {
+            file: file.map(|name| shown_name(name)),
+            line,
+        })),
         None => Err("--from1 and --from2 take [FILE:]LINE, a line from 1"),
     }
 }

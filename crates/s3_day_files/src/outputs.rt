@@ -2,14 +2,15 @@
 
 use crate::fault::{DayFault, unwritten};
 use crate::keeping::{kept_name, place_of, test_keeping};
-use crate::kind::Kind;
+use crate::kind::{Kind, is_refused_log};
 use crate::named_output::{KeptOutput, lost_text};
 use crate::order::Order;
 use crate::paper::Paper;
 pub use s3_host_files::Output;
 use s3_host_files::{
-    FileFault, Limit, LockedFolder, LockedPack, STREAMS, StandardStream, Target, WRITTEN,
-    is_empty_at, is_pack_at, prepare_save,
+    FileFault, Limit, LockedFolder, LockedPack, SHOWN_INPUT, STANDARD_INPUT, STREAMS,
+    StandardStream, Target, WRITTEN, is_empty_at, is_input, is_pack_at, path_of, prepare_save,
+    stream_at,
 };
 use s3_refusals::{Shown, is_closed};
 use std::alloc::Global;
@@ -86,6 +87,14 @@ fn found<'a>(
     Ok(Named { name, target })
 }
 
+/// Refuses standard input as a file that is read if it is also standard output or standard error.
+fn keep_input_apart<'a>(rt: &HostRuntime) -> Result<(), DayFault<'a>> {
+    match stream_at(rt, path_of(STANDARD_INPUT), &WRITTEN) {
+        Some(stream) => Err(DayFault::Stream(SHOWN_INPUT, stream)),
+        None => Ok(()),
+    }
+}
+
 /// Refuses:
 ///
 /// - a pack that doesn't exist, so that a misspelt name after `--pack` doesn't save a new pack over an old one;
@@ -108,6 +117,69 @@ pub fn test_decks<'a>(rt: &HostRuntime, order: &Order<'a>) -> Result<(), DayFaul
 pub fn test_journal<'a>(rt: &HostRuntime, order: &Order<'a>) -> Result<(), DayFault<'a>> {
     let mut files = Files::new(rt.alloc());
     files.test_journal(rt, order)
+}
+
+/// Whether nothing has the name of a log, and it leads to no other file of the day.
+pub(crate) fn is_log_free(rt: &HostRuntime, order: &Order<'_>, name: &str) -> bool {
+    let Err(error) = fs::metadata(rt, name) else {
+        return false;
+    };
+    match Target::find(rt, name) {
+        Ok(log) => error.kind() == ErrorKind::NotFound && is_apart(rt, order, &log),
+        Err(_) => false,
+    }
+}
+
+/// Whether a log leads to no other file of the day.
+fn is_apart(rt: &HostRuntime, order: &Order<'_>, log: &Target) -> bool {
+    let others = [
+        order.rules,
+        order.redo,
+        order.pack,
+        order.save,
+        order.journal,
+        order.script,
+        order.deck_out1,
+        order.deck_out2,
+    ];
+    let is_other = others.iter().any(|name| leads_to(rt, *name, log));
+    let is_deck = order
+        .deck1
+        .iter()
+        .chain(order.deck2.iter())
+        .any(|name| leads_to(rt, Some(*name), log));
+    !is_other && !is_deck && !is_kept_name(rt, order, log) && !is_in_paper(rt, order, log)
+}
+
+/// Whether a name, if there is one, leads to a file.
+fn leads_to(rt: &HostRuntime, name: Option<&str>, file: &Target) -> bool {
+    match name {
+        Some(name) => match Target::find(rt, name) {
+            Ok(target) => target.is_same(file),
+            Err(_) => false,
+        },
+        None => false,
+    }
+}
+
+/// Whether a pack can be kept under the name of a file, or memory ran out.
+fn is_kept_name(rt: &HostRuntime, order: &Order<'_>, file: &Target) -> bool {
+    let mut files = Files::new(rt.alloc());
+    match files.add_kept(rt, order) {
+        Ok(()) => files.written.iter().any(|kept| kept.target.is_same(file)),
+        Err(_) => true,
+    }
+}
+
+/// Whether a file is in the folder of the pages, or has its name.
+fn is_in_paper(rt: &HostRuntime, order: &Order<'_>, file: &Target) -> bool {
+    let Some(paper) = order.paper else {
+        return false;
+    };
+    match fs::metadata(rt, paper.folder) {
+        Ok(found) => file.is_in(&found),
+        Err(_) => leads_to(rt, Some(paper.folder), file),
+    }
 }
 
 impl<'a> Files<'a> {
@@ -196,6 +268,9 @@ impl<'a> Files<'a> {
     }
 
     fn add_text(&mut self, rt: &HostRuntime, name: &'a str) -> Result<(), DayFault<'a>> {
+        if is_input(name) {
+            return keep_input_apart(rt);
+        }
         let text = found(rt, name, &WRITTEN)?;
         self.texts.push(text)?;
         Ok(())
@@ -206,6 +281,9 @@ impl<'a> Files<'a> {
         let Some(name) = name else {
             return Ok(());
         };
+        if is_input(name) {
+            return keep_input_apart(rt);
+        }
         let pack = found(rt, name, &WRITTEN)?;
         if !pack.target.is_there() {
             return Err(no_pack(rt, name));
@@ -247,7 +325,7 @@ impl<'a> Files<'a> {
         ];
         for (name, kind) in outputs {
             if let Some(name) = name {
-                self.add_output(rt, name, Some(kind), order.overwrites)?;
+                self.add_output(rt, name, Some(kind), replaces(rt, order, name, kind))?;
             }
         }
         Ok(())
@@ -300,6 +378,19 @@ impl<'a> Files<'a> {
             Some(pack) if pack.target.is_in(folder) => Some(pack.name),
             _ => first_within(&self.written, folder),
         }
+    }
+}
+
+/// Whether an output may replace the file that has its name. The log of a refused day gives way to that of a day.
+fn replaces(rt: &HostRuntime, order: &Order<'_>, name: &str, kind: Kind) -> bool {
+    order.overwrites || (matches!(kind, Kind::Log) && is_refused_log(rt, name))
+}
+
+/// Whether the log may replace the file that has its name.
+fn replaces_log(rt: &HostRuntime, order: &Order<'_>) -> bool {
+    match order.log {
+        Some(name) => replaces(rt, order, name, Kind::Log),
+        None => order.overwrites,
     }
 }
 
@@ -423,8 +514,9 @@ impl<'a> Outputs<'a> {
     }
 
     fn open_all(&mut self, rt: &HostRuntime, order: &Order<'a>) -> Result<(), DayFault<'a>> {
-        self.open_script(rt, order)?;
+        // a day that is refused because of another output then finds this log, and makes none
         self.open_log(rt, order)?;
+        self.open_script(rt, order)?;
         self.open_decks(rt, order)?;
         self.open_folder(rt, order.paper, order.overwrites)
     }
@@ -439,7 +531,7 @@ impl<'a> Outputs<'a> {
 
     /// Opens the log, with a second handle.
     fn open_log(&mut self, rt: &HostRuntime, order: &Order<'a>) -> Result<(), DayFault<'a>> {
-        let log = self.open_one(rt, order.log, order.overwrites)?;
+        let log = self.open_one(rt, order.log, replaces_log(rt, order))?;
         self.kept.log = kept_of(rt, &log, order.log)?;
         self.log = log;
         Ok(())

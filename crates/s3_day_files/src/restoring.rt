@@ -4,7 +4,9 @@ use crate::fault::DayFault;
 use crate::keeping::{SetAside, end_aside, place_of, take_back};
 use crate::kept_packs::{kept_packs, kept_with};
 use s3_day_log::checksum;
-use s3_host_files::{FileFault, LockedPack, read_pack, read_to_save, save_pack};
+use s3_host_files::{
+    FileFault, Limit, LockedPack, read_pack, read_to_save, save_new_pack, save_pack,
+};
 use s3_journal::{PostedDay, Work};
 use s3_journal_files::{JournalFile, NewLine, keep_journal_apart, read_journal};
 use s3_paper_commands::status::DONE;
@@ -30,6 +32,14 @@ struct Replaced {
     sum: String,
     /// The lock on its file.
     locked: Option<LockedPack>,
+}
+
+/// A pack that is kept.
+#[derive(Drop)]
+struct Kept {
+    bytes: Vec<u8>,
+    /// The access that a new file with it may give at most.
+    limit: Option<Limit>,
 }
 
 /// Puts the pack back that a day left, and notes it in the journal before. The pack that it replaces is kept.
@@ -86,8 +96,8 @@ fn restore_over<'a>(
         // somebody has copied it there
         return note(rt, asked, journal, &replaced, sum.as_str());
     }
-    match kept_bytes(rt, asked, sum.as_str()) {
-        Ok(bytes) => put_back(rt, asked, journal, replaced, sum.as_str(), &bytes),
+    match kept_pack(rt, asked, sum.as_str()) {
+        Ok(kept) => put_back(rt, asked, journal, replaced, sum.as_str(), &kept),
         Err(fault) => Err(fault),
     }
 }
@@ -114,22 +124,25 @@ fn is_last(days: &[PostedDay], pack: &Replaced, sum: &str) -> bool {
     }
 }
 
-/// The bytes of the kept pack with a checksum.
-fn kept_bytes<'a>(
-    rt: &HostRuntime,
-    asked: Restoring<'a>,
-    sum: &str,
-) -> Result<Vec<u8>, DayFault<'a>> {
+/// The kept pack with a checksum.
+fn kept_pack<'a>(rt: &HostRuntime, asked: Restoring<'a>, sum: &str) -> Result<Kept, DayFault<'a>> {
     let place = place_of(rt, asked.save)?;
     let packs = kept_packs(rt, asked.save, place.as_path())?;
     let Some(kept) = kept_with(&packs, sum) else {
         report_not_kept(rt, asked);
         return Err(DayFault::Restore(asked.save));
     };
-    match read_pack(rt, kept.path.as_str()) {
-        Ok(bytes) => Ok(bytes),
+    match read_kept(rt, kept.path.as_str()) {
+        Ok(kept) => Ok(kept),
         Err(fault) => Err(DayFault::of_pack(&fault, asked.save)),
     }
+}
+
+/// Reads a kept pack.
+fn read_kept(rt: &HostRuntime, path: &str) -> Result<Kept, FileFault> {
+    let bytes = read_pack(rt, path)?;
+    let limit = Limit::of(rt, path)?;
+    Ok(Kept { bytes, limit })
 }
 
 /// Notes in the journal that a pack is put back which is there already.
@@ -167,7 +180,7 @@ fn put_back<'a>(
     journal: JournalFile<'a>,
     replaced: Replaced,
     sum: &str,
-    bytes: &[u8],
+    kept: &Kept,
 ) -> Result<(), DayFault<'a>> {
     let Replaced {
         sum: before,
@@ -180,7 +193,7 @@ fn put_back<'a>(
         take_back(rt, &aside);
         return Err(DayFault::from(refusal));
     }
-    let done = save_pack(rt, asked.save, locked, None, &[], bytes);
+    let done = save_kept(rt, asked.save, locked, kept);
     end_aside(rt, &aside, &done);
     journal.end_save(rt, &done);
     match done {
@@ -189,6 +202,19 @@ fn put_back<'a>(
             Ok(())
         }
         Err(fault) => Err(not_restored(rt, asked, &fault)),
+    }
+}
+
+/// Saves a kept pack over the locked one, or as a new file. A file that has appeared by now isn't replaced.
+fn save_kept(
+    rt: &HostRuntime,
+    save: &str,
+    locked: Option<LockedPack>,
+    kept: &Kept,
+) -> Result<(), FileFault> {
+    match locked {
+        None => save_new_pack(rt, save, kept.limit, &[], &kept.bytes),
+        locked => save_pack(rt, save, locked, kept.limit, &[], &kept.bytes),
     }
 }
 

@@ -2,6 +2,7 @@
 
 use crate::fault::DayFault;
 use crate::order::Order;
+use crate::twice::report_twice;
 use crate::watch::Watch;
 use s3_cards::{Deck, LevelId};
 use s3_decks::{JobEntry, jobs_of, push_strays, strays_of};
@@ -62,8 +63,8 @@ pub fn list_decks<'a>(
     })
 }
 
-/// Reads both decks, and reports their jobs that continue over statements of later jobs, one a line. `None` if the day isn't begun: if
-/// there are such jobs, a person at a terminal is asked, unless rules are given or the day of a log is done again.
+/// Reads both decks, and reports their jobs that continue over statements of later jobs, and files that are given twice, one a line.
+/// `None` if the day isn't begun: if there are such jobs or files, a person at a terminal is asked, unless rules are given or the day of a log is done again.
 pub fn look_for_strays<'a>(
     rt: &HostRuntime,
     order: &Order<'a>,
@@ -71,7 +72,8 @@ pub fn look_for_strays<'a>(
     two: &DayDeck<'a>,
 ) -> Result<Option<ListedDecks>, DayFault<'a>> {
     let decks = list_decks(rt, one, two)?;
-    let count = report_strays(rt, one, two, &decks)?;
+    let strays = report_strays(rt, one, two, &decks)?;
+    let count = strays.saturating_add(report_twice(rt, order)?);
     if is_begun(rt, order, count)? {
         Ok(Some(decks))
     } else {
@@ -79,7 +81,7 @@ pub fn look_for_strays<'a>(
     }
 }
 
-/// Whether a day with so many strays is begun.
+/// Whether a day with so many strays and files that are given twice is begun.
 fn is_begun(rt: &HostRuntime, order: &Order<'_>, count: usize) -> Result<bool, AllocError> {
     if count == 0 || !is_person_asked(order) {
         return Ok(true);

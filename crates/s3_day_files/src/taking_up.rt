@@ -6,8 +6,8 @@ use crate::strays::{list_decks, report_strays};
 use s3_cards::{CardFault, Deck, DeckFault, LevelId};
 use s3_deck_json::push_jobs_of_deck;
 use s3_decks::{
-    DeckText, JobEntry, Position, job_cut_at, jobs_of, left_out_from, lost_settings, push_cut,
-    push_inherited, push_jobs,
+    DeckText, FilePlace, JobEntry, Position, job_cut_at, jobs_of, left_out_from, lost_settings,
+    push_cut, push_inherited, push_jobs,
 };
 use s3_host_files::StandardOutput;
 use s3_json_lines::{Value, lines_of};
@@ -51,7 +51,39 @@ fn taken_up<'a>(
     if order.redo.is_none() {
         test_beginning(rt, level, text, &jobs, card)?;
     }
-    taken_up_at(rt, level, text, &jobs, card)
+    let deck = taken_up_at(rt, level, text, &jobs, card)?;
+    if order.redo.is_none() && !order.is_quiet {
+        report_beginning(rt, level, text, &jobs, card)?;
+    }
+    Ok(deck)
+}
+
+/// Reports at which line a level is taken up, and how many jobs before it are left out.
+fn report_beginning(
+    rt: &HostRuntime,
+    level: LevelId,
+    text: &DeckText<'_>,
+    jobs: &[JobEntry],
+    card: usize,
+) -> Result<(), AllocError> {
+    let (number, count) = (level.number(), left_out_from(rt.alloc(), jobs, card)?.len());
+    let _ = match place_of_next(text, jobs, card) {
+        Some(place) => writeln!(
+            rt.stderr(),
+            "level {number} is taken up at {place}; jobs left out: {count}"
+        ),
+        None => writeln!(
+            rt.stderr(),
+            "level {number} has no job from this line on; jobs left out: {count}"
+        ),
+    };
+    Ok(())
+}
+
+/// The line of the first job that begins at a card or after it, if there is one.
+fn place_of_next<'a>(text: &DeckText<'a>, jobs: &[JobEntry], card: usize) -> Option<FilePlace<'a>> {
+    let job = jobs.iter().find(|job| job.first_card() >= card)?;
+    text.place_of(job.first_card()).place
 }
 
 /// Reports that the deck of a level has no such line.

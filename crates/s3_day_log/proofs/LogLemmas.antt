@@ -158,9 +158,11 @@ not_begun (event.Halt halt) isnt = refl
 not_begun (event.Reply reply) isnt = refl
 not_begun (event.Cut level) isnt = refl
 not_begun event.Stop isnt = refl
+not_begun (event.Left left) isnt = refl
 not_begun event.Declined isnt = refl
 not_begun (event.Saving pack) isnt = refl
 not_begun (event.End day) isnt = refl
+not_begun (event.Refused day) isnt = refl
 
 pub sound_or_none : (day : Day) (b : Bool) → is_sound day ≡ b → begun_by (Some (begins day)) ≡ cond b (Some day) None
 sound_or_none day b is = ap (λ v. cond v (Some day) None) is

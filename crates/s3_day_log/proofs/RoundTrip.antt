@@ -21,11 +21,13 @@ use Rattle.s3_operator.specs.Inner.Codes.{IsCodeOf, has_letters, is_shown}
 use Rattle.s3_cards.proofs.NameLemmas.{equal_codes}
 use Rattle.s3_day_log.specs.declared.event.JobEnd.{JobEnd}
 use Rattle.s3_day_log.specs.declared.event.JobEnd.TheVariants.{Ended, Replied, PassedOver}
+use Rattle.s3_day_log.specs.declared.event.JobKind.{JobKind}
+use Rattle.s3_day_log.specs.declared.event.JobKind.TheVariants.{Compile, Run, Faulty}
 use Rattle.s3_day_log.specs.declared.event.Replier.{Replier}
 use Rattle.s3_day_log.specs.declared.event.Replier.TheVariants as by
-use Rattle.s3_day_log.specs.Inner.Events.{File, Said, begins, job_begins, job_ends, halts, replies, is_cut, stops, declines, saves, ends}
+use Rattle.s3_day_log.specs.Inner.Events.{File, Said, begins, job_begins, job_ends, halts, replies, is_cut, stops, is_left, declines, saves, ends, is_refused}
 use Rattle.s3_day_log.specs.Inner.Members.{below, halt_of, level_of, number_up_to, only_or_none, or_none, read_each, shown_halts, up_to, whole_number}
-use Rattle.s3_day_log.specs.Inner.Lines.{Pairs, byte_most, short_most, long_most, day_in, day_pairs, end_named, end_word, file_at, file_if_any, file_or_null, file_tree, files_tree, is_time, line_of, members_of, pairs_of, replier_named, replier_word, said_in, said_on, text_or_null, texts_tree, tree_of, whole, whole_or_null}
+use Rattle.s3_day_log.specs.Inner.Lines.{Pairs, byte_most, short_most, long_most, day_in, day_pairs, end_named, end_word, file_at, file_if_any, file_or_null, file_tree, files_tree, is_time, job_kind_if_any, job_kind_named, job_kind_or_null, job_kind_word, line_of, members_of, pairs_of, replier_named, replier_word, said_in, said_on, text_or_null, texts_tree, tree_of, whole, whole_or_null}
 use Rattle.s3_day_log.specs.Inner.Logged.{ReadsBack, can_be_read, card_fits, events_in, fits, lines_ended, text_of}
 use Rattle.s3_day_log.proofs.MemberLemmas.{below_parses}
 use Rattle.s3_day_log.proofs.LogLemmas.{lines_of_line, lines_of_rest}
@@ -70,6 +72,15 @@ replier_back by.Rule = refl
 replier_back by.Line = refl
 replier_back by.Operator = refl
 replier_back by.Log = refl
+
+job_kind_back : (what : JobKind) → job_kind_named (job_kind_word what) ≡ Some what
+job_kind_back Compile = refl
+job_kind_back Run = refl
+job_kind_back Faulty = refl
+
+kind_back : (what : Option JobKind) → option_and_then job_kind_if_any (option_and_then (or_none as_str) (only_or_none (job_kind_or_null what ∷ []))) ≡ Some what
+kind_back None = refl
+kind_back (Some what) = ap (option_map Some) (job_kind_back what)
 
 program_back : (program : Option (List ℕ)) → option_and_then (or_none as_str) (only_or_none (text_or_null program ∷ [])) ≡ Some program
 program_back None = refl
@@ -136,7 +147,7 @@ read_back : (at : List ℕ) (said : Said) → is_time at ≡ true → fits said 
 read_back at (begins day) timed fit = rw (timed, day_back day.words day.pack day.deck1 day.deck2) refl
 read_back at (job_begins job) timed fit =
     let parts = and_parts (nat_le job.job short_most) (nat_le job.card short_most) fit in
-    rw (timed, level_back job.level, short_back job.job parts.0, short_back job.card parts.1, program_back job.program) refl
+    rw (timed, level_back job.level, short_back job.job parts.0, kind_back job.kind, short_back job.card parts.1, program_back job.program) refl
 read_back at (job_ends job) timed fit =
     let parts = and_parts (nat_le job.job short_most) (nat_le job.lines long_most) fit in
     rw (timed, level_back job.level, short_back job.job parts.0, long_back job.lines parts.1, end_back job.end) refl
@@ -149,9 +160,11 @@ read_back at (replies reply) timed fit =
     rw (timed, level_back reply.level, code_back reply.code parts.0, byte_back reply.digit parts.1, replier_back reply.by) refl
 read_back at (is_cut level) timed fit = rw (timed, level_back level) refl
 read_back at stops timed fit = rw timed refl
+read_back at (is_left left) timed fit = rw (timed, level_back left.level, card_back left.job fit, program_back left.from) refl
 read_back at declines timed fit = rw timed refl
 read_back at (saves file) timed fit = rw timed refl
 read_back at (ends status saved) timed fit = rw (timed, byte_back status fit, file_back saved) refl
+read_back at (is_refused status line) timed fit = rw (timed, byte_back status fit) refl
 
 -- ---- its numbers are such, and it is not deep
 abbrev Fine : Json → Type 0
@@ -183,6 +196,10 @@ long_fine n fit = let under = leb-true n long_most fit in whole_fine n (omega ar
 card_fine : (card : Option ℕ) → card_fits card ≡ true → Fine (whole_or_null card)
 card_fine None fit = (tt, omega arith)
 card_fine (Some n) fit = short_fine n fit
+
+kind_fine : (what : Option JobKind) → Fine (job_kind_or_null what)
+kind_fine None = (tt, omega arith)
+kind_fine (Some what) = (tt, omega arith)
 
 program_fine : (program : Option (List ℕ)) → Fine (text_or_null program)
 program_fine None = (tt, omega arith)
@@ -216,7 +233,7 @@ pairs_fine : (said : Said) → fits said ≡ true → AreFine (pairs_of said)
 pairs_fine (begins day) fit = (text_fine, (day_fine day.words day.pack day.deck1 day.deck2, tt))
 pairs_fine (job_begins job) fit =
     let parts = and_parts (nat_le job.job short_most) (nat_le job.card short_most) fit in
-    (text_fine, (level_fine job.level, (short_fine job.job parts.0, (program_fine job.program, (short_fine job.card parts.1, tt)))))
+    (text_fine, (level_fine job.level, (short_fine job.job parts.0, (kind_fine job.kind, (program_fine job.program, (short_fine job.card parts.1, tt))))))
 pairs_fine (job_ends job) fit =
     let parts = and_parts (nat_le job.job short_most) (nat_le job.lines long_most) fit in
     (text_fine, (level_fine job.level, (short_fine job.job parts.0, (long_fine job.lines parts.1, (text_fine, tt)))))
@@ -229,9 +246,11 @@ pairs_fine (replies reply) fit =
     (text_fine, (level_fine reply.level, (text_fine, (byte_fine reply.digit parts.1, (text_fine, tt)))))
 pairs_fine (is_cut level) fit = (text_fine, (level_fine level, tt))
 pairs_fine stops fit = (text_fine, tt)
+pairs_fine (is_left left) fit = (text_fine, (level_fine left.level, (card_fine left.job fit, (program_fine left.from, tt))))
 pairs_fine declines fit = (text_fine, tt)
 pairs_fine (saves file) fit = (text_fine, (file_tree_fine file, tt))
 pairs_fine (ends status saved) fit = (text_fine, (byte_fine status fit, (file_fine saved, tt)))
+pairs_fine (is_refused status line) fit = (text_fine, (byte_fine status fit, (text_fine, tt)))
 
 members_fine : (ps : Pairs) → AreFine ps → MembersHaveDecimals (members_of ps) × (members_depth (members_of ps) ≤ 3)
 members_fine [] all = (tt, omega arith)

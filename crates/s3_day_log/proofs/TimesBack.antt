@@ -9,7 +9,7 @@ use Rattle.json.specs.Print.{print}
 use Rattle.json.specs.Tree.{json_tokens}
 use Rattle.json.proofs.Printed.Trees.{document-print}
 use Rattle.jiff.specs.Words.{parse_timestamp}
-use Rattle.s3_day_log.specs.Inner.Events.{Said, begins, job_begins, job_ends, halts, replies, is_cut, stops, declines, saves, ends}
+use Rattle.s3_day_log.specs.Inner.Events.{Said, begins, job_begins, job_ends, halts, replies, is_cut, stops, is_left, declines, saves, ends, is_refused}
 use Rattle.s3_day_log.specs.Inner.Lines.{is_time, members_of, pairs_of, said_on, tree_of}
 use Rattle.s3_day_log.specs.Inner.Logged.{events_in, fits, lines_ended}
 use Rattle.s3_day_log.specs.Inner.Times.{IsLineAt, IsTimeAt, LogReadsBack, Noted, if_read, instant_at, instant_in, instant_on, instants_in}
@@ -29,9 +29,11 @@ at_back at (halts halt) = refl
 at_back at (replies reply) = refl
 at_back at (is_cut level) = refl
 at_back at stops = refl
+at_back at (is_left left) = refl
 at_back at declines = refl
 at_back at (saves file) = refl
 at_back at (ends status saved) = refl
+at_back at (is_refused status line) = refl
 
 instant_back : (at : List ℕ) (said : Said) → fits said ≡ true → instant_on (print (json_tokens (tree_of at said))) ≡ if_read (parse_timestamp at)
 unfolding instant_on tree_of

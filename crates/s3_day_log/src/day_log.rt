@@ -1,5 +1,5 @@
 //! A log that is read, so that its day can be done again.
-ghost use Rattle.std.specs.Prelude.{◌≡◌, ◌≤◌, ◌⊎◌, map, option_map, slice_get};
+ghost use Rattle.std.specs.Prelude.{◌≡◌, ◌≤◌, ◌⊎◌, length, map, option_map, slice_get};
 ghost use Rattle.std.specs.List.{list_all};
 ghost use Rattle.std.specs.Option.{option_copied};
 ghost use Rattle.std.specs.Str.{bytes_eq};
@@ -29,7 +29,7 @@ pub enum LogFault {
     #[error("out of memory")]
     NoMemory,
     /// This line, from 1, isn't what a log has there: an event with its time, of which the first one alone begins the day, and
-    /// the last one alone may end it.
+    /// the last one alone may end it. A day that was refused has no such line.
     #[error("line {0} is no line of a log")]
     Line(usize),
 }
@@ -200,8 +200,14 @@ impl DayLog {
         ensures { Takes number (continued (said_of event) (log_in self.old)) self.new result }
     {
         match event {
-            Event::Begin { .. } | Event::End(_) => Err(LogFault::Line(number)),
-            Event::JobBegins(_) | Event::JobEnds(_) | Event::Cut { .. } | Event::Stop => Ok(()),
+            Event::Begin { .. } | Event::End(_) | Event::Refused(_) => {
+                Err(LogFault::Line(number))
+            }
+            Event::JobBegins(_)
+            | Event::JobEnds(_)
+            | Event::Cut { .. }
+            | Event::Stop
+            | Event::Left(_) => Ok(()),
             Event::Halt(halt) => {
                 self.wait(halt);
                 Ok(())
@@ -255,6 +261,16 @@ impl DayLog {
         match self.reply(halt.level, given) {
             Some(answered) => answer_to(answered, halt),
             None => None,
+        }
+    }
+
+    /// How many replies a level was given.
+    pub fn reply_count(&self, level: LevelId) -> usize
+        ensures { result ≡ length (replies_at level self.now) }
+    {
+        match level {
+            LevelId::One => self.replies1.len(),
+            LevelId::Two => self.replies2.len(),
         }
     }
 

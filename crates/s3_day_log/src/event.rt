@@ -36,6 +36,17 @@ pub enum JobEnd {
     PassedOver,
 }
 
+/// What a job is for.
+#[derive(Clone, Copy)]
+pub enum JobKind {
+    /// It compiles a program.
+    Compile,
+    /// It runs a program.
+    Run,
+    /// Its statements are faulty.
+    Faulty,
+}
+
 /// Who gave a reply.
 #[derive(Clone, Copy)]
 pub enum Replier {
@@ -56,6 +67,8 @@ pub struct JobBegun {
     pub level: LevelId,
     /// The number of the job.
     pub job: u16,
+    /// What it is for; none in the logs of earlier programs.
+    pub kind: Option<JobKind>,
     /// The program, if its statements name one.
     pub program: Option<String>,
     /// The number of its first card, from 1.
@@ -110,6 +123,26 @@ pub struct AnsweredHalt {
     pub halt: Option<LoggedHalt>,
 }
 
+/// What is left of a level that isn't done.
+#[derive(Drop)]
+pub struct LevelLeft {
+    /// The level.
+    pub level: LevelId,
+    /// The number of its first job that is left; none if no job is.
+    pub job: Option<u16>,
+    /// The line at which this job begins, as `--from1` and `--from2` take it.
+    pub from: Option<String>,
+}
+
+/// A day that was refused before its first turn.
+#[derive(Drop)]
+pub struct DayRefused {
+    /// The exit status.
+    pub status: u8,
+    /// The last line that was reported.
+    pub line: String,
+}
+
 /// A day that is over.
 #[derive(Drop)]
 pub struct DayOver {
@@ -142,6 +175,8 @@ pub enum Event {
     },
     /// The operator ended the day.
     Stop,
+    /// A level isn't done at the end of the day.
+    Left(LevelLeft),
     /// The operator answered that the pack isn't to be saved. Only the last event follows.
     Declined,
     /// The pack is going to be saved. Only the last event follows.
@@ -151,4 +186,6 @@ pub enum Event {
     },
     /// The last one: the day is over.
     End(DayOver),
+    /// The only one: the day was refused before its first turn.
+    Refused(DayRefused),
 }

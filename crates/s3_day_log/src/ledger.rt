@@ -5,6 +5,7 @@ ghost use Rattle.s3_solo.specs.World.{World};
 ghost use Rattle.s3_level.specs.Inner.Holds.{Around, Holds};
 ghost use Rattle.s3_day_log.specs.Inner.Endings.{Begins, begins_next, begun_by, behind_reply, closed, endings, has_open_job, has_passed, is_open_behind, overs, overs_behind, stands_still};
 
+use crate::event::JobKind;
 use s3_cards::{Deck, Name};
 use s3_decks::{JobEntry, Statements, program_of};
 use s3_level::Level;
@@ -30,6 +31,15 @@ impl Purpose {
             Purpose::Compiles(name) => Some(name),
             Purpose::Runs(name) => Some(name),
             Purpose::Unknown => None,
+        }
+    }
+
+    /// The kind of the job, as the log has it.
+    pub fn kind(self) -> JobKind {
+        match self {
+            Purpose::Compiles(_) => JobKind::Compile,
+            Purpose::Runs(_) => JobKind::Run,
+            Purpose::Unknown => JobKind::Faulty,
         }
     }
 }

@@ -22,7 +22,7 @@
 //! - after `Ledger::follow`, those jobs have begun that end before the place from which the level's world has its remaining jobs, and
 //!   each is over except for the last one of a level whose job is at work or halted.
 //!
-//! Tested: to which job a printed line belongs, and the card and the program of a job.
+//! Tested: to which job a printed line belongs, and the card, the kind and the program of a job.
 
 #![tactic(auto)]
 
@@ -45,8 +45,8 @@ pub use clock_text::utc_text;
 pub use day_log::{DayLog, LogFault, Refused};
 pub use endings::{LevelEnd, Verdict, became, end_of};
 pub use event::{
-    AnsweredHalt, Begun, DayOver, Event, JobBegun, JobEnd, JobOver, LoggedHalt, LoggedReply,
-    NamedFile, Replier,
+    AnsweredHalt, Begun, DayOver, DayRefused, Event, JobBegun, JobEnd, JobKind, JobOver, LevelLeft,
+    LoggedHalt, LoggedReply, NamedFile, Replier,
 };
 pub use ledger::{BegunJob, Ledger, Purpose};
 pub use which_pack::{Standing, standing_of};

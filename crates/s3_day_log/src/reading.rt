@@ -6,12 +6,13 @@ ghost use Rattle.json.specs.Find.{as_object, as_str};
 ghost use Rattle.json.specs.Value.{value_view, items_view};
 ghost use Rattle.json.specs.declared.error.Error.TheVariants.{OutOfMemory};
 ghost use Rattle.s3_day_log.specs.Inner.Events.{day_of, file_of, files_of, said_of, texts_of};
-ghost use Rattle.s3_day_log.specs.Inner.Lines.{day_if_whole, day_in, end_said, file_at, file_in, files_in, halt_said, is_time as is_time_spec, job_in, job_over_in, optional_file_in, reply_said, said_as, said_by, said_in, said_on, texts_in, timed};
+ghost use Rattle.s3_day_log.specs.Inner.Lines.{day_if_whole, day_in, end_said, file_at, file_in, files_in, halt_said, is_time as is_time_spec, job_in, job_kind_in, job_over_in, optional_file_in, reply_said, said_as, said_by, said_in, said_on, texts_in, timed};
 ghost use Rattle.s3_day_log.specs.Inner.Members.{read_each};
 ghost use Rattle.s3_day_log.specs.Inner.Views.{members_in};
 
 use crate::event::{
-    Begun, DayOver, Event, JobBegun, JobEnd, JobOver, LoggedHalt, LoggedReply, NamedFile, Replier,
+    Begun, DayOver, DayRefused, Event, JobBegun, JobEnd, JobKind, JobOver, LevelLeft, LoggedHalt,
+    LoggedReply, NamedFile, Replier,
 };
 use crate::members::Members;
 use crate::words::EventKind;
@@ -112,9 +113,11 @@ fn event_of_kind(
         EventKind::Reply => Ok(reply(line).map(|reply| Event::Reply(reply))),
         EventKind::Cut => Ok(line.level().map(|level| Event::Cut { level })),
         EventKind::Stop => Ok(Some(Event::Stop)),
+        EventKind::Left => left(alloc, line),
         EventKind::Declined => Ok(Some(Event::Declined)),
         EventKind::Saving => saving(alloc, line),
         EventKind::End => day_over(alloc, line),
+        EventKind::Refused => refused(alloc, line),
     }
 }
 
@@ -169,6 +172,9 @@ fn job_begins(alloc: Global, line: Members<'_, '_>) -> Result<Option<Event>, All
     let Some(job) = line.short("job") else {
         return Ok(None);
     };
+    let Some(kind) = job_kind(line) else {
+        return Ok(None);
+    };
     let Some(card) = line.short("card") else {
         return Ok(None);
     };
@@ -178,9 +184,20 @@ fn job_begins(alloc: Global, line: Members<'_, '_>) -> Result<Option<Event>, All
     Ok(Some(Event::JobBegins(JobBegun {
         level,
         job,
+        kind,
         program: optional_string(alloc, program)?,
         card,
     })))
+}
+
+/// What a job is for, `Some(None)` if the line doesn't have it.
+fn job_kind(line: Members<'_, '_>) -> Option<Option<JobKind>>
+    ensures { result ≡ job_kind_in (members_in line.entry) }
+{
+    match line.optional_text("kind")? {
+        Some(word) => Some(Some(JobKind::of_word(word)?)),
+        None => Some(None),
+    }
 }
 
 /// A text that is there, as a string.
@@ -229,6 +246,26 @@ fn reply(line: Members<'_, '_>) -> Option<LoggedReply>
     })
 }
 
+/// What is left of a level.
+fn left(alloc: Global, line: Members<'_, '_>) -> Result<Option<Event>, AllocError>
+    ensures { IfOk result (λ found. option_map said_of found ≡ said_as EventKind.Left (members_in line.entry)) }
+{
+    let Some(level) = line.level() else {
+        return Ok(None);
+    };
+    let Some(job) = line.optional_short("job") else {
+        return Ok(None);
+    };
+    let Some(from) = line.optional_text("from") else {
+        return Ok(None);
+    };
+    Ok(Some(Event::Left(LevelLeft {
+        level,
+        job,
+        from: optional_string(alloc, from)?,
+    })))
+}
+
 /// The event that the pack is going to be saved.
 fn saving(alloc: Global, line: Members<'_, '_>) -> Result<Option<Event>, AllocError>
     ensures { IfOk result (λ found. option_map said_of found ≡ said_as EventKind.Saving (members_in line.entry)) }
@@ -253,6 +290,22 @@ fn day_over(alloc: Global, line: Members<'_, '_>) -> Result<Option<Event>, Alloc
         Some(saved) => Ok(Some(Event::End(DayOver { status, saved }))),
         None => Ok(None),
     }
+}
+
+/// The refusal of a day.
+fn refused(alloc: Global, line: Members<'_, '_>) -> Result<Option<Event>, AllocError>
+    ensures { IfOk result (λ found. option_map said_of found ≡ said_as EventKind.Refused (members_in line.entry)) }
+{
+    let Some(status) = line.byte("status") else {
+        return Ok(None);
+    };
+    let Some(told) = line.text("line") else {
+        return Ok(None);
+    };
+    Ok(Some(Event::Refused(DayRefused {
+        status,
+        line: String::from_str(alloc, told)?,
+    })))
 }
 
 /// A file.

@@ -1,8 +1,8 @@
-//! The words of the log: for kinds of events, for how a job ended, and for who gave a reply.
+//! The words of the log: for kinds of events, for what a job is for, for how it ended, and for who gave a reply.
 ghost use Rattle.std.specs.Prelude.{◌≡◌};
-ghost use Rattle.s3_day_log.specs.Inner.Lines.{end_named, end_word, kind_named, replier_named, replier_word};
+ghost use Rattle.s3_day_log.specs.Inner.Lines.{end_named, end_word, job_kind_named, job_kind_word, kind_named, replier_named, replier_word};
 
-use crate::event::{JobEnd, Replier};
+use crate::event::{JobEnd, JobKind, Replier};
 
 /// The kinds of events.
 #[derive(Clone, Copy)]
@@ -21,12 +21,16 @@ pub(crate) enum EventKind {
     Cut,
     /// The operator ended the day.
     Stop,
+    /// A level isn't done at the end of the day.
+    Left,
     /// The operator answered that the pack isn't to be saved.
     Declined,
     /// The pack is going to be saved.
     Saving,
     /// The day is over.
     End,
+    /// The day was refused before its first turn.
+    Refused,
 }
 
 impl EventKind {
@@ -42,9 +46,36 @@ impl EventKind {
             "reply" => Some(EventKind::Reply),
             "cut" => Some(EventKind::Cut),
             "stop" => Some(EventKind::Stop),
+            "left" => Some(EventKind::Left),
             "declined" => Some(EventKind::Declined),
             "saving" => Some(EventKind::Saving),
             "end" => Some(EventKind::End),
+            "refused" => Some(EventKind::Refused),
+            _ => None,
+        }
+    }
+}
+
+impl JobKind {
+    /// Its word.
+    pub(crate) fn word(self) -> &'static str
+        ensures { result.now ≡ job_kind_word self }
+    {
+        match self {
+            JobKind::Compile => "compile",
+            JobKind::Run => "run",
+            JobKind::Faulty => "faulty",
+        }
+    }
+
+    /// The kind of this word.
+    pub(crate) fn of_word(word: &str) -> Option<JobKind>
+        ensures { result ≡ job_kind_named word.now }
+    {
+        match word {
+            "compile" => Some(JobKind::Compile),
+            "run" => Some(JobKind::Run),
+            "faulty" => Some(JobKind::Faulty),
             _ => None,
         }
     }

@@ -6,12 +6,15 @@ ghost use Rattle.json.specs.Json.{object, array};
 ghost use Rattle.json.specs.Print.{print};
 ghost use Rattle.json.specs.Tree.{json_tokens};
 ghost use Rattle.s3_day_log.specs.Inner.Events.{begins, day_of, file_of, halts, job_ends, replies, said_of};
-ghost use Rattle.s3_day_log.specs.Inner.Lines.{day_pairs, file_or_null as file_or_null_spec, file_tree, files_tree, line_of as line_of_spec, members_of, pack_pair, pairs_of, text_or_null as text_or_null_spec, texts_tree, tree_of, whole_or_null};
+ghost use Rattle.s3_day_log.specs.Inner.Lines.{day_pairs, file_or_null as file_or_null_spec, file_tree, files_tree, job_kind_or_null as kind_or_null_spec, line_of as line_of_spec, members_of, pack_pair, pairs_of, text_or_null as text_or_null_spec, texts_tree, tree_of, whole_or_null};
 ghost use Rattle.s3_day_log.specs.Inner.Times.{IsLineAt};
 ghost use Rattle.s3_day_log.specs.Inner.Written.{Appends, json_of, pairs_in, pairs_tokens};
 
 use crate::clock_text::utc_text;
-use crate::event::{Begun, DayOver, Event, JobBegun, JobOver, LoggedHalt, LoggedReply, NamedFile};
+use crate::event::{
+    Begun, DayOver, DayRefused, Event, JobBegun, JobKind, JobOver, LevelLeft, LoggedHalt,
+    LoggedReply, NamedFile,
+};
 use json::Writer;
 use s3_cards::LevelId;
 use s3_operator::{HaltCode, letters};
@@ -64,6 +67,16 @@ fn text_or_null(text: &Option<String>) -> Part<'_>
 {
     match text {
         Some(text) => Part::Text(text.as_str()),
+        None => Part::Nothing,
+    }
+}
+
+/// A kind of job that there may be.
+fn kind_or_null<'a>(kind: Option<JobKind>) -> Part<'a>
+    ensures { json_of result ≡ kind_or_null_spec kind }
+{
+    match kind {
+        Some(kind) => Part::Text(kind.word()),
         None => Part::Nothing,
     }
 }
@@ -176,11 +189,13 @@ impl Line {
                 self.members(&[("event", Part::Text("cut")), ("level", Part::Level(*level))])
             }
             Event::Stop => self.members(&[("event", Part::Text("stop"))]),
+            Event::Left(left) => self.left(left),
             Event::Declined => self.members(&[("event", Part::Text("declined"))]),
             Event::Saving { pack } => {
                 self.members(&[("event", Part::Text("saving")), ("pack", Part::File(pack))])
             }
             Event::End(day) => self.day_over(day),
+            Event::Refused(day) => self.refused(day),
         }
     }
 
@@ -222,6 +237,7 @@ impl Line {
             ("event", Part::Text("job_begins")),
             ("level", Part::Level(job.level)),
             ("job", Part::Number(u64::from(job.job))),
+            ("kind", kind_or_null(job.kind)),
             ("program", text_or_null(&job.program)),
             ("card", Part::Number(u64::from(job.card))),
         ])
@@ -263,6 +279,17 @@ impl Line {
         ])
     }
 
+    fn left(&mut self, left: &LevelLeft) -> Result<(), AllocError>
+        ensures { Appends result self.old.json self.new.json (pairs_tokens (pairs_of (said_of (Event.Left left.now)))) }
+    {
+        self.members(&[
+            ("event", Part::Text("left")),
+            ("level", Part::Level(left.level)),
+            ("job", number_or_null(left.job)),
+            ("from", text_or_null(&left.from)),
+        ])
+    }
+
     fn day_over(&mut self, day: &DayOver) -> Result<(), AllocError>
         ensures { Appends result self.old.json self.new.json (pairs_tokens (pairs_of (said_of (Event.End day.now)))) }
     {
@@ -270,6 +297,16 @@ impl Line {
             ("event", Part::Text("end")),
             ("status", Part::Number(u64::from(day.status))),
             ("saved", file_or_null(&day.saved)),
+        ])
+    }
+
+    fn refused(&mut self, day: &DayRefused) -> Result<(), AllocError>
+        ensures { Appends result self.old.json self.new.json (pairs_tokens (pairs_of (said_of (Event.Refused day.now)))) }
+    {
+        self.members(&[
+            ("event", Part::Text("refused")),
+            ("status", Part::Number(u64::from(day.status))),
+            ("line", Part::Text(day.line.as_str())),
         ])
     }
 

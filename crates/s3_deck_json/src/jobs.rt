@@ -1,16 +1,18 @@
 //! The jobs of a deck.
-ghost use Rattle.std.specs.Prelude.{◌≡◌, IfOk};
+ghost use Rattle.std.specs.Prelude.{◌≡◌, IfOk, [], map};
 ghost use Rattle.json.specs.Json.{null, string};
 ghost use Rattle.s3_decks.specs.Inner.Decks.{line_of};
-ghost use Rattle.s3_deck_json.specs.Inner.Objects.{job_head, job_json, kind_word, name_text};
-ghost use Rattle.s3_json_lines.specs.Inner.Values.{cell_json, json_of, members_named, members_view};
+ghost use Rattle.s3_deck_json.specs.Inner.Objects.{job_head, job_json, kind_word, name_text, statement_json, used_file_json};
+ghost use Rattle.s3_ocl.specs.Jobs.{is_compile as compiles};
+ghost use Rattle.s3_json_lines.specs.Inner.Values.{array_of, cell_json, json_of, members_named, members_view};
 
 use crate::messages::message_value;
 use crate::names::characters_of;
-use crate::places::{JobPlace, file_cell, line_cell};
-use s3_cards::{Deck, LevelId, Name};
+use crate::places::{JobPlace, JobSpan, file_cell, line_cell};
+use s3_cards::{Deck, LevelId};
 use s3_decks::{DeckText, JobEntry, Statements, jobs_of};
-use s3_json_lines::{Cell, Value, members, push_member};
+use s3_json_lines::{Cell, Value, members, object, push_member};
+use s3_ocl::{FileStatement, JobCards};
 use s3_source_listing::messages_of_job;
 use std::alloc::{AllocError, Global};
 
@@ -21,29 +23,64 @@ struct Loaded<'a> {
     kind: Cell<'a>,
 }
 
-/// The members of a job before its error.
+/// The members of a job before its files.
 fn head<'a>(
     alloc: Global,
     files: &'a DeckText<'a>,
     level: LevelId,
-    job: JobPlace,
+    job: JobSpan,
     loaded: Loaded<'a>,
 ) -> Result<Vec<(&'static str, Value)>, AllocError>
-    ensures { IfOk result (λ made. members_view made.items ≡ members_named (job_head level job (cell_json loaded.entry.program) (cell_json loaded.entry.kind) (line_of job.card files.now))) }
+    ensures { IfOk result (λ made. members_view made.items ≡ members_named (job_head level job (cell_json loaded.entry.program) (cell_json loaded.entry.kind) (line_of job.start.card files.now) (line_of job.last files.now))) }
 {
-    let place = files.place_of(job.card).place;
+    let place = files.place_of(job.start.card).place;
+    let last = files.place_of(job.last).place;
     members(
         alloc,
         &[
             ("level", Cell::Number(u64::from(level.number()))),
-            ("job", Cell::Number(job.number as u64)),
+            ("job", Cell::Number(job.start.number as u64)),
             ("program", loaded.program),
             ("kind", loaded.kind),
-            ("card", Cell::Number(job.card as u64)),
+            ("card", Cell::Number(job.start.card as u64)),
             ("file", file_cell(&place)),
             ("line", line_cell(&place)),
+            ("last_card", Cell::Number(job.last as u64)),
+            ("last_file", file_cell(&last)),
+            ("last_line", line_cell(&last)),
         ],
     )
+}
+
+/// A file of a job as an object.
+fn used_file_object<'a>(alloc: Global, name: &'a str, label: &'a str) -> Result<Value, AllocError>
+    ensures { IfOk result (λ value. json_of value ≡ used_file_json name.now label.now) }
+{
+    object(
+        alloc,
+        &[("name", Cell::Text(name)), ("label", Cell::Text(label))],
+    )
+}
+
+/// The file of a FILE statement as an object.
+fn statement_value(alloc: Global, statement: &FileStatement) -> Result<Value, AllocError>
+    ensures { IfOk result (λ value. json_of value ≡ statement_json statement.now) }
+{
+    let name = characters_of(alloc, statement.name)?;
+    let label = characters_of(alloc, statement.label)?;
+    used_file_object(alloc, name.as_str(), label.as_str())
+}
+
+/// The files of FILE statements as a list of objects.
+#[tactic(auto, using(s3_json_lines::proofs::Views::view_list))]
+fn statements_value(alloc: Global, statements: &[FileStatement]) -> Result<Value, AllocError>
+    ensures { IfOk result (λ value. json_of value ≡ array_of (map statement_json statements.now)) }
+{
+    let mut values = Vec::new(alloc);
+    for statement in statements {
+        values.push(statement_value(alloc, statement)?)?;
+    }
+    Ok(Value::List(values))
 }
 
 /// What a job does, in one word.
@@ -67,19 +104,21 @@ fn error_value(
     }
 }
 
-/// The object of a job, from its error and what comes before the error.
+/// The object of a job, from its files, its error and what comes before them.
 #[tactic(auto, using(s3_json_lines::proofs::Views::view_object))]
 fn job_object<'a>(
     alloc: Global,
     files: &'a DeckText<'a>,
     level: LevelId,
-    job: JobPlace,
+    job: JobSpan,
     loaded: Loaded<'a>,
+    used: Value,
     error: Value,
 ) -> Result<Value, AllocError>
-    ensures { IfOk result (λ value. json_of value ≡ job_json files.now level job (cell_json loaded.entry.program) (cell_json loaded.entry.kind) (json_of error)) }
+    ensures { IfOk result (λ value. json_of value ≡ job_json files.now level job (cell_json loaded.entry.program) (cell_json loaded.entry.kind) (json_of used) (json_of error)) }
 {
     let mut made = head(alloc, files, level, job, loaded)?;
+    push_member(&mut made, "files", used)?;
     push_member(&mut made, "error", error)?;
     Ok(Value::Object(made))
 }
@@ -89,35 +128,37 @@ fn sound_value(
     alloc: Global,
     files: &DeckText<'_>,
     level: LevelId,
-    job: JobPlace,
-    program: Name,
-    is_compile: bool,
+    job: JobSpan,
+    cards: &JobCards,
 ) -> Result<Value, AllocError>
-    ensures { IfOk result (λ value. json_of value ≡ job_json files.now level job (string (name_text program)) (string (kind_word is_compile)) null) }
+    ensures { IfOk result (λ value. json_of value ≡ job_json files.now level job (string (name_text cards.now.program)) (string (kind_word (compiles cards.now))) (array_of (map statement_json cards.now.files)) null) }
 {
-    let name = characters_of(alloc, program)?;
+    let used = statements_value(alloc, cards.files())?;
+    let name = characters_of(alloc, cards.program())?;
     let loaded = Loaded {
         program: Cell::Text(name.as_str()),
-        kind: Cell::Text(kind_of(is_compile)),
+        kind: Cell::Text(kind_of(cards.is_compile())),
     };
-    job_object(alloc, files, level, job, loaded, Value::Nothing)
+    job_object(alloc, files, level, job, loaded, used, Value::Nothing)
 }
 
-/// A job with statements in error as an object.
+/// A job with statements in error as an object. It has no files.
+#[tactic(auto, using(s3_json_lines::proofs::Views::view_list))]
 fn faulty_value(
     alloc: Global,
     files: &DeckText<'_>,
     level: LevelId,
-    job: JobPlace,
+    job: JobSpan,
     error: Value,
 ) -> Result<Value, AllocError>
-    ensures { IfOk result (λ value. json_of value ≡ job_json files.now level job null null (json_of error)) }
+    ensures { IfOk result (λ value. json_of value ≡ job_json files.now level job null null (array_of []) (json_of error)) }
 {
     let loaded = Loaded {
         program: Cell::Nothing,
         kind: Cell::Nothing,
     };
-    job_object(alloc, files, level, job, loaded, error)
+    let used = Value::List(Vec::new(alloc));
+    job_object(alloc, files, level, job, loaded, used, error)
 }
 
 /// The job of a number as an object.
@@ -129,18 +170,18 @@ fn job_value(
     number: usize,
     job: &JobEntry,
 ) -> Result<Value, AllocError> {
-    let place = JobPlace {
-        number,
-        card: job.first_card(),
+    let span = JobSpan {
+        start: JobPlace {
+            number,
+            card: job.first_card(),
+        },
+        last: job.after(),
     };
     match &job.statements {
-        Statements::Sound(cards) => {
-            let (program, is_compile) = (cards.program(), cards.is_compile());
-            sound_value(alloc, files, level, place, program, is_compile)
-        }
+        Statements::Sound(cards) => sound_value(alloc, files, level, span, cards),
         Statements::Faulty(_) => {
             let error = error_value(alloc, files, deck, job)?;
-            faulty_value(alloc, files, level, place, error)
+            faulty_value(alloc, files, level, span, error)
         }
     }
 }

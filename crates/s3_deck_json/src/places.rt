@@ -16,6 +16,15 @@ pub struct JobPlace {
     pub card: usize,
 }
 
+/// A job of a deck from its first to its last card.
+#[derive(Clone, Copy)]
+pub struct JobSpan {
+    /// Where it begins.
+    pub start: JobPlace,
+    /// The number of its last card in the deck, from 1.
+    pub last: usize,
+}
+
 /// The file of a card, if the deck has the card.
 pub fn file_cell<'a>(place: &Option<FilePlace<'a>>) -> Cell<'a>
     ensures { cell_json result ≡ file_json (option_map line_seen place.now) }

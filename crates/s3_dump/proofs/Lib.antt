@@ -1,3 +1,4 @@
 pub mod DumpLemmas
+pub mod IndexLemmas
 pub mod NoteLemmas
 pub mod WriterLemmas

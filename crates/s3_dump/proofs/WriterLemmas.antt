@@ -8,10 +8,12 @@ use Rattle.std.proofs.lemmas.Fmt.{decimal_by_steps}
 use Rattle.std.proofs.lemmas.List.{append-nil, append_assoc, drop_all, drop_more, length-append, length-drop, length-replicate, length-take-le, replicate-append-replicate, take-append-drop, take_all, take_more}
 use Rattle.std.proofs.lemmas.List.Sums.{fold-append}
 use Rattle.s3_cards.specs.Codes.{code_page, ebcdic_of}
-use Rattle.s3_dump.specs.Inner.Dumps.{begun, hex_value, in_codes, in_zeros, most_zeros, restored, step, whole, with_high, with_low}
-use Rattle.s3_dump.specs.Inner.Writing.{AddsBytes, AddsLines, IsUpTo, Keeps, StandsFor, reads}
+use Rattle.s3_dump.specs.Inner.Dumps.{begun, hex_value, in_codes, in_index, in_zeros, most_number, most_zeros, moved_on, no_numbers, restored, step, whole, with_high, with_index, with_low, with_number}
+use Rattle.s3_dump.specs.Inner.Indexes.{index_of}
+use Rattle.s3_dump.specs.Inner.Writing.{AddsBytes, AddsFirst, AddsIndex, AddsLines, AddsNext, IsIndexAt, IsIndexOf, IsUpTo, Keeps, StandsFor, reads}
+use Rattle.s3_dump.specs.declared.index.IndexLine.{IndexLine}
 use Rattle.s3_dump.specs.declared.reading.Mode.{Mode}
-use Rattle.s3_dump.specs.declared.reading.Mode.TheVariants.{Start, Note, Zeros, Codes, High, Low, End}
+use Rattle.s3_dump.specs.declared.reading.Mode.TheVariants.{Start, Note, Zeros, Codes, High, Low, End, Index}
 use Rattle.s3_dump.specs.declared.writing.Writer.{Writer}
 
 leb_false : (a b : ℕ) → b < a → nat_le a b ≡ false
@@ -142,6 +144,61 @@ run_read old first second new count most a b c = λ before read.
     let counted = subst (λ t. reads t (Zeros count) before) (sym b) (reads_on first (decimal count) (Zeros 0) (Zeros count) before before star (number_read count most before most)) in
     subst (λ t. reads t Start (before ++ replicate count 0)) (sym c) (reads_on second (10 ∷ []) (Zeros count) Start before (before ++ replicate count 0) counted refl)
 
+-- ---- an index
+index_step : (blanks number d c : ℕ) (line : IndexLine) (bytes : List ℕ) → d < 10 → c ≡ 48 + d → number * 10 + d ≤ most_number → in_index blanks (with_number line number) c bytes ≡ Some (record { mode = Index blanks (with_number line (number * 10 + d)); bytes = bytes })
+index_step blanks number d c line bytes few is most =
+    let other : (c == 10) ≡ false = ne_eqb c 10 (λ e. absurd (omega (arith, is, e))) in
+    let no_blank : (c == 32) ≡ false = ne_eqb c 32 (λ e. absurd (omega (arith, is, e))) in
+    let value : c - 48 ≡ d = omega (arith, is) in
+    let digit_is = and_from (nat_le 48 c) (nat_le c 57) (le-leb 48 c (omega (arith, is))) (le-leb c 57 (omega (arith, is, few))) in
+    let short = and_from (nat_le 48 c && nat_le c 57) (nat_le number most_number) digit_is (le-leb number most_number (omega (arith, most))) in
+    let all = and_from (nat_le 48 c && nat_le c 57 && nat_le number most_number) (nat_le (number * 10 + (c - 48)) most_number) short (le-leb (number * 10 + (c - 48)) most_number (omega (arith, most, value))) in
+    rw (other, no_blank, all, value) refl
+
+abbrev CountedAs : ℕ → List ℕ → Type 0
+CountedAs n digits = (blanks : ℕ) (line : IndexLine) (bytes : List ℕ) → n ≤ most_number → fold step (Some (record { mode = Index blanks (with_number line 0); bytes = bytes })) digits ≡ Some (record { mode = Index blanks (with_number line n); bytes = bytes })
+
+first_digit : (n : ℕ) → n < 10 → CountedAs n ((48 + n) ∷ [])
+first_digit n few = λ blanks line bytes most.
+    let all : 0 * 10 + n ≡ n = omega arith in
+    index_step blanks 0 n (48 + n) line bytes few refl (omega (arith, most)) ∙ ap (λ k. Some (record { mode = Index blanks (with_number line k); bytes = bytes })) all
+
+later_digit : (n : ℕ) (digits : List ℕ) → 10 ≤ n → CountedAs (n / 10) digits → CountedAs n (digits ++ ((48 + n % 10) ∷ []))
+later_digit n digits some before = λ blanks line bytes most.
+    let all : n / 10 * 10 + n % 10 ≡ n = omega arith in
+    fold-append step (Some (record { mode = Index blanks (with_number line 0); bytes = bytes })) digits ((48 + n % 10) ∷ []) ∙ ap (λ s. step s (48 + n % 10)) (before blanks line bytes (omega (arith, most)))
+    ∙ index_step blanks (n / 10) (n % 10) (48 + n % 10) line bytes (omega arith) refl (omega (arith, all, most)) ∙ ap (λ k. Some (record { mode = Index blanks (with_number line k); bytes = bytes })) all
+
+counted : (n : ℕ) → n ≤ most_number → CountedAs n (decimal n)
+counted n most = decimal_by_steps CountedAs first_digit later_digit n (omega (arith, most))
+
+pub first_read : (old mid new : List ℕ) (number wide : ℕ) → number ≤ most_number → wide ≡ number → mid ≡ old ++ 61 ∷ [] → new ≡ mid ++ decimal wide → AddsFirst number old new
+first_read old mid new number wide most same a is = λ before read.
+    let b : new ≡ mid ++ decimal number = is ∙ ap (λ n. mid ++ decimal n) same in
+    let begins = subst (λ t. reads t (Index 0 no_numbers) before) (sym a) (reads_on old (61 ∷ []) Start (Index 0 no_numbers) before before read refl) in
+    subst (λ t. reads t (Index 0 (with_number no_numbers number)) before) (sym b)
+    (reads_on mid (decimal number) (Index 0 no_numbers) (Index 0 (with_number no_numbers number)) before before begins (counted number most 0 no_numbers before most))
+
+pub next_read : (old mid new : List ℕ) (number wide : ℕ) → number ≤ most_number → wide ≡ number → mid ≡ old ++ 32 ∷ [] → new ≡ mid ++ decimal wide → AddsNext number old new
+next_read old mid new number wide most same a is = λ blanks line before few read.
+    let b : new ≡ mid ++ decimal number = is ∙ ap (λ n. mid ++ decimal n) same in
+    let moves : in_index blanks line 32 before ≡ Some (record { mode = Index (blanks + 1) (moved_on line); bytes = before }) =
+    ap (λ t. cond t (Some (record { mode = Index (blanks + 1) (moved_on line); bytes = before })) None) (lt-ltb blanks 4 few) in
+    let begins = subst (λ t. reads t (Index (blanks + 1) (moved_on line)) before) (sym a) (reads_on old (32 ∷ []) (Index blanks line) (Index (blanks + 1) (moved_on line)) before before read moves) in
+    subst (λ t. reads t (Index (blanks + 1) (with_number (moved_on line) number)) before) (sym b)
+    (reads_on mid (decimal number) (Index (blanks + 1) (moved_on line)) (Index (blanks + 1) (with_number (moved_on line) number)) before before begins (counted number most (blanks + 1) (moved_on line) before most))
+
+pub index_read : (line : IndexLine) (old one two three four five new : List ℕ) → AddsFirst line.count old one → AddsNext line.record_length one two → AddsNext line.sectors two three → AddsNext line.key_start three four → AddsNext line.key_length four five
+    → new ≡ five ++ 10 ∷ [] → AddsIndex line old new
+index_read line old one two three four five new first second third fourth fifth ended = λ before index is read.
+    let first_line = with_number no_numbers line.count in
+    let second_line = with_number (moved_on first_line) line.record_length in
+    let third_line = with_number (moved_on second_line) line.sectors in
+    let fourth_line = with_number (moved_on third_line) line.key_start in
+    let all : reads five (Index 4 line) before = fifth 3 fourth_line before (omega arith) (fourth 2 third_line before (omega arith) (third 1 second_line before (omega arith) (second 0 first_line before (omega arith) (first before read)))) in
+    let ends : in_index 4 line 10 before ≡ Some (record { mode = Start; bytes = before ++ index }) = ap (λ i. with_index i before) is in
+    subst (λ t. reads t Start (before ++ index)) (sym ended) (reads_on five (10 ∷ []) (Index 4 line) Start before (before ++ index) all ends)
+
 -- runs of all but so many zeros are written
 abbrev pub ZerosTo : (old text : List ℕ) (run left : ℕ) → Type 0
 ZerosTo old text run left = AddsLines old text (replicate (run - left) 0)
@@ -229,6 +286,38 @@ note_kept old new first of_pack place none run note = λ pack is. record {
   stands = subst (λ n. StandsFor new.text.items new.zeros (take n pack)) (sym place)
       (stands_alone new.text.items (take old.place pack) new.zeros none (subst (reads new.text.items Start) (append-nil (take old.place pack)) (note (take old.place pack) (stands_now old.text.items first old.zeros (take old.place pack) run is.stands))));
 }
+
+-- ---- the index at a place
+pub index_here : (pack front index there : List ℕ) (place : ℕ) (line : IndexLine) → front ≡ take (min place (length pack)) pack → Some index ≡ index_of line front → index ≡ there
+    → take (place + length there) pack ≡ take place pack ++ there → (place ≤ length pack → place + length there ≤ length pack) → length pack < 2 ^ 64 → IsIndexAt pack place line (length there)
+index_here pack front index there place line prefix is same taken within short = λ inside.
+    let all : min place (length pack) ≡ place = omega (arith, inside) in
+    record {
+      index = there;
+      is = ap (index_of line) (ap (λ n. take n pack) (sym all) ∙ sym prefix) ∙ sym is ∙ ap Some same;
+      there = taken;
+      within = within inside;
+      short = short;
+    }
+
+index_in : (one pack : List ℕ) (place long : ℕ) (line : IndexLine) → one ≡ pack → place ≤ length pack → IsIndexAt one place line long → IsIndexOf pack place line long
+index_in one pack place long line same inside at = subst (λ p. IsIndexAt p place line long) same at inside
+
+pub index_kept : (old new : Writer) (first second : List ℕ) (line : IndexLine) (long : ℕ) → new.pack.now ≡ old.pack.now → new.zeros ≡ 0 → new.place ≡ min (old.place + long) (2 ^ 64 - 1) → AddsLines old.text.items first (replicate old.zeros 0)
+    → AddsLines first second [] → AddsIndex line second new.text.items → IsIndexAt old.pack.now old.place line long → Keeps old new
+index_kept old new first second line long of_pack none place run note adds at = λ pack is.
+    let here = index_in old.pack.now pack old.place long line is.of_pack is.within at in
+    let exact : new.place ≡ old.place + long = omega (arith, place, here.within, here.short) in
+    let noted : reads second Start (take old.place pack) = subst (reads second Start) (append-nil (take old.place pack)) (note (take old.place pack) (stands_now old.text.items first old.zeros (take old.place pack) run is.stands)) in
+    let lines : reads new.text.items Start (take old.place pack ++ here.index) = adds (take old.place pack) here.index here.is noted in
+    record {
+      of_pack = of_pack ∙ is.of_pack;
+      within = omega (arith, exact, here.within);
+      stands = subst (λ n. StandsFor new.text.items new.zeros (take n pack)) (sym exact) (subst (StandsFor new.text.items new.zeros) (sym here.there) (stands_alone new.text.items (take old.place pack ++ here.index) new.zeros none lines));
+    }
+
+pub keeps_at : (old new : Writer) (line : IndexLine) (long : ℕ) → (IsIndexAt old.pack.now old.place line long → Keeps old new) → IsIndexAt old.pack.now old.place line long → Keeps old new
+keeps_at old new line long keeps at = keeps at
 
 -- bytes that are taken of a pack are added, and the place is after them
 pub record IsTaken (pack : List ℕ) (place : ℕ) (bytes : List ℕ) : Type 0 where

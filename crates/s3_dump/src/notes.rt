@@ -115,6 +115,17 @@ pub fn records_note(
     Ok(text)
 }
 
+/// The note about the index of a file.
+pub fn index_note(alloc: Global, area: u16, name: Name) -> Result<String, AllocError> {
+    let mut text = String::new(alloc);
+    push_name(&mut text, name)?;
+    write!(
+        text,
+        " in area {area}, the index of its records: count, length, sectors, key start, key length"
+    )?;
+    Ok(text)
+}
+
 /// The note about what a file has after its records.
 pub fn after_note(alloc: Global, area: u16, name: Name) -> Result<String, AllocError> {
     let mut text = String::new(alloc);

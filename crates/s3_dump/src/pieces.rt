@@ -4,11 +4,14 @@ ghost use Rattle.s3_dump.specs.Inner.Dumps.{restored};
 ghost use Rattle.s3_dump.specs.Inner.Writing.{Keeps};
 
 use crate::fields::write_fields;
+use crate::index::IndexLine;
 use crate::laid::{FileLayout, Laid, Unlaid};
-use crate::notes::{after_note, header_note, records_note, sector_note, slot_note, spool_note};
+use crate::notes::{
+    after_note, header_note, index_note, records_note, sector_note, slot_note, spool_note,
+};
 use crate::writing::Writer;
 use s3_cards::{LevelId, Name};
-use s3_labels::{AreaSlots, FileLabel, Pack, Refused, Slot};
+use s3_labels::{AreaSlots, FileLabel, Organization, Pack, Refused, Slot};
 use s3_store::MemoryStore;
 use std::alloc::{AllocError, Global};
 
@@ -41,6 +44,8 @@ struct Run {
     /// The length of a record, and how many bytes all records have.
     record_length: usize,
     records: usize,
+    /// The index, if the file has one.
+    index: Option<IndexLine>,
 }
 
 /// A pack as a text.
@@ -166,11 +171,32 @@ fn add_runs(area: u16, label: &FileLabel, runs: &mut Vec<Run>) -> Result<(), All
             area,
             name: label.name,
             record_length,
+            index: index_line(label),
             records: (label.count as usize).saturating_mul(record_length),
         })?;
         before = before.saturating_add(long);
     }
     Ok(())
+}
+
+/// The line for the index of a file, if it has one.
+fn index_line(label: &FileLabel) -> Option<IndexLine> {
+    match label.organization {
+        Organization::Indexed => Some(IndexLine {
+            count: label.count,
+            record_length: u32::from(label.record_length),
+            sectors: record_sectors(label),
+            key_start: u32::from(label.key_start),
+            key_length: u32::from(label.key_length),
+        }),
+        Organization::Sequential | Organization::Direct => None,
+    }
+}
+
+/// How many sectors the records of a file have. A file of a pack has at most 65,535.
+fn record_sectors(label: &FileLabel) -> u32 {
+    let bytes = u64::from(label.capacity).saturating_mul(u64::from(label.record_length));
+    bytes.div_ceil(256).min(65_535) as u32
 }
 
 /// Writes the spool blocks.
@@ -309,7 +335,7 @@ fn goes_on_in(run: &Run, next: &Run) -> bool {
         && next.before == run.before.saturating_add(run.to.saturating_sub(run.from))
 }
 
-/// Writes what a run has after its records.
+/// Writes what a run has after its records. The index has one line if all records are before it in the run.
 #[tactic(auto, using(crate::proofs::WriterLemmas::keeps_all, crate::proofs::WriterLemmas::keeps_then))]
 fn write_rest(alloc: Global, writer: &mut Writer<'_>, run: &Run) -> Result<(), AllocError>
     ensures { OnOk result (Keeps writer.old writer.new) }
@@ -319,10 +345,39 @@ fn write_rest(alloc: Global, writer: &mut Writer<'_>, run: &Run) -> Result<(), A
     let mut is_noted = false;
     while place < run.to {
         let next = sector_end(place, run.to);
+        write_index(alloc, writer, run, place)?;
         let length = writer.text.len();
         writer.write_part(next, if is_noted { "" } else { note.as_str() })?;
         is_noted = is_noted || writer.text.len() > length;
         place = next;
     }
     Ok(())
+}
+
+/// Writes the index of a file's records, if its bytes begin at a place of the file's first run and are that.
+#[tactic(auto, using(crate::proofs::WriterLemmas::keeps_all, crate::proofs::WriterLemmas::keeps_then))]
+fn write_index(
+    alloc: Global,
+    writer: &mut Writer<'_>,
+    run: &Run,
+    place: usize,
+) -> Result<(), AllocError>
+    ensures { OnOk result (Keeps writer.old writer.new) }
+{
+    if let Some(line) = &run.index {
+        if begins_index(run, line, place) && writer.place() == place {
+            let note = index_note(alloc, run.area, run.name)?;
+            writer.write_index(alloc, line, note.as_str())?;
+        }
+    }
+    Ok(())
+}
+
+/// Whether the index of a file begins at a place of a run, which has all records.
+fn begins_index(run: &Run, line: &IndexLine, place: usize) -> bool {
+    run.before == 0
+        && place
+            == run
+                .from
+                .saturating_add((line.sectors as usize).saturating_mul(SECTOR))
 }

@@ -1,13 +1,29 @@
 //! Dumps read: the bytes that a text represents.
-ghost use Rattle.std.specs.Prelude.{◌≡◌, ◌<◌, ℕ, List, Some, None, IfOk, IfErr, IfSome, IfNone};
+ghost use Rattle.std.specs.Prelude.{◌≡◌, ◌≢◌, ◌<◌, ℕ, List, Some, None, IfOk, IfErr, IfSome, IfNone};
 ghost use Rattle.s3_dump.specs.Inner.Dumps.{IsRestoreFault, hex_value as hex_value_spec, is_start as is_start_spec, line_after as line_after_spec, restored, step_by};
 
 use crate::fault::RestoreFault;
+use crate::index::{IndexLine, index_of};
 use s3_cards::code_of_byte;
 use std::alloc::{AllocError, Global};
 
 /// The longest run of zeros of one line.
 pub const MOST_ZEROS: u64 = 99_999_999;
+
+/// The highest number in the line of an index.
+pub const MOST_NUMBER: u32 = 99_999_999;
+
+/// How many blanks the line of an index has, each of them between two numbers.
+pub const BLANKS: u8 = 4;
+
+/// No number of an index is read.
+const NO_NUMBERS: IndexLine = IndexLine {
+    count: 0,
+    record_length: 0,
+    sectors: 0,
+    key_start: 0,
+    key_length: 0,
+};
 
 /// What the next character of a dump belongs to.
 #[derive(Clone, Copy)]
@@ -26,6 +42,8 @@ pub enum Mode {
     Low(u8),
     /// It is the end of a line of codes.
     End,
+    /// It belongs to the numbers of an index, of which the last is the key length here, after so many blanks.
+    Index(u8, IndexLine),
 }
 
 /// The bytes that a dump represents. Refused with `NoDump`, which has the first wrong line, if the text represents none, and with
@@ -97,6 +115,7 @@ fn read(
         } else {
             None
         }),
+        Mode::Index(blanks, line) => read_index(alloc, blanks, &line, character, bytes),
     }
 }
 
@@ -110,6 +129,7 @@ fn begun_by(character: u8) -> Option<Mode>
         b'#' => Some(Mode::Note),
         b'[' => Some(Mode::Codes),
         b'*' => Some(Mode::Zeros(0)),
+        b'=' => Some(Mode::Index(0, NO_NUMBERS)),
         _ => None,
     }
 }
@@ -138,6 +158,90 @@ fn read_zeros(
     } else {
         None
     })
+}
+
+/// Reads a character of the numbers of an index.
+fn read_index(
+    alloc: Global,
+    blanks: u8,
+    line: &IndexLine,
+    character: u8,
+    bytes: &mut Vec<u8>,
+) -> Result<Option<Mode>, AllocError>
+    ensures next { IfOk result (λ next. IfSome next (λ next. step_by (Mode.Index blanks line.now) character bytes.old.items ≡ Some (record { mode = next; bytes = bytes.new.items }))) }
+    ensures none { IfOk result (λ next. IfNone next (step_by (Mode.Index blanks line.now) character bytes.old.items ≡ None)) }
+{
+    match character {
+        b'\n' => end_index(alloc, blanks, line, bytes),
+        b' ' => Ok(next_number(blanks, line)),
+        _ => Ok(with_digit(blanks, line, character)),
+    }
+}
+
+/// Reads the end of the line of an index.
+fn end_index(
+    alloc: Global,
+    blanks: u8,
+    line: &IndexLine,
+    bytes: &mut Vec<u8>,
+) -> Result<Option<Mode>, AllocError>
+    ensures next { IfOk result (λ next. IfSome next (λ next. step_by (Mode.Index blanks line.now) 10 bytes.old.items ≡ Some (record { mode = next; bytes = bytes.new.items }))) }
+    ensures none { IfOk result (λ next. IfNone next (step_by (Mode.Index blanks line.now) 10 bytes.old.items ≡ None)) }
+{
+    if blanks != BLANKS {
+        return Ok(None);
+    }
+    match index_of(alloc, line, bytes)? {
+        Some(index) => {
+            bytes.extend_from_slice(&index)?;
+            Ok(Some(Mode::Start))
+        }
+        None => Ok(None),
+    }
+}
+
+/// Reads the blank before the next number of an index.
+fn next_number(blanks: u8, line: &IndexLine) -> Option<Mode>
+    ensures next { (bytes : List ℕ) → IfSome result (λ next. step_by (Mode.Index blanks line.now) 32 bytes ≡ Some (record { mode = next; bytes = bytes })) }
+    ensures none { (bytes : List ℕ) → IfNone result (step_by (Mode.Index blanks line.now) 32 bytes ≡ None) }
+{
+    if blanks >= BLANKS {
+        return None;
+    }
+    let moved = IndexLine {
+        count: line.record_length,
+        record_length: line.sectors,
+        sectors: line.key_start,
+        key_start: line.key_length,
+        key_length: 0,
+    };
+    Some(Mode::Index(blanks + 1, moved))
+}
+
+/// Reads a digit of a number of an index.
+fn with_digit(blanks: u8, line: &IndexLine, character: u8) -> Option<Mode>
+    requires other { character ≢ 10 }
+    requires no_blank { character ≢ 32 }
+    ensures next { (bytes : List ℕ) → IfSome result (λ next. step_by (Mode.Index blanks line.now) character bytes ≡ Some (record { mode = next; bytes = bytes })) }
+    ensures none { (bytes : List ℕ) → IfNone result (step_by (Mode.Index blanks line.now) character bytes ≡ None) }
+{
+    if !character.is_ascii_digit() || line.key_length > MOST_NUMBER {
+        return None;
+    }
+    let more = line.key_length * 10 + u32::from(character - b'0');
+    if more > MOST_NUMBER {
+        return None;
+    }
+    Some(Mode::Index(
+        blanks,
+        IndexLine {
+            count: line.count,
+            record_length: line.record_length,
+            sectors: line.sectors,
+            key_start: line.key_start,
+            key_length: more,
+        },
+    ))
 }
 
 /// Reads a character among codes.

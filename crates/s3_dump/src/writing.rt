@@ -1,10 +1,11 @@
 //! The lines of a dump as they are written: codes, runs of zeros, and notes before them.
-ghost use Rattle.std.specs.Prelude.{◌≡◌, ◌≤◌, ◌<◌, ◌+◌, ◌-◌, ◌^◌, ◌++◌, ◌∷◌, ℕ, List, [], decimal, drop, filter, length, replicate, take, Some, IfOk, OnOk};
-ghost use Rattle.s3_dump.specs.Inner.Dumps.{hex_value, most_zeros, restored};
+ghost use Rattle.std.specs.Prelude.{◌≡◌, ◌≤◌, ◌<◌, ◌+◌, ◌-◌, ◌^◌, ◌++◌, ◌∷◌, ℕ, List, [], decimal, drop, filter, length, replicate, take, Some, true, IfOk, IfSome, OnOk};
+ghost use Rattle.s3_dump.specs.Inner.Dumps.{hex_value, most_number, most_zeros, restored};
 ghost use Rattle.s3_dump.specs.Inner.Notes.{AddsNotes, digit_of, is_noted, note_line};
-ghost use Rattle.s3_dump.specs.Inner.Writing.{AddsBytes, AddsLines, IsUpTo, Keeps, reads};
+ghost use Rattle.s3_dump.specs.Inner.Writing.{AddsBytes, AddsFirst, AddsIndex, AddsLines, AddsNext, IsIndexAt, IsUpTo, Keeps, is_small as is_small_spec, reads};
 
-use crate::reading::{MOST_ZEROS, Mode};
+use crate::index::{IndexLine, index_of};
+use crate::reading::{MOST_NUMBER, MOST_ZEROS, Mode};
 use s3_cards::{code_of_byte, host_byte};
 use std::alloc::{AllocError, Global};
 
@@ -63,6 +64,35 @@ impl<'a> Writer<'a> {
         let bytes = taken(self.pack, self.place, to);
         self.put_codes("", bytes)?;
         self.place = self.place.saturating_add(bytes.len());
+        Ok(())
+    }
+
+    /// Writes the bytes after the place as the index of the records before it, with a note, if they are that. Else writes nothing.
+    #[tactic(auto, using(crate::proofs::WriterLemmas::keeps_all, crate::proofs::WriterLemmas::keeps_at))]
+    pub fn write_index(
+        &mut self,
+        alloc: Global,
+        line: &IndexLine,
+        note: &str,
+    ) -> Result<(), AllocError>
+        ensures { OnOk result (Keeps self.old self.new) }
+    {
+        match index_at(alloc, self.pack, self.place, line)? {
+            Some(long) => self.put_index(line, note, long),
+            None => Ok(()),
+        }
+    }
+
+    /// Writes the line of an index of so many bytes.
+    fn put_index(&mut self, line: &IndexLine, note: &str, long: usize) -> Result<(), AllocError>
+        requires small { is_small_spec line.now ≡ true }
+        ensures { OnOk result (IsIndexAt self.old.pack.now self.old.place line.now long → Keeps self.old self.new) }
+    {
+        push_zeros(&mut self.text, self.zeros)?;
+        push_note(&mut self.text, note.as_bytes())?;
+        push_index(&mut self.text, line)?;
+        self.zeros = 0;
+        self.place = self.place.saturating_add(long);
         Ok(())
     }
 
@@ -133,6 +163,43 @@ fn taken<'a>(pack: &'a [u8], place: usize, to: usize) -> &'a [u8]
     &pack[place..end]
 }
 
+/// How many bytes the index of the records before a place of a pack has; none if the pack has other bytes at the place, if no bytes are
+/// the index, or if a number is too high for its line.
+#[tactic(auto, using(crate::proofs::WriterLemmas::index_here))]
+fn index_at(
+    alloc: Global,
+    pack: &[u8],
+    place: usize,
+    line: &IndexLine,
+) -> Result<Option<usize>, AllocError>
+    ensures small { IfOk result (λ long. IfSome long (λ _. is_small_spec line.now ≡ true)) }
+    ensures index { IfOk result (λ long. IfSome long (IsIndexAt pack.now place line.now)) }
+{
+    if !is_small(line) {
+        return Ok(None);
+    }
+    let Some(index) = index_of(alloc, line, &pack[..place.min(pack.len())])? else {
+        return Ok(None);
+    };
+    let there = taken(pack, place, place.saturating_add(index.len()));
+    if !index.is_empty() && index.as_slice() == there {
+        Ok(Some(there.len()))
+    } else {
+        Ok(None)
+    }
+}
+
+/// Whether no number of a line is too high.
+fn is_small(line: &IndexLine) -> bool
+    ensures { result ≡ is_small_spec line.now }
+{
+    line.count <= MOST_NUMBER
+        && line.record_length <= MOST_NUMBER
+        && line.sectors <= MOST_NUMBER
+        && line.key_start <= MOST_NUMBER
+        && line.key_length <= MOST_NUMBER
+}
+
 /// How many bytes there are up to the last that isn't zero.
 #[tactic(auto, using(crate::proofs::WriterLemmas::no_zeros, crate::proofs::WriterLemmas::one_more_zero))]
 fn used_in(bytes: &[u8]) -> usize
@@ -201,6 +268,40 @@ fn push_run(text: &mut Vec<u8>, count: u64) -> Result<(), AllocError>
     push(text, b'*')?;
     push_number(text, count)?;
     push(text, b'\n')?;
+    Ok(())
+}
+
+/// Appends the line of an index.
+#[tactic(auto, using(crate::proofs::WriterLemmas::index_read))]
+fn push_index(text: &mut Vec<u8>, line: &IndexLine) -> Result<(), AllocError>
+    requires small { is_small_spec line.now ≡ true }
+    ensures { OnOk result (AddsIndex line.now text.old.items text.new.items) }
+{
+    push_first(text, line.count)?;
+    push_next(text, line.record_length)?;
+    push_next(text, line.sectors)?;
+    push_next(text, line.key_start)?;
+    push_next(text, line.key_length)?;
+    push(text, b'\n')
+}
+
+/// Appends the beginning of the line of an index, and its first number.
+fn push_first(text: &mut Vec<u8>, number: u32) -> Result<(), AllocError>
+    requires { number ≤ most_number }
+    ensures { OnOk result (AddsFirst number text.old.items text.new.items) }
+{
+    push(text, b'=')?;
+    push_number(text, u64::from(number))?;
+    Ok(())
+}
+
+/// Appends a blank and the next number of an index.
+fn push_next(text: &mut Vec<u8>, number: u32) -> Result<(), AllocError>
+    requires { number ≤ most_number }
+    ensures { OnOk result (AddsNext number text.old.items text.new.items) }
+{
+    push(text, b' ')?;
+    push_number(text, u64::from(number))?;
     Ok(())
 }
 

@@ -2,7 +2,7 @@
 //! and standard output.
 //!
 //! What is proved: how a new file gets the name of an old one, by what is found there (`choose_naming`), which files a pack may replace
-//! (`can_begin_pack`), which files a save removes (`is_leftover`), and the names of the standard streams (`StandardStream::name`).
+//! (`is_replaceable`), which files a save removes (`is_leftover`), and the names of the standard streams (`StandardStream::name`).
 //! Each call is safe and returns. What files give and take isn't claimed: they are used as the toolchain offers them, and
 //! `tools/search/kill-saves` and `tools/check/test-saves` test the saves.
 
@@ -10,6 +10,7 @@
 
 mod fault;
 mod folders;
+mod input;
 mod last_change;
 mod leftovers;
 mod limits;
@@ -25,14 +26,16 @@ mod syncing;
 
 pub use fault::FileFault;
 pub use folders::{LockedFolder, create_anew, is_empty_folder, stream_in, test_folder};
+use input::input_up_to;
+pub use input::{SHOWN_INPUT, STANDARD_INPUT, is_input, path_of, read_input, shown_name};
 pub use limits::{Limit, make_folder};
 pub use locking::LockedPack;
 pub use naming::Hindrance;
 pub use outputs::{Kept, Output};
-pub use places::Target;
+pub use places::{Target, lead_to_one_file};
 use places::{existing, followed};
 use reading::read_up_to;
-pub use reading::{is_empty_at, is_pack_at};
+pub use reading::{beginning_of, is_empty_at, is_pack_at};
 use replacing::{replace, save_first, test_place, test_replacing};
 pub use standard_output::StandardOutput;
 use std::fs::{File, OpenOptions};
@@ -48,10 +51,13 @@ use syncing::sync_if_kept;
 /// The bytes of 65,535 sectors, the most that a pack can have.
 const PACK_LIMIT: usize = 16_776_960;
 
-/// The first 16,776,960 bytes of the file at a path, or all if there are fewer. It fails if the file can't be opened or read;
-/// `Stream` if it is also standard output or standard error.
+/// The first 16,776,960 bytes of the file at a path, or of standard input if the path is `-`; all if there are fewer. It fails if the file
+/// can't be opened or read; `Stream` if it is also standard output or standard error.
 pub fn read_pack(rt: &HostRuntime, path: &str) -> Result<Vec<u8>, FileFault> {
-    keep_apart(rt, path)?;
+    keep_apart(rt, path_of(path))?;
+    if is_input(path) {
+        return Ok(input_up_to(rt, PACK_LIMIT)?);
+    }
     let mut file = File::open(rt, path)?;
     Ok(read_up_to(rt, &mut file, PACK_LIMIT)?)
 }
@@ -64,8 +70,11 @@ pub fn read_to_save(
     path: &str,
     save: &str,
 ) -> Result<(Vec<u8>, Option<LockedPack>), FileFault> {
-    keep_apart(rt, path)?;
+    keep_apart(rt, path_of(path))?;
     keep_save_apart(rt, save)?;
+    if is_input(path) {
+        return Ok((read_pack(rt, path)?, None));
+    }
     match LockedPack::read_and_saved(rt, path, save)? {
         Some((bytes, locked)) => Ok((bytes, Some(locked))),
         None => Ok((read_pack(rt, path)?, None)),
@@ -145,8 +154,12 @@ fn prepared(rt: &HostRuntime, locked: LockedPack) -> Result<LockedPack, FileFaul
     Ok(locked)
 }
 
-/// All bytes of the file at a path, if they are no more than a limit; `FileTooLarge` if they are more.
+/// All bytes of the file at a path, or of standard input if the path is `-`, if they are no more than a limit; `FileTooLarge` if they are
+/// more.
 pub fn read_within(rt: &HostRuntime, path: &str, limit: usize) -> io::Result<Vec<u8>> {
+    if is_input(path) {
+        return read_input(rt, limit);
+    }
     let mut file = File::open(rt, path)?;
     let bytes = read_up_to(rt, &mut file, limit.saturating_add(1))?;
     if bytes.len() > limit {

@@ -1,5 +1,6 @@
 //! The access to files in a pack's folder: at most the access that the pack gives.
 
+use super::input::path_of;
 use super::places::existing;
 use super::replacing::without_group;
 use std::fs::{DirBuilder, File, Metadata, Permissions};
@@ -21,9 +22,9 @@ pub struct Limit {
 }
 
 impl Limit {
-    /// The limit of the new files of a pack; none if no file is there.
+    /// The limit of the new files of a pack, which may be standard input; none if no file is there.
     pub fn of(rt: &HostRuntime, pack: &str) -> io::Result<Option<Limit>> {
-        match existing(rt, Path::new(pack))? {
+        match existing(rt, Path::new(path_of(pack)))? {
             Some(found) if found.is_file() => Ok(Some(Limit {
                 mode: OWNER | (found.mode() & OTHERS),
                 group: found.gid(),

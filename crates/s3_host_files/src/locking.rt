@@ -3,7 +3,7 @@
 use super::PACK_LIMIT;
 use super::fault::FileFault;
 use super::last_change::LastChange;
-use super::naming::{AtName, Hindrance, Naming, can_begin_pack, choose_naming};
+use super::naming::{AtName, Hindrance, Naming, choose_naming, is_replaceable};
 use super::places::{are_same, existing, followed, lead_to_one_file, leads_to};
 use super::reading::read_up_to;
 use std::fs::{File, Metadata, OpenOptions, TryLockError};
@@ -44,7 +44,7 @@ impl LockedPack {
         Err(FileFault::InUse)
     }
 
-    /// Locks a regular file that a pack will replace; `NoPack` if it isn't a pack.
+    /// Locks a regular file that a pack will replace; `NoPack` if it is neither empty nor a pack.
     pub fn replaced(rt: &HostRuntime, place: PathBuf) -> Result<LockedPack, FileFault> {
         let mut options = OpenOptions::new();
         options.read(true).write(true);
@@ -61,10 +61,10 @@ impl LockedPack {
         Err(FileFault::InUse)
     }
 
-    /// The pack of a locked file; `NoPack` if it isn't a pack.
+    /// A locked file that a pack may replace; `NoPack` if it is neither empty nor a pack.
     fn of_pack(rt: &HostRuntime, place: PathBuf, file: File) -> Result<LockedPack, FileFault> {
         let (bytes, locked) = LockedPack::read(rt, place, file)?;
-        if can_begin_pack(&bytes) {
+        if is_replaceable(&bytes) {
             Ok(locked)
         } else {
             Err(FileFault::NoPack)

@@ -1,6 +1,6 @@
 //! How a new pack gets the name of its file, by what is found there, and which files in its folder are leftovers of killed saves.
 ghost use Rattle.std.specs.Prelude.{◌≡◌};
-ghost use Rattle.s3_host_files.specs.Inner.Naming.{naming_of, words_of_hindrance, can_begin_pack as can_begin_pack_spec, is_begun as is_begun_spec, is_leftover as is_leftover_spec};
+ghost use Rattle.s3_host_files.specs.Inner.Naming.{naming_of, words_of_hindrance, can_begin_pack as can_begin_pack_spec, is_begun as is_begun_spec, is_leftover as is_leftover_spec, is_replaceable as is_replaceable_spec};
 
 /// What has the name of a locked file.
 #[derive(Clone, Copy, Debug, PartialEq, Eq)]
@@ -94,8 +94,15 @@ pub fn is_leftover(claim: Claim, begins_as_pack: bool) -> bool
     }
 }
 
-/// Whether a pack may replace a file with these bytes: they begin as a pack of either format does, or are the beginning of its mark, which
-/// a killed save leaves.
+/// Whether a pack may replace a file with these bytes: it is empty, or begins as a pack of either format does.
+pub fn is_replaceable(bytes: &[u8]) -> bool
+    ensures { result ≡ is_replaceable_spec bytes.now }
+{
+    bytes.is_empty() || bytes.starts_with(b"S3PACK01") || bytes.starts_with(b"S3PACK02")
+}
+
+/// Whether a killed save can have left a file with these bytes: they begin as a pack of either format does, or are the beginning of its
+/// mark.
 pub fn can_begin_pack(bytes: &[u8]) -> bool
     ensures { result ≡ can_begin_pack_spec bytes.now }
 {

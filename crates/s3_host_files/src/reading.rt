@@ -63,6 +63,12 @@ fn read_some(file: &mut File, bytes: &mut [u8]) -> io::Result<usize>
     Err(io::Error::from(ErrorKind::Interrupted))
 }
 
+/// The first bytes of the file at a path, or all if there are no more than a limit.
+pub fn beginning_of(rt: &HostRuntime, path: &str, limit: usize) -> io::Result<Vec<u8>> {
+    let mut file = File::open(rt, path)?;
+    read_up_to(rt, &mut file, limit)
+}
+
 /// Whether the regular file at a path begins as a pack of any format does. A file that can't be read doesn't.
 pub fn is_pack_at(rt: &HostRuntime, place: Path<'_>) -> bool {
     match existing(rt, place) {

@@ -52,7 +52,7 @@ impl StandardStream {
     }
 
     /// A path that the system has for what the stream is connected to.
-    fn path(self) -> &'static str {
+    pub fn path(self) -> &'static str {
         match self {
             StandardStream::Input => "/proc/self/fd/0",
             StandardStream::Output => "/proc/self/fd/1",

@@ -1,7 +1,8 @@
 //! Completions for bash.
 
 use crate::draft::Draft;
-use crate::taken::{is_following, shown};
+use crate::shells::SHELLS;
+use crate::taken::is_completed;
 use s3_command_line::commands;
 use s3_paper_commands::words::{Choice, CommandWords, Word};
 use std::alloc::{AllocError, Global};
@@ -17,7 +18,9 @@ pub fn bash_script(alloc: Global) -> Result<String, AllocError> {
     put_names(&mut draft, &commands);
     draft.put("man completions' ;;\n            help:man) words='--list bureau ");
     put_names(&mut draft, &commands);
-    draft.put("' ;;\n            help:completions) words='bash zsh fish' ;;\n");
+    draft.put("' ;;\n            help:completions)");
+    put_choices(&mut draft, SHELLS);
+    draft.put(" ;;\n");
     for command in &commands {
         put_command(&mut draft, command);
     }
@@ -53,12 +56,12 @@ fn put_command(draft: &mut Draft, command: &CommandWords) {
 
 /// Whether a word is that of files after the command.
 fn are_files(word: &Word) -> bool {
-    is_following(word.takes) && word.takes.is_file()
+    word.takes.is_following() && word.takes.is_file()
 }
 
 /// Appends the name of an option, with a blank after it.
 fn put_option(draft: &mut Draft, word: &Word) {
-    if !is_following(word.takes) {
+    if !word.takes.is_following() && !word.takes.is_hidden() {
         draft.put("--");
         draft.put(word.name);
         draft.put(" ");
@@ -67,7 +70,7 @@ fn put_option(draft: &mut Draft, word: &Word) {
 
 /// Appends what completes the value of an option, if it takes one.
 fn put_value(draft: &mut Draft, command: &str, word: &Word) {
-    if is_following(word.takes) || shown(word.takes).is_none() {
+    if word.takes.is_following() || word.takes.shown().is_none() {
         return;
     }
     draft.put("            ");
@@ -87,8 +90,10 @@ fn put_value(draft: &mut Draft, command: &str, word: &Word) {
 fn put_choices(draft: &mut Draft, choices: &[Choice]) {
     draft.put(" words='");
     for choice in choices {
-        draft.put(choice.name);
-        draft.put(" ");
+        if is_completed(choice.name) {
+            draft.put(choice.name);
+            draft.put(" ");
+        }
     }
     draft.put("'");
 }

@@ -1,7 +1,8 @@
 //! Completions for fish.
 
 use crate::draft::Draft;
-use crate::taken::{is_following, shown};
+use crate::shells::SHELLS;
+use crate::taken::is_completed;
 use s3_command_line::commands;
 use s3_paper_commands::words::{Choice, CommandWords, Word};
 use std::alloc::{AllocError, Global};
@@ -11,6 +12,8 @@ pub fn fish_script(alloc: Global) -> Result<String, AllocError> {
     let commands = commands();
     let mut draft = Draft::new(alloc);
     draft.put(START);
+    put_choices(&mut draft, SHELLS);
+    draft.put("\n");
     for command in &commands {
         put_name(&mut draft, command);
     }
@@ -51,7 +54,10 @@ fn put_start(draft: &mut Draft, command: &str) {
 
 /// Appends what completes a word and its value.
 fn put_word(draft: &mut Draft, command: &str, word: &Word) {
-    if is_following(word.takes) {
+    if word.takes.is_hidden() {
+        return;
+    }
+    if word.takes.is_following() {
         put_files(draft, command, word);
         return;
     }
@@ -72,7 +78,7 @@ fn put_files(draft: &mut Draft, command: &str, word: &Word) {
 
 /// Appends what completes the value of a word, if it takes one.
 fn put_value(draft: &mut Draft, word: &Word) {
-    if shown(word.takes).is_none() {
+    if word.takes.shown().is_none() {
         return;
     }
     if word.takes.is_file() {
@@ -89,12 +95,14 @@ fn put_choices(draft: &mut Draft, choices: &[Choice]) {
     draft.put(" -a \"");
     let mut before = "";
     for choice in choices {
-        draft.put(before);
-        draft.put(choice.name);
-        draft.put("\\t'");
-        put_text(draft, choice.help);
-        draft.put("'");
-        before = "\\n";
+        if is_completed(choice.name) {
+            draft.put(before);
+            draft.put(choice.name);
+            draft.put("\\t'");
+            put_text(draft, choice.help);
+            draft.put("'");
+            before = "\\n";
+        }
     }
     draft.put("\"");
 }
@@ -123,5 +131,4 @@ complete -c bureau -f
 complete -c bureau -n __fish_use_subcommand -s h -l help -d 'Print help'
 complete -c bureau -n __fish_use_subcommand -s V -l version -d 'Print version'
 complete -c bureau -n __fish_use_subcommand -a help -d 'Prints help, a page of the manual, or completions'
-complete -c bureau -n '__fish_seen_subcommand_from completions' -a 'bash zsh fish'
-";
+complete -c bureau -n '__fish_seen_subcommand_from completions'";

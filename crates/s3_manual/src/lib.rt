@@ -12,6 +12,7 @@ mod manual;
 mod notes;
 mod pages;
 mod roff;
+mod shells;
 mod taken;
 mod zsh;
 

@@ -4,14 +4,13 @@ use crate::bash::bash_script;
 use crate::draft::Draft;
 use crate::fish::fish_script;
 use crate::pages::{PREFIX, command_page, program_page};
+use crate::shells::SHELLS;
 use crate::zsh::zsh_script;
+use clap::builder::PossibleValue;
 use clap::{Arg, ArgAction, ArgMatches, Command};
 use s3_command_line::{ABOUT, command_of, commands};
-use s3_paper_commands::words::value_of;
+use s3_paper_commands::words::{kept_text, value_of, values_of};
 use std::alloc::{AllocError, Global};
-
-/// The shells that have completions.
-static SHELLS: [&str; 3] = ["bash", "zsh", "fish"];
 
 /// What such a command line asks for.
 #[derive(Drop)]
@@ -52,7 +51,7 @@ pub fn manual_parser<'a>(alloc: Global) -> Result<Command<'a>, AllocError> {
 
 fn man_parser<'a>(alloc: Global) -> Result<Command<'a>, AllocError> {
     let page = Arg::new(alloc, "page").value_name("PAGE").help(
-        "A command, or the name of a page; the page of the program if none is given",
+        "The page of a command; that of the program if none is given",
     );
     let list = Arg::new(alloc, "list")
         .long("list")
@@ -60,15 +59,40 @@ fn man_parser<'a>(alloc: Global) -> Result<Command<'a>, AllocError> {
         .help("Prints the names of all pages, a line each");
     Command::new(alloc, "man")
         .about("Prints a page of the manual; man -l shows it")
-        .arg(page)?
+        .arg(page.value_parser(page_values(alloc)?))?
         .arg(list)
+}
+
+/// The pages, by the names of their commands. The names that `man` has for them, as `bureau-run`, `run.1` and `bureau-run.1`, are second
+/// names.
+fn page_values<'a>(alloc: Global) -> Result<&'a [PossibleValue<'a>], AllocError> {
+    let mut pages = Vec::new(alloc);
+    pages.push(page_value(alloc, "bureau", ABOUT)?)?;
+    for command in &commands() {
+        pages.push(page_value(alloc, command.name, command.about)?)?;
+    }
+    Ok(pages.leak())
+}
+
+/// The page of a name, with its second names.
+fn page_value<'a>(
+    alloc: Global,
+    name: &'static str,
+    about: &'static str,
+) -> Result<PossibleValue<'a>, AllocError> {
+    let mut names = Vec::new(alloc);
+    names.push(kept_text(alloc, format!(in alloc; "{name}.1")?)?)?;
+    names.push(kept_text(alloc, format!(in alloc; "{PREFIX}{name}")?)?)?;
+    names.push(kept_text(alloc, format!(in alloc; "{PREFIX}{name}.1")?)?)?;
+    let names: &'a [&'a str] = names.leak();
+    Ok(PossibleValue::new(name).help(about).aliases(names))
 }
 
 fn completions_parser<'a>(alloc: Global) -> Result<Command<'a>, AllocError> {
     let shell = Arg::new(alloc, "shell")
         .value_name("SHELL")
         .required(true)
-        .value_parser(SHELLS.as_slice())
+        .value_parser(values_of(alloc, SHELLS)?)
         .help("The shell that reads them");
     Command::new(alloc, "completions")
         .about("Prints a script with which a shell completes commands, options and their values")

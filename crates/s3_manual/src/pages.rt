@@ -4,7 +4,7 @@ use crate::draft::Draft;
 use crate::roff::{
     put_bold, put_italic, put_name, put_reference, put_section, put_text, put_title,
 };
-use crate::taken::{default_of, is_following, is_needed, is_repeated, shown};
+use crate::taken::{default_of, is_repeated};
 use s3_command_line::{ABOUT, commands};
 use s3_paper_commands::words::{Choice, CommandWords, Example, Status, Word};
 use std::alloc::{AllocError, Global};
@@ -46,7 +46,10 @@ fn put_synopsis(draft: &mut Draft, command: &CommandWords) {
 
 /// Appends how a word is used, in brackets if it may be left out.
 fn put_use(draft: &mut Draft, word: &Word) {
-    let is_optional = !is_needed(word.takes);
+    if word.takes.is_hidden() {
+        return;
+    }
+    let is_optional = !word.takes.is_needed();
     if is_optional {
         draft.put("[");
     }
@@ -62,11 +65,11 @@ fn put_use(draft: &mut Draft, word: &Word) {
 
 /// Appends a word with what it takes.
 fn put_word(draft: &mut Draft, word: &Word) {
-    let is_option = !is_following(word.takes);
+    let is_option = !word.takes.is_following();
     if is_option {
         put_option(draft, word.name);
     }
-    if let Some(shown) = shown(word.takes) {
+    if let Some(shown) = word.takes.shown() {
         draft.put(if is_option { "\\ " } else { "" });
         put_italic(draft, shown);
     }
@@ -95,6 +98,9 @@ fn put_options(draft: &mut Draft, command: &CommandWords) {
 
 /// Appends a word with its help, and with the values that it may have.
 fn put_explained(draft: &mut Draft, word: &Word) {
+    if word.takes.is_hidden() {
+        return;
+    }
     draft.put(".TP\n");
     put_word(draft, word);
     draft.put("\n");

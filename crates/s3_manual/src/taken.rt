@@ -2,31 +2,6 @@
 
 use s3_paper_commands::words::Takes;
 
-/// The placeholder of the value, if the option takes one.
-pub fn shown(takes: Takes) -> Option<&'static str> {
-    match takes {
-        Takes::Nothing => None,
-        Takes::Files | Takes::FollowingFiles => Some("FILE"),
-        Takes::Value(shown)
-        | Takes::Needed(shown)
-        | Takes::Values(shown)
-        | Takes::OneOf(shown, _)
-        | Takes::NeededOneOf(shown, _)
-        | Takes::Following(shown)
-        | Takes::Number(shown, _, _)
-        | Takes::U16Or(shown, _)
-        | Takes::U8Or(shown, _) => Some(shown),
-    }
-}
-
-/// Whether the word has to be given.
-pub fn is_needed(takes: Takes) -> bool {
-    matches!(
-        takes,
-        Takes::Needed(_) | Takes::NeededOneOf(_, _) | Takes::FollowingFiles | Takes::Following(_)
-    )
-}
-
 /// Whether the word may be given several times.
 pub fn is_repeated(takes: Takes) -> bool {
     matches!(
@@ -35,15 +10,15 @@ pub fn is_repeated(takes: Takes) -> bool {
     )
 }
 
-/// Whether the value follows the command without a word.
-pub fn is_following(takes: Takes) -> bool {
-    matches!(takes, Takes::FollowingFiles | Takes::Following(_))
-}
-
 /// The value that holds if the word isn't given, if one does.
 pub fn default_of(takes: Takes) -> Option<&'static str> {
     match takes {
         Takes::U16Or(_, default) | Takes::U8Or(_, default) => Some(default),
         _ => None,
     }
+}
+
+/// Whether shells complete a value. One of a blank or an apostrophe would need quotes of its own in each of them.
+pub fn is_completed(value: &str) -> bool {
+    !value.contains(' ') && !value.contains('\'')
 }

@@ -1,7 +1,8 @@
 //! Completions for zsh.
 
 use crate::draft::Draft;
-use crate::taken::{is_following, is_repeated, shown};
+use crate::shells::SHELLS;
+use crate::taken::{is_completed, is_repeated};
 use s3_command_line::commands;
 use s3_paper_commands::words::{Choice, CommandWords, Word};
 use std::alloc::{AllocError, Global};
@@ -15,6 +16,8 @@ pub fn zsh_script(alloc: Global) -> Result<String, AllocError> {
         put_name(&mut draft, command);
     }
     draft.put(MIDDLE);
+    put_shells(&mut draft);
+    draft.put(AFTER_SHELLS);
     for command in &commands {
         put_command(&mut draft, command);
     }
@@ -44,11 +47,14 @@ fn put_command(draft: &mut Draft, command: &CommandWords) {
 
 /// Appends what completes a word and its value.
 fn put_word(draft: &mut Draft, word: &Word) {
+    if word.takes.is_hidden() {
+        return;
+    }
     draft.put("                        '");
     if is_repeated(word.takes) {
         draft.put("*");
     }
-    if !is_following(word.takes) {
+    if !word.takes.is_following() {
         put_option(draft, word);
     }
     put_value(draft, word);
@@ -59,7 +65,7 @@ fn put_word(draft: &mut Draft, word: &Word) {
 fn put_option(draft: &mut Draft, word: &Word) {
     draft.put("--");
     draft.put(word.name);
-    if shown(word.takes).is_some() {
+    if word.takes.shown().is_some() {
         draft.put("=");
     }
     draft.put("[");
@@ -69,7 +75,7 @@ fn put_option(draft: &mut Draft, word: &Word) {
 
 /// Appends what completes the value of a word, if it takes one.
 fn put_value(draft: &mut Draft, word: &Word) {
-    let Some(shown) = shown(word.takes) else {
+    let Some(shown) = word.takes.shown() else {
         return;
     };
     draft.put(":");
@@ -86,12 +92,25 @@ fn put_value(draft: &mut Draft, word: &Word) {
 fn put_choices(draft: &mut Draft, choices: &[Choice]) {
     draft.put("((");
     for choice in choices {
-        draft.put(choice.name);
-        draft.put("\\:\"");
-        put_text(draft, choice.help);
-        draft.put("\" ");
+        if is_completed(choice.name) {
+            draft.put(choice.name);
+            draft.put("\\:\"");
+            put_text(draft, choice.help);
+            draft.put("\" ");
+        }
     }
     draft.put("))");
+}
+
+/// Appends the shells that have completions.
+fn put_shells(draft: &mut Draft) {
+    for shell in SHELLS {
+        draft.put(" '");
+        draft.put(shell.name);
+        draft.put("[");
+        put_text(draft, shell.help);
+        draft.put("]'");
+    }
 }
 
 /// Appends a text as a part of a description in apostrophes.
@@ -118,7 +137,7 @@ _bureau() {
     commands=(
 ";
 
-/// What comes between the commands' names and their options.
+/// What comes between the commands' names and the shells.
 const MIDDLE: &str = "        'help:Prints help, a page of the manual, or completions'
     )
     _arguments -C \\
@@ -137,7 +156,10 @@ const MIDDLE: &str = "        'help:Prints help, a page of the manual, or comple
                         commands+=(man completions)
                         _describe -t commands 'command' commands
                     elif [[ $words[2] == completions ]]; then
-                        _values 'shell' bash zsh fish
+                        _values 'shell'";
+
+/// What comes between the shells and the commands' options.
+const AFTER_SHELLS: &str = "
                     elif [[ $words[2] == man ]]; then
                         _describe -t commands 'page' commands
                     fi

@@ -7,6 +7,7 @@ use s3_cards::ebcdic::DIGIT_0;
 use s3_day_book::{BookHalt, BookJob, DayBook, page_of_day};
 use s3_day_files::{DayFault, Form, Order, Paper};
 use s3_decks::push_name;
+use s3_host_files::shown_name;
 use s3_operating::{LevelEnd, NotedHalt, PrintedJob, Replier, Verdict};
 use s3_refusals::Shown;
 use std::alloc::{AllocError, Global};
@@ -125,7 +126,7 @@ fn given_of(alloc: Global, order: &Order<'_>, desk: &OwnDesk<'_>) -> Result<Stri
 fn push_pack(text: &mut String, pack: Option<&str>) -> Result<(), AllocError> {
     match pack {
         Some(path) => {
-            let path = Shown(path);
+            let path = Shown(shown_name(path));
             write!(text, "Pack: {path}\n")
         }
         None => text.push_str("Pack: a new one\n"),
@@ -150,7 +151,7 @@ fn push_file_name(text: &mut String, place: usize, name: &str) -> Result<(), All
     if place > 0 {
         text.push_str(", ")?;
     }
-    let name = Shown(name);
+    let name = Shown(shown_name(name));
     write!(text, "{name}")
 }
 

@@ -7,7 +7,7 @@ use s3_cli::{CliFault, SessionFault};
 use s3_command_line::{FILE, OUT_OF_MEMORY};
 use s3_day_files::{
     DayFault, DayJournal, KeptOutputs, NamedOutput, Order, Output, Outputs, Paper, ReadDecks,
-    Watch, remove_made, write_deck,
+    Watch, log_refusal, remove_made, write_deck,
 };
 use s3_day_log::{Begun, DayLog};
 use s3_desk::{Day, Printing, operate_printing};
@@ -75,6 +75,8 @@ pub struct Over {
     pub has_index: bool,
     /// Whether the pack is saved.
     pub is_saved: bool,
+    /// Whether it replaces another pack than the one that was read.
+    pub replaces_other: bool,
 }
 
 impl Over {
@@ -172,6 +174,7 @@ fn operate_printed<'n>(
         Err(fault) => {
             if printing.operator.refused().is_some() {
                 remove_made(rt, made);
+                return Err(log_refusal(rt, order, fault));
             }
             Err(fault)
         }
@@ -334,6 +337,9 @@ fn operated<'n>(
     let mut performed = Performed::new(alloc);
     let ReadDecks { one, two } = read;
     let before = pack_before(alloc, order, &pack)?;
+    if printing.operator.open().is_err() {
+        return Err(refusal_of(order, &printing.operator));
+    }
     let done = operate_printing(
         alloc,
         pack,
@@ -369,6 +375,7 @@ fn closed<'n>(
             before,
             has_index: false,
             is_saved: false,
+            replaces_other: false,
         }),
         Err(_) => Err(refusal_of(order, desk)),
     }

@@ -26,14 +26,15 @@ use s3_cli::{CliFault, RunFault, SessionFault};
 use s3_command_line::{OUT_OF_MEMORY, command, names_standard_error};
 use s3_day_files::{
     Again, Begin, DayFault, DayJournal, DayPack, Decks, ExitZero, Given, ListedDecks, Order,
-    Outputs, ReadDecks, begin_day, list_jobs, names, read_log, read_rules, rules_text, test_decks,
-    test_journal, test_outputs, test_same,
+    Outputs, ReadDecks, begin_day, list_jobs, log_refusal, names, read_log, read_rules,
+    report_twice, rules_text, test_decks, test_journal, test_outputs, test_same,
 };
 use s3_day_log::DayLog;
+use s3_host_files::shown_name;
 use s3_labels::{Pack, Refusal, Refused};
 use s3_operating::Seat;
 use s3_paper_commands::status::{DONE, FILE_FAILED, PASSED_OVER, PERSON_NEEDED};
-use s3_refusals::{Shown, beginning_words, holder_of, pack_words};
+use s3_refusals::{Shown, beginning_words, pack_words, tell_holder};
 use s3_replies::Rules;
 use s3_store::MemoryStore;
 use std::io::Write;
@@ -56,20 +57,11 @@ fn status_of_day(rt: &HostRuntime, done: Result<u8, DayFault<'_>>) -> u8
     match done {
         Ok(status) => status.min(PASSED_OVER),
         Err(fault) => {
-            tell_holder(rt, &fault);
+            if let DayFault::InUse(name) = fault {
+                tell_holder(rt, name);
+            }
             fault.tell(&mut rt.stderr())
         }
-    }
-}
-
-/// Reports which process has the pack that is in use, if the system lists it.
-fn tell_holder(rt: &HostRuntime, fault: &DayFault<'_>) {
-    let DayFault::InUse(name) = fault else {
-        return;
-    };
-    if let Some(process) = holder_of(rt, *name) {
-        let name = Shown(*name);
-        let _ = writeln!(rt.stderr(), "{name} is locked by process {process}");
     }
 }
 
@@ -83,7 +75,7 @@ fn operate_again(rt: &HostRuntime, matches: &ArgMatches<'_>, words: &[String], p
     };
     let whole = match words_again(rt.alloc(), words, matches, &log) {
         Ok(Some(whole)) => whole,
-        Ok(None) => return refuse_log(rt, path),
+        Ok(None) => return refuse_log(rt, matches, path),
         Err(_) => return refuse_for_memory(rt),
     };
     let Ok(parser) = command(rt.alloc(), "operate") else {
@@ -91,7 +83,7 @@ fn operate_again(rt: &HostRuntime, matches: &ArgMatches<'_>, words: &[String], p
     };
     match parser.try_get_matches_from(whole.as_slice()) {
         Ok(parsed) => operate_parsed(rt, &parsed, &whole, path, &log),
-        Err(_) => refuse_log(rt, path),
+        Err(_) => refuse_log(rt, matches, path),
     }
 }
 
@@ -110,10 +102,23 @@ fn operate_parsed<'a>(
         Some((_operate, matches)) if names_standard_error(rt, "operate", matches) => FILE_FAILED,
         Some((_operate, matches)) => {
             let words = whole.get(2..).unwrap_or(&[]);
-            let again = Again { path, log };
+            let again = Again {
+                path: shown_name(path),
+                log,
+            };
             status_of_day(rt, operate_with(rt, matches, words, Some(again)))
         }
-        None => refuse_log(rt, path),
+        None => refuse_log(rt, parsed, path),
+    }
+}
+
+/// Refuses to do the day of a log again, before its options are read.
+fn refuse_again<'a>(rt: &HostRuntime, matches: &ArgMatches<'a>, fault: DayFault<'a>) -> u8
+    ensures { result ≤ 5 }
+{
+    match order_of(rt, matches) {
+        Ok(order) => status_of_day(rt, Err(log_refusal(rt, &order, fault))),
+        Err(_) => status_of_day(rt, Err(fault)),
     }
 }
 
@@ -124,15 +129,15 @@ fn refuse_for_memory(rt: &HostRuntime) -> u8
 }
 
 /// Refuses a log with options that this program doesn't take.
-fn refuse_log(rt: &HostRuntime, path: &str) -> u8
+fn refuse_log(rt: &HostRuntime, matches: &ArgMatches<'_>, path: &str) -> u8
     ensures { result ≤ 5 }
 {
     let _ = writeln!(
         rt.stderr(),
         "{}: line 1 has options that this program doesn't take; use the program that wrote the log",
-        Shown(path)
+        Shown(shown_name(path))
     );
-    status_of_day(rt, Err(DayFault::Redo))
+    refuse_again(rt, matches, DayFault::Redo)
 }
 
 /// Does a day, or lists its jobs. It is refused before the first turn, or only if memory runs out or a file fails.
@@ -191,7 +196,8 @@ fn operate_order<'a>(
     match Decks::read(rt, order, words, wants_checksums(order, again)) {
         Ok(decks) if lists_jobs => jobs_listed(rt, order, &decks),
         Ok(decks) => operate_decks(rt, order, decks, again),
-        Err(fault) => Err(fault),
+        Err(fault) if lists_jobs => Err(fault),
+        Err(fault) => Err(log_refusal(rt, order, fault)),
     }
 }
 
@@ -202,7 +208,10 @@ fn jobs_listed<'a>(
     decks: &Decks<'a>,
 ) -> Result<u8, DayFault<'a>> {
     match list_jobs(rt, order.is_json, &decks.one, &decks.two) {
-        Ok(()) => Ok(DONE),
+        Ok(()) => {
+            report_twice(rt, order)?;
+            Ok(DONE)
+        }
         Err(fault) => Err(fault),
     }
 }
@@ -258,7 +267,7 @@ fn operate_decks<'a>(
 ) -> Result<u8, DayFault<'a>> {
     match read_rest(rt, order, &mut decks, again) {
         Ok(rest) => operate_read(rt, order, decks, rest, again),
-        Err(fault) => Err(fault),
+        Err(fault) => Err(log_refusal(rt, order, fault)),
     }
 }
 
@@ -307,7 +316,7 @@ fn operate_read<'a>(
             operate_begun(rt, order, decks, rest, known)
         }
         Ok(None) => Ok(PERSON_NEEDED),
-        Err(fault) => Err(fault),
+        Err(fault) => Err(log_refusal(rt, order, fault)),
     }
 }
 
@@ -332,7 +341,7 @@ fn operate_begun<'a>(
         Ok(Begin::Day(Some(journal))) => operate_noted(rt, order, decks, rest, journal, known),
         Ok(Begin::Day(None)) => operate_over(rt, order, decks, rest, None, known),
         Ok(Begin::IsPosted) => Ok(DONE),
-        Err(fault) => Err(fault),
+        Err(fault) => Err(log_refusal(rt, order, fault)),
     }
 }
 
@@ -364,7 +373,7 @@ fn operate_tested<'a>(
 ) -> Result<u8, DayFault<'a>> {
     match test_outputs(rt, order) {
         Ok(()) => operate_over(rt, order, decks, rest, Some(journal), known),
-        Err(fault) => Err(fault),
+        Err(fault) => Err(log_refusal(rt, order, fault)),
     }
 }
 
@@ -470,7 +479,7 @@ fn operate_mounted<'n, 'a>(
             mounted.outputs,
             journal,
         ),
-        Err(fault) => Err(fault),
+        Err(fault) => Err(log_refusal(rt, order, fault)),
     }
 }
 
@@ -522,7 +531,7 @@ fn tell_refused(rt: &HostRuntime, path: Option<&str>, beginning: &str, fault: Re
     let (Refusal::BadPack(fault), Some(path)) = (fault, path) else {
         return;
     };
-    let (path, reason) = (Shown(path), pack_words(fault));
+    let (path, reason) = (Shown(shown_name(path)), pack_words(fault));
     let _ = if beginning.is_empty() {
         writeln!(
             rt.stderr(),

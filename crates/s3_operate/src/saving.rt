@@ -6,7 +6,9 @@ use s3_day_files::{
     DayFault, DayJournal, KeptOutput, KeptOutputs, Order, SetAside, end_aside, take_back,
 };
 use s3_day_log::{DayOver, Event, NamedFile, checksum};
-use s3_host_files::{FileFault, Limit, LockedPack, save_new_pack, save_pack};
+use s3_host_files::{
+    FileFault, Limit, LockedPack, is_pack_at, lead_to_one_file, path_of, save_new_pack, save_pack,
+};
 use s3_journal::LevelCount;
 use s3_operating::{Lost, Verdict, Wish};
 use s3_paper_commands::status::{DONE, FILE_FAILED, PASSED_OVER, PERSON_NEEDED};
@@ -14,6 +16,7 @@ use s3_refusals::{Reason, Shown};
 use std::alloc::{AllocError, Global};
 use std::io;
 use std::io::Write;
+use std::path::Path;
 
 /// Printed if the operator answered that the pack must not be saved.
 const ANSWERED_NO: &'static str = ": the answer was no";
@@ -100,6 +103,7 @@ fn save<'n>(
         locked,
         mut journal,
     } = place;
+    over.replaces_other = has_other_pack(rt, order, saving.path);
     let aside = match SetAside::of(rt, order, &locked) {
         Ok(aside) => aside,
         Err(fault) => return Err(end_unwritten(rt, order, desk, kept, fault)),
@@ -304,22 +308,39 @@ fn end_saved<'n>(
     pack: NamedFile,
 ) -> Result<u8, DayFault<'n>> {
     if over.is_reported(order) {
-        report_saved(rt, path, over.is_unfinished());
+        report_saved(rt, path, over);
     }
     let status = status_of(over.closing.verdict);
     end_over_saved(rt, order, desk, kept, status, path, pack)?;
     Ok(status)
 }
 
-/// Reports that the pack is saved, and what that means if a level isn't done.
-fn report_saved(rt: &HostRuntime, path: &str, is_unfinished: bool) {
+/// Whether the file at a path has another pack than the one that the day began with.
+fn has_other_pack(rt: &HostRuntime, order: &Order<'_>, path: &str) -> bool {
+    match order.pack {
+        Some(pack) => {
+            is_pack_at(rt, Path::new(path)) && !lead_to_one_file(rt, path_of(pack), path)
+        }
+        None => false,
+    }
+}
+
+/// Reports that the pack is saved, what that means if a level isn't done, and whether another pack was replaced.
+fn report_saved(rt: &HostRuntime, path: &str, over: &Over) {
     let path = Shown(path);
-    let further = if is_unfinished {
+    let further = if over.is_unfinished() {
         ", though a level isn't done: take the day up where the summary says; a job that is taken up begins anew, over the records that it has written"
     } else {
         ""
     };
-    let _ = writeln!(rt.stderr(), "the pack is saved in {path}{further}");
+    let _ = if over.replaces_other {
+        writeln!(
+            rt.stderr(),
+            "the pack is saved in {path}{further}; the pack that {path} had is replaced"
+        )
+    } else {
+        writeln!(rt.stderr(), "the pack is saved in {path}{further}")
+    };
 }
 
 /// Ends a day whose pack is saved, though its folder couldn't be brought to the disk.

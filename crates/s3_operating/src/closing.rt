@@ -5,14 +5,15 @@ ghost use Rattle.s3_replay.specs.Inner.Taped.{AreKnown, HasScript};
 
 use crate::clock::Clock;
 use crate::desk::Desk;
-use crate::levels::Levels;
+use crate::events::position_left;
+use crate::levels::{Levels, push_where as push_halt_place};
 use crate::message::Message;
 use crate::progress::{push_job_at, push_job_number, push_last_job};
 use crate::seat::Seat;
 use s3_bureau::LevelLines;
 use s3_cards::LevelId;
-use s3_day_log::{BegunJob, Event, Ledger, LevelEnd, Purpose, Verdict, became};
-use s3_decks::{DeckText, FilePlace, Position};
+use s3_day_log::{AnsweredHalt, BegunJob, Event, Ledger, LevelEnd, Purpose, Verdict, became};
+use s3_decks::FilePlace;
 use s3_desk::{Day, End};
 use s3_operator::{is_at_start, meaning};
 use s3_replay::Performed;
@@ -66,7 +67,18 @@ impl<'a, R: Read + Drop, W: Write + Drop, F: Write + Drop, C: Clock + Drop> Desk
         self.tell_counted()?;
         let one = self.close_level(LevelId::One, day.ends.one, &day.run.one)?;
         let two = self.close_level(LevelId::Two, day.ends.two, &day.run.two)?;
+        self.note_left(LevelId::One, one)?;
+        self.note_left(LevelId::Two, two)?;
         self.levels.closing(one, two)
+    }
+
+    /// Logs what is left of a level, unless it is done.
+    fn note_left(&mut self, level: LevelId, ended: Ended) -> Result<(), AllocError> {
+        if ended.is_done() {
+            Ok(())
+        } else {
+            self.log_left(level)
+        }
     }
 
     /// Closes a level, and logs what came of it.
@@ -149,17 +161,14 @@ impl<'a> Levels<'a> {
         message
     }
 
-    /// Appends the next reply that a log has for a level, if no halt got it.
+    /// Appends how many replies a log has for a level that no halt got, if there are any, and the first of them.
     fn push_unused(&self, message: &mut Message, seat: &Seat<'_>) {
         let Some(log) = self.settings.logged else {
             return;
         };
         if let Some(next) = log.reply(seat.level, seat.replies) {
-            message.push("  no halt got the log's next reply, ");
-            message.push_number(u64::from(next.reply.digit));
-            message.push(" to ");
-            message.push_letters(next.reply.code);
-            message.push(": compare the halts with those of the log\n");
+            let left = log.reply_count(seat.level).saturating_sub(seat.replies);
+            push_unused_from(message, left, *next);
         }
     }
 
@@ -173,6 +182,26 @@ impl<'a> Levels<'a> {
             );
         }
     }
+}
+
+/// Appends how many replies of a log no halt got, and the first of them:
+/// `  no halt got 12 replies of the log, the first 3 to UR in job 5 at card 178: compare the halts with those of the log`.
+fn push_unused_from(message: &mut Message, count: usize, next: AnsweredHalt) {
+    message.push("  no halt got ");
+    match count {
+        1 => message.push("1 reply of the log, "),
+        _ => {
+            message.push_number(count as u64);
+            message.push(" replies of the log, the first ");
+        }
+    }
+    message.push_number(u64::from(next.reply.digit));
+    message.push(" to ");
+    message.push_letters(next.reply.code);
+    if let Some(halt) = next.halt {
+        push_halt_place(message, halt);
+    }
+    message.push(": compare the halts with those of the log\n");
 }
 
 /// Appends how a level ended, and its jobs.
@@ -221,26 +250,12 @@ fn push_where(message: &mut Message, seat: &Seat<'_>, how: &str) {
         message.push(" at ");
         message.push_letters(code);
     }
-    match open_job(&seat.ledger) {
-        Some(job) => {
-            push_left_with_this(message, &seat.ledger);
-            push_first_left(message, seat, Some(job.card));
-        }
-        None => {
-            push_left(message, seat.ledger.jobs_left() as u64);
-            let first = seat.ledger.first_card(seat.ledger.begun().len());
-            push_first_left(message, seat, first);
-        }
-    }
-}
-
-/// The job that was begun last, if it isn't over.
-fn open_job(ledger: &Ledger) -> Option<&BegunJob> {
-    if ledger.is_open() {
-        ledger.begun().last()
+    if seat.ledger.is_open() {
+        push_left_with_this(message, &seat.ledger);
     } else {
-        None
+        push_left(message, seat.ledger.jobs_left() as u64);
     }
+    push_first_left(message, seat);
 }
 
 /// Appends that the last job to begin and the jobs after it are left.
@@ -265,29 +280,20 @@ fn push_left(message: &mut Message, left: u64) {
 }
 
 /// Appends at which line the first job begins that is left.
-fn push_first_left(message: &mut Message, seat: &Seat<'_>, first: Option<usize>) {
-    if let Some(card) = first
-        && let Some(deck) = seat.places()
-        && let Some(place) = deck.place_of(card).place
-    {
-        message.push(": from ");
-        if leads_to(deck, place, card) {
-            message.push_file_place(place);
-        } else {
+fn push_first_left(message: &mut Message, seat: &Seat<'_>) {
+    let Some(position) = position_left(seat) else {
+        return;
+    };
+    let line = position.line;
+    message.push(": from ");
+    match position.file {
+        Some(file) => message.push_file_place(FilePlace { file, line }),
+        None => {
             message.push("line ");
-            message.push_number(card as u64);
+            message.push_number(line as u64);
             message.push(" of the whole deck");
         }
     }
-}
-
-/// Whether a line of a file, as `--from1` names it, leads to a card: of a file that is given twice, it leads to the first copy.
-fn leads_to(deck: &DeckText<'_>, place: FilePlace<'_>, card: usize) -> bool {
-    let position = Position {
-        file: Some(place.file),
-        line: place.line,
-    };
-    deck.card_at(&position) == Some(card)
 }
 
 /// Appends a job, and how it ended.

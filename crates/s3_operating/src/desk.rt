@@ -220,6 +220,13 @@ impl<'a, R: Read + Drop, W: Write + Drop, F: Write + Drop, C: Clock + Drop> Desk
         self.test_outputs()
     }
 
+    /// Begins the day before its first turn, as `begin` does, and reports a log that can't be written. `Err` is also returned for a day
+    /// that is refused, or that a person doesn't continue.
+    pub fn open(&mut self) -> Result<(), AllocError> {
+        self.begin()?;
+        self.test_outputs()
+    }
+
     /// Begins the day, once: reports decks that can't be read, and begins the log. `Err` is also returned for a day that is refused.
     fn begin(&mut self) -> Result<(), AllocError> {
         if self.has_begun {

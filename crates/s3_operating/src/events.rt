@@ -3,9 +3,12 @@
 use crate::answers::Answer;
 use crate::clock::Clock;
 use crate::desk::Desk;
+use crate::seat::Seat;
 use s3_cards::LevelId;
-use s3_day_log::{BegunJob, Event, JobBegun, JobOver, Ledger, LoggedHalt, LoggedReply, end_of};
-use s3_decks::push_name;
+use s3_day_log::{
+    BegunJob, Event, JobBegun, JobOver, Ledger, LevelLeft, LoggedHalt, LoggedReply, end_of,
+};
+use s3_decks::{DeckText, Position, push_name};
 use s3_operator::HaltCode;
 use std::alloc::{AllocError, Global};
 use std::io::{Read, Write};
@@ -40,6 +43,15 @@ impl<'a, R: Read + Drop, W: Write + Drop, F: Write + Drop, C: Clock + Drop> Desk
         Ok(())
     }
 
+    /// Logs what is left of a level that isn't done.
+    pub(crate) fn log_left(&mut self, level: LevelId) -> Result<(), AllocError> {
+        if !self.journal.is_kept() {
+            return Ok(());
+        }
+        let left = left_of(self.levels.alloc, self.levels.seat(level))?;
+        self.note(Event::Left(left))
+    }
+
     /// Logs a reply.
     pub(crate) fn log_reply(
         &mut self,
@@ -67,10 +79,55 @@ pub(crate) fn beginning(
         Some(job) => Ok(Some(Event::JobBegins(JobBegun {
             level,
             job: number_in_log(place),
+            kind: Some(job.purpose.kind()),
             program: program_of(alloc, job)?,
             card: u16::try_from(job.card).unwrap_or(u16::MAX),
         }))),
         None => Ok(None),
+    }
+}
+
+/// What is left of a level, and the line to take it up at.
+fn left_of(alloc: Global, seat: &Seat<'_>) -> Result<LevelLeft, AllocError> {
+    Ok(LevelLeft {
+        level: seat.level,
+        job: seat.first_left().map(|place| number_in_log(place)),
+        from: match position_left(seat) {
+            Some(position) => Some(position_text(alloc, position)?),
+            None => None,
+        },
+    })
+}
+
+/// The line at which the first job begins that is left of a level, once its lines are found.
+pub(crate) fn position_left<'a>(seat: &Seat<'a>) -> Option<Position<'a>> {
+    position_of(seat.places()?, seat.ledger.first_card(seat.first_left()?)?)
+}
+
+/// The line at which a day is taken up at a card: one of the card's file, or of the whole deck if the line of the file leads to
+/// another card. Of a file that is given twice, it leads to the first copy.
+fn position_of<'a>(deck: &DeckText<'a>, card: usize) -> Option<Position<'a>> {
+    let place = deck.place_of(card).place?;
+    let position = Position {
+        file: Some(place.file),
+        line: place.line,
+    };
+    if deck.card_at(&position) == Some(card) {
+        Some(position)
+    } else {
+        Some(Position {
+            file: None,
+            line: card,
+        })
+    }
+}
+
+/// A line as `--from1` takes it.
+fn position_text(alloc: Global, position: Position<'_>) -> Result<String, AllocError> {
+    let line = position.line;
+    match position.file {
+        Some(file) => format!(in alloc; "{file}:{line}"),
+        None => format!(in alloc; "{line}"),
     }
 }
 

@@ -622,7 +622,7 @@ fn push_not_logged(message: &mut Message, logged: AnsweredHalt, halt: LoggedHalt
 }
 
 /// Appends where a halt is: ` in job 5 at card 178`.
-fn push_where(message: &mut Message, halt: LoggedHalt) {
+pub(crate) fn push_where(message: &mut Message, halt: LoggedHalt) {
     message.push(" in job ");
     message.push_number(u64::from(halt.job));
     if let Some(card) = halt.card {

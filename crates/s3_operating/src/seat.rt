@@ -249,6 +249,18 @@ impl<'a> Seat<'a> {
         }
     }
 
+    /// The place, from 0, of the first job that is left: the one that isn't over, or the next one; none if no job is left.
+    pub(crate) fn first_left(&self) -> Option<usize> {
+        let begun = self.ledger.begun().len();
+        if self.ledger.is_open() {
+            begun.checked_sub(1)
+        } else if self.ledger.jobs_left() > 0 {
+            Some(begun)
+        } else {
+            None
+        }
+    }
+
     /// The text of its deck.
     pub fn text(&self) -> &'a [u8] {
         self.deck.text()

@@ -1,5 +1,5 @@
 -- Bytes laid over others of the same text by their two ends.
-use Rattle.std.proofs.Common.{◌≡◌, ℕ, ◌+◌, ◌-◌, ◌≤◌, List, ◌++◌, length, take, drop, ap, sym, ◌∙◌, arith}
+use Rattle.std.proofs.Common.{◌≡◌, ℕ, ◌+◌, ◌-◌, ◌≤◌, List, ◌++◌, length, take, drop, ap, subst, sym, ◌∙◌, arith}
 use Rattle.std.specs.Prelude.{slice_range}
 use Rattle.std.specs.List.{copy_within}
 use Rattle.std.proofs.lemmas.List.{append_assoc, drop-drop, drop-take, length-drop, length-take-le, take-take}
@@ -27,3 +27,13 @@ ends_within bytes part first last n from end to some within room few is_first is
     let is : part ≡ text = laid text (size ∙ omega arith ∙ sym over) front back in
     let long : to + k - to ≡ k = omega arith in
     ap (λ m. put_mid to m bytes part) long ∙ (λ i. take to bytes ++ (is i ++ drop-drop k to bytes i)) ∙ sym (append_assoc (take to bytes) text (drop (to + k) bytes))
+
+-- where the target ends there
+pub ends_till : (bytes part first last : List ℕ) (n from end to till : ℕ) → till ≡ to + (end - from) → from ≤ end → end ≤ length bytes → till ≤ length bytes → n ≤ end - from
+    → first ≡ take n (drop from bytes) → last ≡ take n (drop (end - n) bytes)
+    → ((text : List ℕ) → length text ≡ length (slice_range bytes to till) → first ≡ take n text → last ≡ drop (length text - n) text → part ≡ text)
+    → put_mid to (till - to) bytes part ≡ copy_within bytes from end to
+ends_till bytes part first last n from end to till same some within room few is_first is_last laid =
+    ap (λ m. put_mid to (m - to) bytes part) same
+    ∙ ends_within bytes part first last n from end to some within (omega (arith, same, room)) few is_first is_last
+    (subst (λ (m : ℕ). (text : List ℕ) → length text ≡ length (slice_range bytes to m) → first ≡ take n text → last ≡ drop (length text - n) text → part ≡ text) same laid)

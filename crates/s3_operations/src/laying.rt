@@ -1,6 +1,40 @@
 //! Texts are laid over others, short ones by their two ends.
 ghost use Rattle.std.specs.Prelude.{◌≡◌, ◌≤◌, ◌+◌, ◌-◌, ◌*◌, List, ℕ, take, drop, length};
 ghost use Rattle.std.specs.List.{copy_within};
+ghost use Rattle.s3_operations.specs.Inner.Texts.{IsSize};
+
+/// How long a text is, by the way in which it is laid over another one: by its two ends of so many characters, or whole.
+#[derive(Clone, Copy)]
+pub enum Size {
+    /// It has one character.
+    One,
+    /// By ends of two.
+    Two,
+    /// By ends of four.
+    Four,
+    /// By ends of eight.
+    Eight,
+    /// By ends of sixteen.
+    Sixteen,
+    /// Whole.
+    Any,
+}
+
+impl Size {
+    /// The size of a text of so many characters.
+    pub fn of(count: usize) -> Size
+        ensures { IsSize result count }
+    {
+        match count {
+            1 => Size::One,
+            2..=3 => Size::Two,
+            4..=7 => Size::Four,
+            8..=16 => Size::Eight,
+            17..=32 => Size::Sixteen,
+            _ => Size::Any,
+        }
+    }
+}
 
 /// So many characters of a text, from a place on.
 pub(crate) fn part<const N: usize>(text: &[u8], at: usize) -> [u8; N]
@@ -72,42 +106,41 @@ pub fn lay(target: &mut [u8], text: &[u8])
     }
 }
 
-fn lay_within_by_ends<const N: usize>(bytes: &mut [u8], from: usize, end: usize, to: usize)
+fn lay_within_by_ends<const N: usize>(
+    bytes: &mut [u8],
+    from: usize,
+    end: usize,
+    to: usize,
+    till: usize,
+)
     requires source { from ≤ end }
     requires source_within { end ≤ length bytes.old }
-    requires target_within { to + (end - from) ≤ length bytes.old }
+    requires target { till ≡ to + (end - from) }
+    requires target_within { till ≤ length bytes.old }
     requires reaches { N ≤ end - from }
     requires covers { end - from ≤ 2 * N }
     ensures { bytes.new ≡ copy_within bytes.old from end to }
 {
     let first = part::<N>(bytes, from);
     let last = part::<N>(bytes, end - N);
-    lay_ends(&mut bytes[to..to + (end - from)], &first, &last);
+    lay_ends(&mut bytes[to..till], &first, &last);
 }
 
 /// Lays bytes over others of the same text, which may have some of theirs.
-pub fn lay_within(bytes: &mut [u8], from: usize, end: usize, to: usize)
+pub fn lay_within(bytes: &mut [u8], from: usize, end: usize, to: usize, till: usize, size: Size)
     requires source { from ≤ end }
     requires source_within { end ≤ length bytes.old }
-    requires target_within { to + (end - from) ≤ length bytes.old }
+    requires target { till ≡ to + (end - from) }
+    requires target_within { till ≤ length bytes.old }
+    requires size { IsSize size (end - from) }
     ensures { bytes.new ≡ copy_within bytes.old from end to }
 {
-    let count = end - from;
-    if count > 7 {
-        if count <= 16 {
-            lay_within_by_ends::<8>(bytes, from, end, to);
-        } else if count <= 32 {
-            lay_within_by_ends::<16>(bytes, from, end, to);
-        } else {
-            bytes.copy_within(from..end, to);
-        }
-    } else if count == 1 {
-        lay_within_by_ends::<1>(bytes, from, end, to);
-    } else if count > 3 {
-        lay_within_by_ends::<4>(bytes, from, end, to);
-    } else if count > 1 {
-        lay_within_by_ends::<2>(bytes, from, end, to);
-    } else {
-        lay_within_by_ends::<0>(bytes, from, end, to);
+    match size {
+        Size::One => lay_within_by_ends::<1>(bytes, from, end, to, till),
+        Size::Two => lay_within_by_ends::<2>(bytes, from, end, to, till),
+        Size::Four => lay_within_by_ends::<4>(bytes, from, end, to, till),
+        Size::Eight => lay_within_by_ends::<8>(bytes, from, end, to, till),
+        Size::Sixteen => lay_within_by_ends::<16>(bytes, from, end, to, till),
+        Size::Any => bytes.copy_within(from..end, to),
     }
 }

@@ -4,7 +4,7 @@ ghost use Rattle.s3_meaning.specs.Calculating.{moved_right, zoned};
 ghost use Rattle.s3_operations.specs.Inner.Texts.{Area, IsAdded, IsCut, length_of as length_of_spec};
 
 use crate::constants::{slots_of, text_of};
-use crate::laying::{lay, lay_within};
+use crate::laying::{Size, lay, lay_within};
 use s3_cards::ebcdic::BLANK;
 use s3_decimal::{Dec, zoned_write};
 use s3_lines::sheet::Shape;
@@ -65,10 +65,8 @@ fn length_of(shape: Shape) -> usize
 fn add_blanks(bytes: &mut Vec<u8>, count: usize) -> Result<(), AllocError>
     ensures { OnOk result (bytes.new.items ≡ bytes.old.items ++ replicate count BLANK) }
 {
-    for _ in 0..count {
-        bytes.push(BLANK)?;
-    }
-    Ok(())
+    let whole = bytes.len().saturating_add(count);
+    bytes.resize(whole, BLANK)
 }
 
 /// Adds a blank text of so many characters after the others.
@@ -138,7 +136,7 @@ impl Texts {
     ghost use Rattle.std.specs.List.{copy_within};
     ghost use Rattle.s3_operations.specs.Inner.Constants.{constants};
     ghost use Rattle.s3_operations.specs.Inner.Held.{HasTexts};
-    ghost use Rattle.s3_operations.specs.Inner.Texts.{LiesIn, blank_texts, text_on, texts_of, with_part};
+    ghost use Rattle.s3_operations.specs.Inner.Texts.{IsSize, LiesIn, blank_texts, text_on, texts_of, with_part};
 
     /// A blank text for each field of a program, and after these the texts of its constants; refused only if memory runs out.
     pub fn of(alloc: Global, program: &Program) -> Result<Texts, AllocError>
@@ -194,13 +192,15 @@ impl Texts {
         lay(&mut self.bytes[span.from..span.to], text);
     }
 
-    /// Copies the bytes of a span over the bytes from a place on. The two may overlap.
-    pub fn copy(&mut self, from: Span, to: usize)
+    /// Copies the bytes of a span, which has this size, over those from a place on, up to another place. The two may overlap.
+    pub fn copy(&mut self, from: Span, to: usize, till: usize, size: Size)
         requires lies { LiesIn self.old from }
-        requires room { to + (from.to - from.from) ≤ length self.old.bytes }
+        requires target { till ≡ to + (from.to - from.from) }
+        requires room { till ≤ length self.old.bytes }
+        requires size { IsSize size (from.to - from.from) }
         ensures { self.new ≡ record self.old { bytes = copy_within self.old.bytes from.from from.to to } }
     {
-        lay_within(&mut self.bytes, from.from, from.to, to);
+        lay_within(&mut self.bytes, from.from, from.to, to, till, size);
     }
 
     /// Moves the zoned bytes of a number into the text that lies there, right to right.

@@ -9,7 +9,7 @@ use s3_cards::Name;
 use s3_data_commands::cells::{Reading, with_cells};
 use s3_data_commands::fault::Fault;
 use s3_data_commands::filled::Words;
-use s3_data_commands::inputs::layout_of;
+use s3_data_commands::inputs::typed_layout_of;
 use s3_data_commands::journaling::{journal_for, unmade_if_refused};
 use s3_data_commands::pack_words::{
     Save, area_number, keep_input, label_of, label_words, mount_words, pack_to_change, refused,
@@ -18,7 +18,7 @@ use s3_data_commands::pack_words::{
 use s3_data_commands::sentences::output_sentence;
 use s3_data_commands::words::{
     AGAIN, AREA, DATE_FIELDS, DECIMAL, JOURNAL, LABEL, LAYOUT, LAYOUT_FILE, LAYOUT_TYPE,
-    LEVEL_ALIAS, MOST_RECORDS, OVERWRITE, PACK, SAVE,
+    LEVEL_ALIAS, MOST_RECORDS, OVERWRITE, PACK, SAVE, THOUSANDS,
 };
 use s3_host_files::StandardOutput;
 use s3_journal::{Posting, Work};
@@ -28,6 +28,13 @@ use s3_paper_commands::words::{CommandWords, Example, Takes, Word, value_of};
 use s3_refusals::Shown;
 use std::alloc::{AllocError, Global};
 use std::io::Write;
+
+/// What a person may expect, and no file has.
+const DELETE: Word = Word {
+    name: "delete",
+    takes: Takes::Refused,
+    help: "Refused: records can't be deleted",
+};
 
 /// `bureau amend` and its options.
 pub const AMEND: CommandWords = CommandWords {
@@ -66,8 +73,8 @@ pub const AMEND: CommandWords = CommandWords {
         DECIMAL,
         Word {
             name: "thousands",
-            takes: Takes::Value("C"),
-            help: "The mark that a number may have between thousands: . or , or a blank or an apostrophe",
+            takes: Takes::OneOf("C", THOUSANDS),
+            help: "The mark that a number may have between thousands",
         },
         Word {
             name: "capitals",
@@ -78,6 +85,7 @@ pub const AMEND: CommandWords = CommandWords {
         OVERWRITE,
         JOURNAL,
         AGAIN,
+        DELETE,
         Word {
             name: "values",
             takes: Takes::Following("FIELD=VALUE"),
@@ -183,6 +191,12 @@ fn push_no_setting(wrong: &mut String, text: &str) -> Result<(), AllocError> {
 }
 
 fn amend_record(rt: &HostRuntime, matches: &ArgMatches<'_>) -> Result<(), Fault> {
+    if matches.get_flag("delete") {
+        return Err(wrong_words(
+            rt.alloc(),
+            "a record can't be deleted, because the organization of files has no such operation; unload the file, take the row out of the table, and load the table with the capacity, retention and date of the file, which bureau list --table shows",
+        ));
+    }
     let asked = Asked::read(rt, matches)?;
     let settings = settings_of(rt, matches)?;
     let layout = amended_layout(rt, matches, asked.source)?;
@@ -197,7 +211,7 @@ fn amend_record(rt: &HostRuntime, matches: &ArgMatches<'_>) -> Result<(), Fault>
         work: Work::Amend,
     };
     let saved = saved(rt, matches, asked.save, save, &pack)?;
-    tell_done(rt, done_sentence(rt.alloc(), &asked, &changed), saved)?;
+    tell_done(rt, done_sentence(rt.alloc(), &asked, &changed), saved);
     print_record(rt, &layout, &changed)
 }
 
@@ -211,7 +225,7 @@ fn amended_layout(
         capitals: matches.get_flag("capitals"),
         thousands: matches.get_str("thousands"),
     };
-    let layout = layout_of(rt, matches, source)?;
+    let layout = typed_layout_of(rt, matches, source)?;
     with_cells(rt, matches, source, layout, reading)
 }
 

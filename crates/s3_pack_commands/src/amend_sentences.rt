@@ -92,7 +92,7 @@ fn plain_words(mistake: &Mistake) -> &'static str {
         Mistake::NoKey =>
             " is the key of no record; `bureau unload` writes the records that the file has",
         Mistake::OtherType(_) =>
-            "the record isn't of the record type of the layout; choose the type that it has by --type",
+            "the record isn't of the record type of the layout; give the --type that it has, or a layout with that type",
         Mistake::LeavesType(_) =>
             "the record would lose its record identification codes; give the fields that have them other values",
     }

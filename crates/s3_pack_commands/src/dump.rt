@@ -184,7 +184,8 @@ fn save_good(
         work: Work::Restore,
     };
     let saved = saved(rt, matches, save, how, pack)?;
-    tell_done(rt, restored_sentence(rt.alloc(), save, pack), saved)
+    tell_done(rt, restored_sentence(rt.alloc(), save, pack), saved);
+    Ok(())
 }
 
 /// Which pack is restored, and how many bytes it has after its sectors, if it has any.

@@ -276,9 +276,9 @@ fn lengths_of(
 fn no_file_sentence(alloc: Global, path: &str, asked: &Asked<'_>) -> Result<String, AllocError> {
     let sentence = match asked.area {
         Some(_) =>
-            "{path} has no file {label} in area {area}, so no fields of it are printed; `bureau list --pack {path}` shows the files that it has",
+            "{path} has no file {label} in area {area}, so no fields of it are printed; `bureau list --pack {given}` shows the files that it has",
         None =>
-            "{path} has no file {label}, so no fields of it are printed; `bureau list --pack {path}` shows the files that it has",
+            "{path} has no file {label}, so no fields of it are printed; `bureau list --pack {given}` shows the files that it has",
     };
     Words::of_file(path, asked.area.unwrap_or(0), asked.label).fill(alloc, sentence)
 }

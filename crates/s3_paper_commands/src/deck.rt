@@ -3,12 +3,11 @@ ghost use Rattle.std.specs.Prelude.{◌≤◌, IfOk};
 
 use crate::encodings::deck_encoding_words;
 use crate::fault::CommandFault;
-use crate::input::{STANDARD_INPUT, read_input, shown_name};
 use crate::messages::Report;
 use crate::punch::report_punched;
 use crate::typed_files::TypedFiles;
 use s3_decks::{DeckText, cards_len};
-use s3_host_files::{WRITTEN, read_within, stream_at};
+use s3_host_files::{WRITTEN, is_input, read_input, read_within, shown_name, stream_at};
 use s3_punch::{Begun, Punched, punch};
 use s3_refusals::{Shown, begins_as_pack};
 use std::alloc::AllocError;
@@ -125,7 +124,7 @@ impl<'a> ReadDeck<'a> {
 
 /// The bytes of a file of a deck, or of standard input. A pack is refused, and a file that is also standard output or standard error.
 pub fn read_deck_file<'a>(rt: &HostRuntime, name: &'a str) -> Result<Vec<u8>, CommandFault<'a>> {
-    if name == STANDARD_INPUT {
+    if is_input(name) {
         tell_waiting(rt);
         return text_of(read_input(rt, TEXT_LIMIT), shown_name(name));
     }
@@ -135,8 +134,8 @@ pub fn read_deck_file<'a>(rt: &HostRuntime, name: &'a str) -> Result<Vec<u8>, Co
     text_of(read_within(rt, name, TEXT_LIMIT), name)
 }
 
-/// Reports what is waited for, if standard input is a terminal.
-fn tell_waiting(rt: &HostRuntime) {
+/// Reports what a deck from standard input waits for, if that is a terminal.
+pub fn tell_waiting(rt: &HostRuntime) {
     if rt.stdin().is_terminal() {
         let _ = writeln!(
             rt.stderr(),
@@ -193,7 +192,7 @@ fn add_text<'a>(
     ensures { IfOk result (λ after. after.begun.cards ≤ 9999) }
 {
     let punched = punch(rt.alloc(), &bytes, &standing.begun)?;
-    let is_faulty = report_punched(rt, report, name, &punched);
+    let is_faulty = report_punched(rt, report, name, &punched)?;
     let begun = punched.behind(standing.begun);
     let Punched {
         text,

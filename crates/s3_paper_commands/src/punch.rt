@@ -3,17 +3,18 @@ ghost use Rattle.std.specs.Prelude.{◌≤◌};
 
 use crate::deck::read_deck_file;
 use crate::fault::CommandFault;
-use crate::input::shown_name;
 use crate::messages::Report;
-use crate::status::{DONE, FILE_WRONG, OPTIONS_WRONG, REFUSED};
+use crate::punch_check::check_files;
+use crate::punch_messages::{push_messages, unprintable};
+use crate::status::{DONE, FILE_WRONG, OPTIONS_WRONG, PERSON_NEEDED, REFUSED};
 use crate::words::{Choice, CommandWords, Example, Status, Takes, Word};
 use clap::ArgMatches;
-use s3_host_files::StandardOutput;
+use s3_host_files::{StandardOutput, shown_name};
 use s3_punch::{
-    Begun, CARD_BYTES, CardByte, LineChange, PunchFault, PunchReason, Punched, is_ebcdic_deck,
-    punch, text_of_cards,
+    Begun, CARD_BYTES, CardByte, LineChange, PunchFault, Punched, is_ebcdic_deck, punch,
+    text_of_cards,
 };
-use s3_refusals::{Shown, is_shown, wide_text};
+use s3_refusals::{Shown, wide_text};
 use std::alloc::{AllocError, Global};
 use std::io::Write;
 
@@ -31,7 +32,7 @@ pub const PUNCH: CommandWords = CommandWords {
     statuses: &[
         Status {
             number: DONE,
-            meaning: "the deck is written",
+            meaning: "the deck is written, or with --check the text has no errors",
         },
         Status {
             number: REFUSED,
@@ -39,6 +40,10 @@ pub const PUNCH: CommandWords = CommandWords {
         },
         OPTIONS_WRONG,
         FILE_WRONG,
+        Status {
+            number: PERSON_NEEDED,
+            meaning: "with --check, the text has errors",
+        },
     ],
     examples: &[
         Example {
@@ -56,6 +61,10 @@ pub const PUNCH: CommandWords = CommandWords {
         Example {
             line: "bureau punch --report old.txt > new.deck",
             purpose: "Reports each line that was changed or left out",
+        },
+        Example {
+            line: "bureau punch --check billing.rpg",
+            purpose: "Writes only the errors of a text, for an editor",
         },
     ],
     words: &[
@@ -79,6 +88,11 @@ pub const PUNCH: CommandWords = CommandWords {
             takes: Takes::Nothing,
             help: "Lists each line that was changed or left out",
         },
+        Word {
+            name: "check",
+            takes: Takes::Nothing,
+            help: "Writes no deck, only the errors, FILE:LINE:COLUMN: error: TEXT, as editors read them",
+        },
     ],
 };
 
@@ -98,27 +112,32 @@ struct WholeDeck {
 }
 
 /// Does what the options of `bureau punch` ask, and gives the exit status: 0 if the deck is written, 1 if the text is in error, a file is
-/// also standard output or error, or memory ran out, 3 if a file can't be read or standard output can't be written.
+/// also standard output or error, or memory ran out, 3 if a file can't be read or standard output can't be written, 4 if with `--check` the
+/// text is in error.
 pub fn punch_files<'a>(rt: &HostRuntime, matches: &ArgMatches<'a>) -> u8
-    ensures { result ≤ 3 }
+    ensures { result ≤ 4 }
 {
-    match write_deck(rt, matches) {
-        Ok(true) => DONE,
-        Ok(false) => REFUSED,
+    let done = if matches.get_flag("check") {
+        check_files(rt, matches)
+    } else {
+        write_deck(rt, matches)
+    };
+    match done {
+        Ok(status) => status.min(PERSON_NEEDED),
         Err(fault) => fault.tell(&mut rt.stderr()),
     }
 }
 
-/// Writes the deck of all files and reports the number of changes, or reports the errors. It returns whether the deck was written.
-fn write_deck<'a>(rt: &HostRuntime, matches: &ArgMatches<'a>) -> Result<bool, CommandFault<'a>> {
+/// Writes the deck of all files and reports the number of changes, or reports the errors. It returns the exit status.
+fn write_deck<'a>(rt: &HostRuntime, matches: &ArgMatches<'a>) -> Result<u8, CommandFault<'a>> {
     let stacked = stacked(rt, matches)?;
     if stacked.is_faulty {
-        return Ok(false);
+        return Ok(REFUSED);
     }
     match StandardOutput::new(rt).write_all(&stacked.text) {
         Ok(()) => {
             tell_count(rt, stacked.counted);
-            Ok(true)
+            Ok(DONE)
         }
         Err(error) => Err(CommandFault::of_output(&error)),
     }
@@ -285,40 +304,22 @@ fn tell_faults(rt: &HostRuntime, file: &str, faults: &[PunchFault]) {
     }
 }
 
-/// Reports all errors of a file as editors read them.
-fn report_faults(rt: &HostRuntime, file: &str, faults: &[PunchFault]) {
-    for fault in faults {
-        let line = fault.line;
-        let column = fault.column;
-        let reason = fault.reason;
-        let file = Shown(file);
-        let _ = match unprintable(reason) {
-            Some(code) => writeln!(
-                rt.stderr(),
-                "{file}:{line}:{column}: error: no card has the unprintable character U+{code:04X}; take it out"
-            ),
-            None => writeln!(rt.stderr(), "{file}:{line}:{column}: error: {reason}"),
-        };
-    }
-}
-
 /// Reports the errors of a file that was punched; in sentences also how many of its lines were changed and left out, if it has no error.
 /// It returns whether the file is in error.
-pub fn report_punched(rt: &HostRuntime, report: Report, file: &str, punched: &Punched) -> bool {
+pub fn report_punched(
+    rt: &HostRuntime,
+    report: Report,
+    file: &str,
+    punched: &Punched,
+) -> Result<bool, AllocError> {
     match report {
-        Report::Sentences => tell_punched(rt, file, punched),
+        Report::Sentences => Ok(tell_punched(rt, file, punched)),
         Report::Messages => {
-            report_faults(rt, file, &punched.faults);
-            !punched.faults.is_empty()
+            let mut text = String::new(rt.alloc());
+            push_messages(&mut text, file, &punched.faults)?;
+            let _ = rt.stderr().write_all(text.as_bytes());
+            Ok(!punched.faults.is_empty())
         }
-    }
-}
-
-/// The code of the character that a reason is about, if a terminal doesn't show it as it is.
-fn unprintable(reason: PunchReason) -> Option<u32> {
-    match reason {
-        PunchReason::NoCardHas(character) if !is_shown(character) => Some(character as u32),
-        _ => None,
     }
 }
 

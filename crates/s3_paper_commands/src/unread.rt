@@ -1,11 +1,11 @@
 //! Files that are no deck: which of their cards can't be read, and what is to be done.
 
 use crate::characters::TAB;
-use crate::input::SHOWN_INPUT;
 use crate::messages::{Report, push_spot};
 use bstr::ByteSlice;
 use s3_cards::{COLUMNS, code_of_byte, first_line, to_ebcdic};
 use s3_decks::{CardPlace, DeckText, FilePlace};
+use s3_host_files::SHOWN_INPUT;
 use s3_punch::PunchReason;
 use s3_refusals::{Shown, is_shown};
 use std::alloc::{AllocError, Global};

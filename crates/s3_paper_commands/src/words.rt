@@ -95,6 +95,8 @@ pub enum Takes {
     FollowingFiles,
     /// One value or more, which follow the command without an option.
     Following(&'static str),
+    /// Nothing: the command refuses the option, which no help lists, and says what to do instead.
+    Refused,
 }
 
 impl CommandWords {
@@ -104,7 +106,12 @@ impl CommandWords {
         for word in self.words {
             arguments.push(self.argument(alloc, word)?)?;
         }
-        self.parser_without_options(alloc).args(arguments)
+        let parser = self.parser_without_options(alloc);
+        let parser = match self.refused() {
+            Some(_) => parser.override_usage(kept_text(alloc, self.usage(alloc)?)?),
+            None => parser,
+        };
+        parser.args(arguments)
     }
 
     /// A parser that has the command's name and its line of the help, and takes no options.
@@ -118,7 +125,31 @@ impl CommandWords {
         for alias in self.aliases {
             argument = with_alias(argument, *alias, word.name)?;
         }
-        Ok(argument)
+        match self.refused() {
+            // so that the refusal comes whatever else is given
+            Some(refused) if word.takes.is_needed() => argument
+                .required(false)
+                .required_unless_present(refused),
+            _ => Ok(argument),
+        }
+    }
+
+    /// The option that the command refuses, if it has one.
+    fn refused(&self) -> Option<&'static str> {
+        let refused = self.words.iter().find(|word| word.takes.is_hidden())?;
+        Some(refused.name)
+    }
+
+    /// How the command is used. A parser has this line itself unless an option may stand in place of what has to be given.
+    fn usage(&self, alloc: Global) -> Result<String, AllocError> {
+        let name = self.name;
+        let mut usage = format!(in alloc; "bureau {name} [OPTIONS]")?;
+        for word in self.words {
+            if word.takes.is_needed() {
+                word.push_use(&mut usage)?;
+            }
+        }
+        Ok(usage)
     }
 }
 
@@ -132,14 +163,25 @@ fn with_alias<'a>(argument: Arg<'a>, alias: Alias, word: &str) -> Result<Arg<'a>
 }
 
 impl Word {
+    /// Appends how the word is used, after a blank.
+    fn push_use(&self, usage: &mut String) -> Result<(), AllocError> {
+        let shown = self.takes.shown().unwrap_or("");
+        if self.takes.is_following() {
+            return write!(usage, " <{shown}>...");
+        }
+        let name = self.name;
+        write!(usage, " --{name} <{shown}>")
+    }
+
     /// The word as a parser has it.
     fn argument<'a>(&self, alloc: Global) -> Result<Arg<'a>, AllocError> {
         let argument = self
             .takes
             .given_with(Arg::new(alloc, self.name).help(self.help));
-        let argument = match self.takes {
-            Takes::FollowingFiles | Takes::Following(_) => argument,
-            _ => argument.long(self.name),
+        let argument = if self.takes.is_following() {
+            argument
+        } else {
+            argument.long(self.name)
         };
         match self.takes.choices() {
             Some(choices) => Ok(argument.value_parser(values_of(alloc, choices)?)),
@@ -148,8 +190,22 @@ impl Word {
     }
 }
 
+/// A text that is kept as long as the process runs.
+pub fn kept_text<'a>(alloc: Global, text: String) -> Result<&'a str, AllocError> {
+    let mut texts = Vec::new(alloc);
+    texts.push(text)?;
+    let texts: &'a [String] = texts.leak();
+    match texts.first() {
+        Some(text) => Ok(text.as_str()),
+        None => Ok(""),
+    }
+}
+
 /// Some values with their help, as a parser takes them. They are kept as long as the process runs.
-fn values_of<'a>(alloc: Global, choices: &[Choice]) -> Result<&'a [PossibleValue<'a>], AllocError> {
+pub fn values_of<'a>(
+    alloc: Global,
+    choices: &[Choice],
+) -> Result<&'a [PossibleValue<'a>], AllocError> {
     let mut values = Vec::new(alloc);
     for choice in choices {
         values.push(PossibleValue::new(choice.name).help(choice.help))?;
@@ -179,6 +235,44 @@ impl Takes {
         }
     }
 
+    /// The placeholder of the value, if the word takes one.
+    pub fn shown(self) -> Option<&'static str> {
+        match self {
+            Takes::Nothing | Takes::Refused => None,
+            Takes::Files | Takes::FollowingFiles => Some("FILE"),
+            Takes::Value(shown)
+            | Takes::Needed(shown)
+            | Takes::Values(shown)
+            | Takes::OneOf(shown, _)
+            | Takes::NeededOneOf(shown, _)
+            | Takes::Following(shown)
+            | Takes::Number(shown, _, _)
+            | Takes::U16Or(shown, _)
+            | Takes::U8Or(shown, _) => Some(shown),
+        }
+    }
+
+    /// Whether the word has to be given.
+    pub fn is_needed(self) -> bool {
+        matches!(
+            self,
+            Takes::Needed(_)
+                | Takes::NeededOneOf(_, _)
+                | Takes::FollowingFiles
+                | Takes::Following(_)
+        )
+    }
+
+    /// Whether the value follows the command without a word.
+    pub fn is_following(self) -> bool {
+        matches!(self, Takes::FollowingFiles | Takes::Following(_))
+    }
+
+    /// Whether no help lists the word.
+    pub fn is_hidden(self) -> bool {
+        matches!(self, Takes::Refused)
+    }
+
     /// Whether what is given is the name of a file or a folder.
     pub fn is_file(self) -> bool {
         match self {
@@ -192,6 +286,7 @@ impl Takes {
     fn given_with<'a>(self, argument: Arg<'a>) -> Arg<'a> {
         match self {
             Takes::Nothing => argument.action(ArgAction::SetTrue),
+            Takes::Refused => argument.action(ArgAction::SetTrue).hide(true),
             Takes::Value(shown) | Takes::OneOf(shown, _) => argument.value_name(shown),
             Takes::Needed(shown) | Takes::NeededOneOf(shown, _) => {
                 argument.value_name(shown).required(true)

@@ -15,7 +15,7 @@ mod refused;
 mod wide;
 
 pub use closed::is_closed;
-pub use holder::holder_of;
+pub use holder::{holder_of, tell_holder};
 pub use packs::{beginning_words, begins_as_pack, pack_words};
 pub use reasons::{Holder, Reason, call_words};
 pub use refused::{FileWork, Refused, Work};

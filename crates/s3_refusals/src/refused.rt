@@ -6,7 +6,7 @@ use crate::packs::pack_words;
 use crate::reasons::{Holder, Reason};
 use s3_cli::{CliFault, ImageFault, MigrateFault, RunFault, SessionFault, tell};
 use s3_decks::Shown;
-use s3_host_files::{Hindrance, StandardStream};
+use s3_host_files::{Hindrance, StandardStream, shown_name};
 use s3_labels::MountFault;
 use std::io;
 use std::io::Write;
@@ -100,7 +100,7 @@ impl<'a> Refused<'a> {
 
 /// Writes why a file can't be read, or a pack not be saved in it, and what to do.
 fn explain_file<W: Write>(writer: &mut W, name: &str, work: FileWork) -> io::Result<()> {
-    let name = Shown(name);
+    let name = Shown(shown_name(name));
     match work {
         FileWork::Reading(error) => {
             let reason = Reason(error);
@@ -202,7 +202,7 @@ fn explain_mount<W: Write>(
     let Some(name) = pack else {
         return writer.write_all(b"The pack can't be used.\n");
     };
-    let (name, reason) = (Shown(name), pack_words(fault));
+    let (name, reason) = (Shown(shown_name(name)), pack_words(fault));
     writeln!(
         writer,
         "{name} can't be used as a pack: {reason}. Check the name, or take a copy that is whole."

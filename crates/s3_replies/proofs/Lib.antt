@@ -2,3 +2,4 @@ pub mod Answering
 pub mod WordLemmas
 pub mod ReadingLemmas
 pub mod ListLemmas
+pub mod LetterLemmas

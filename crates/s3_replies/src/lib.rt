@@ -4,8 +4,7 @@
 //! `Rules::read` is proved to give the rules of a text's lines, in order, or all its malformed lines, each with its first fault.
 //! `reply_for` is proved to give the first rule that fits, and the halt allows its digit (`answers_are_allowed`). `read_typed` is
 //! proved to give the level, the digit or the command of a line, and `Unknown` for any other line (`is_reply`). `next_listed` is
-//! proved to give the next line of a list. Not proved: that no halt has the letters that are refused. When a read fails isn't
-//! specified.
+//! proved to give the next line of a list. When a read fails isn't specified.
 
 #![tactic(auto)]
 

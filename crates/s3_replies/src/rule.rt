@@ -1,7 +1,7 @@
 //! A rule, and the line that says it.
 ghost use Rattle.std.specs.Prelude.{◌≡◌, ◌≤◌, length, map};
 ghost use Rattle.std.specs.List.{list_all};
-ghost use Rattle.s3_replies.specs.Inner.Rules.{NamesHalt, WordsAreRead, code_or_blank, digit_fault as digit_fault_spec, has_name_code as has_name_code_spec, level_named as level_named_spec, may_be_name as may_be_name_spec, name_code as name_code_spec, name_in as name_in_spec, names_halt as names_halt_spec, names_level as names_level_spec, names_program as names_program_spec, program_named as program_named_spec, program_said, rule_for as rule_for_spec, rule_from as rule_from_spec};
+ghost use Rattle.s3_replies.specs.Inner.Rules.{IsHaltOf, NamesHalt, WordsAreRead, code_or_blank, digit_fault as digit_fault_spec, has_name_code as has_name_code_spec, level_named as level_named_spec, may_be_name as may_be_name_spec, name_code as name_code_spec, name_in as name_in_spec, names_halt as names_halt_spec, names_level as names_level_spec, names_program as names_program_spec, program_named as program_named_spec, program_said, rule_for as rule_for_spec, rule_from as rule_from_spec};
 ghost use Rattle.s3_replies.specs.Inner.Words.{words};
 
 use crate::line_fault::LineFault;
@@ -164,12 +164,22 @@ fn level_named(word: &[u8]) -> Option<Option<LevelId>>
 fn halt_named(word: &[u8]) -> Option<Option<HaltCode>>
     ensures { NamesHalt word.now result }
 {
+    if word == b"*".as_slice() {
+        return Some(None);
+    }
+    match halt_of(word) {
+        Some(code) => Some(Some(code)),
+        None => None,
+    }
+}
+
+/// The halt whose letters a word is, in capitals or small letters.
+#[tactic(auto, using(crate::proofs::LetterLemmas::too_short, crate::proofs::LetterLemmas::too_long))]
+fn halt_of(word: &[u8]) -> Option<HaltCode>
+    ensures { IsHaltOf word.now result }
+{
     match word {
-        [b'*'] => Some(None),
-        [first, second] => {
-            let code = code_of([first.to_ascii_uppercase(), second.to_ascii_uppercase()])?;
-            Some(Some(code))
-        }
+        [first, second] => code_of([first.to_ascii_uppercase(), second.to_ascii_uppercase()]),
         _ => None,
     }
 }

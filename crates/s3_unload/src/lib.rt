@@ -17,6 +17,8 @@
 //!   with a line feed after each if the form has one. It returns how many records aren't chosen (`wrote`). It is refused by the header, the labels, the index, a byte without
 //!   a character, memory and the writer alone (`refused`). Its texts are read again by `s3_load`.
 //!
+//! Only tested: which values `hidden_values` finds, and how many; each that it finds is proved to be one that can't be shown (`fault_in`).
+//!
 //! A chosen record that has a value that can't be shown is reported by its number in the file; that it is the first one of the table, that
 //! the reported field and position are the ones in error, and that the rows before it are written and nothing after other
 //! refusals, is only tested. So is what is written with another delimiter than the comma, as what it reads, and the texts of
@@ -26,6 +28,7 @@
 mod fault;
 mod fixed;
 mod found;
+mod hidden;
 mod laws;
 mod lines;
 mod ordered;
@@ -35,6 +38,7 @@ mod writing;
 pub use fault::UnloadFault;
 pub use fixed::{FixedForm, unload_fixed};
 pub use found::{Area, find_file};
+pub use hidden::{HiddenValue, HiddenValues, hidden_values};
 pub use laws::a_table_reads_as_its_rows;
 pub use lines::{LineForm, unload_lines};
 pub use writing::unload;

@@ -1,5 +1,5 @@
 -- Dates: six digits MMDDYY in a record, YYYY-MM-DD in a cell. The years are 1900 to 1999.
-use Rattle.std.specs.Prelude.{ℕ, ◌+◌, ◌*◌, ◌%◌, ◌==◌, ◌&&◌, ◌||◌, nat_le, not, Bool, List, [], ◌∷◌, get_or, length, map, replicate, Option, Some, None, if◌then◌else◌}
+use Rattle.std.specs.Prelude.{◌≡◌, ℕ, ◌+◌, ◌*◌, ◌%◌, ◌==◌, ◌&&◌, ◌||◌, nat_le, not, Bool, false, List, [], ◌∷◌, get_or, length, map, replicate, Option, Some, None, if◌then◌else◌}
 use Rattle.std.specs.List.{list_all}
 use Rattle.s3_cards.specs.Codes.{ebcdic, shown_byte}
 use Rattle.s3_cards.specs.declared.ebcdic.TheConstants.{BLANK, DIGIT_0}
@@ -28,13 +28,23 @@ unfoldable pub is_date : List ℕ → Bool
 is_date text = (length text == 6) && list_all is_digit text && is_day (two_at 0 text) (two_at 2 text) (two_at 4 text)
 
 -- ---- fields of dates
--- the byte of a field without a date
+-- the byte that is written into a field without a date
 abbrev pub none_of : DateField → ℕ
 none_of TextDate = BLANK
 none_of NumberDate = DIGIT_0
 
+-- all bytes are this one
+abbrev pub are_all : (byte : ℕ) → List ℕ → Bool
+are_all byte bytes = list_all (λ other. other == byte) bytes
+
+-- a field has no date: it has the bytes that are written for none, or is blank
 abbrev pub has_no_date : DateField → List ℕ → Bool
-has_no_date form bytes = list_all (λ byte. byte == none_of form) bytes
+has_no_date form bytes = are_all (none_of form) bytes || are_all BLANK bytes
+
+-- if a field has no date, its bytes are those that are written for none
+abbrev pub IsDateAsWritten : DateField → List ℕ → Type 0
+IsDateAsWritten TextDate bytes = Unit {0}
+IsDateAsWritten NumberDate bytes = are_all BLANK bytes ≡ false
 
 -- the date in a field's bytes, as its six characters; none of a field without one
 abbrev pub date_in : DateField → List ℕ → List ℕ

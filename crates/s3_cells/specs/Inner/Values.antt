@@ -5,7 +5,7 @@ use Rattle.std.specs.List.{list_all}
 use Rattle.s3_cards.specs.Codes.{shown_byte}
 use Rattle.s3_decimal.specs.Exact.{is_negative}
 use Rattle.s3_decimal.specs.Records.{has_bad_digit, packed_bytes, packed_digits, packed_number, zoned_bytes, zoned_digits, zoned_number}
-use Rattle.s3_cells.specs.Inner.Dates.{date_bytes, date_in, date_read, date_text, has_no_date, is_date, is_date_or_none}
+use Rattle.s3_cells.specs.Inner.Dates.{IsDateAsWritten, date_bytes, date_in, date_read, date_text, has_no_date, is_date, is_date_or_none}
 use Rattle.s3_cells.specs.Inner.Marks.{guarded, marked, plain_number, text_read}
 use Rattle.s3_cells.specs.Inner.Numbers.{number_read, number_text}
 use Rattle.s3_cells.specs.Inner.Texts.{has_character, has_code, text_bytes, trimmed}
@@ -39,12 +39,12 @@ value_in (Zoned decimals cells) bytes = Number (zoned_number bytes)
 value_in (Packed decimals cells) bytes = Number (packed_number bytes)
 value_in (Date form) bytes = Characters (date_in form bytes)
 
--- the bytes of a number are those that are written for it
+-- the bytes of a number, or of no date, are those that are written for it
 abbrev pub IsAsWritten : FieldKind → List ℕ → Type 0
 IsAsWritten (TextKind cells) bytes = Unit {0}
 IsAsWritten (Zoned decimals cells) bytes = bytes ≡ zoned_bytes (is_negative (zoned_number bytes)) (length bytes) (unsigned_abs (zoned_number bytes))
 IsAsWritten (Packed decimals cells) bytes = bytes ≡ packed_bytes (is_negative (packed_number bytes)) (length bytes) (unsigned_abs (packed_number bytes))
-IsAsWritten (Date form) bytes = Unit {0}
+IsAsWritten (Date form) bytes = IsDateAsWritten form bytes
 
 -- ---- of values
 -- a text has no blanks at its end

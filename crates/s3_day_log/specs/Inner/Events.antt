@@ -5,6 +5,7 @@ use Rattle.std.specs.Global.{Vec}
 use Rattle.s3_cards.specs.declared.levels.LevelId.{LevelId}
 use Rattle.s3_day_log.specs.declared.event.NamedFile.{NamedFile}
 use Rattle.s3_day_log.specs.declared.event.Begun.{Begun}
+use Rattle.s3_day_log.specs.declared.event.JobKind.{JobKind}
 use Rattle.s3_day_log.specs.declared.event.JobOver.{JobOver}
 use Rattle.s3_day_log.specs.declared.event.LoggedHalt.{LoggedHalt}
 use Rattle.s3_day_log.specs.declared.event.LoggedReply.{LoggedReply}
@@ -27,8 +28,15 @@ pub record Day : Type 0 where
 pub record Job : Type 0 where
   pub level : LevelId
   pub job : ℕ
+  pub kind : Option JobKind
   pub program : Option (List ℕ)
   pub card : ℕ
+
+-- what is left of a level that isn't done
+pub record Left : Type 0 where
+  pub level : LevelId
+  pub job : Option ℕ
+  pub from : Option (List ℕ)
 
 pub data Said : Type 0 where
   begins : Day → Said
@@ -38,9 +46,11 @@ pub data Said : Type 0 where
   replies : LoggedReply → Said
   is_cut : LevelId → Said
   stops : Said
+  is_left : Left → Said
   declines : Said
   saves : File → Said
   ends : (status : ℕ) → Option File → Said
+  is_refused : (status : ℕ) → (line : List ℕ) → Said
 
 -- ---- of the code's types
 abbrev pub file_of : NamedFile → File
@@ -57,12 +67,14 @@ day_of day = record { words = texts_of day.words; pack = option_map file_of day.
 
 abbrev pub said_of : Event → Said
 said_of (event.Begin day) = begins (day_of day)
-said_of (event.JobBegins job) = job_begins (record { level = job.level; job = job.job; program = option_map string_bytes job.program; card = job.card })
+said_of (event.JobBegins job) = job_begins (record { level = job.level; job = job.job; kind = job.kind; program = option_map string_bytes job.program; card = job.card })
 said_of (event.JobEnds job) = job_ends job
 said_of (event.Halt halt) = halts halt
 said_of (event.Reply reply) = replies reply
 said_of (event.Cut level) = is_cut level
 said_of event.Stop = stops
+said_of (event.Left left) = is_left (record { level = left.level; job = left.job; from = option_map string_bytes left.from })
 said_of event.Declined = declines
 said_of (event.Saving pack) = saves (file_of pack)
 said_of (event.End day) = ends day.status (option_map file_of day.saved)
+said_of (event.Refused day) = is_refused day.status (string_bytes day.line)

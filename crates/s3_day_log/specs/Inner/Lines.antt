@@ -12,6 +12,8 @@ use Rattle.s3_operator.specs.declared.halt_code.HaltCode.{HaltCode}
 use Rattle.s3_operator.specs.Table.{letters_of}
 use Rattle.s3_day_log.specs.declared.event.JobEnd.{JobEnd}
 use Rattle.s3_day_log.specs.declared.event.JobEnd.TheVariants.{Ended, Replied, PassedOver}
+use Rattle.s3_day_log.specs.declared.event.JobKind.{JobKind}
+use Rattle.s3_day_log.specs.declared.event.JobKind.TheVariants.{Compile, Run, Faulty}
 use Rattle.s3_day_log.specs.declared.event.Replier.{Replier}
 use Rattle.s3_day_log.specs.declared.event.Replier.TheVariants as by
 use Rattle.s3_day_log.specs.declared.words.EventKind.{EventKind}
@@ -19,7 +21,7 @@ use Rattle.s3_day_log.specs.declared.words.EventKind.TheVariants as event
 use Rattle.s3_day_log.specs.declared.event.JobOver.{JobOver}
 use Rattle.s3_day_log.specs.declared.event.LoggedHalt.{LoggedHalt}
 use Rattle.s3_day_log.specs.declared.event.LoggedReply.{LoggedReply}
-use Rattle.s3_day_log.specs.Inner.Events.{File, Day, Job, Said, begins, job_begins, job_ends, halts, replies, is_cut, stops, declines, saves, ends}
+use Rattle.s3_day_log.specs.Inner.Events.{File, Day, Job, Left, Said, begins, job_begins, job_ends, halts, replies, is_cut, stops, is_left, declines, saves, ends, is_refused}
 use Rattle.s3_day_log.specs.Inner.Members.{text_in, whole_in, number_in, object_in, list_in, level_in, halt_in, optional_text_in, optional_number_in, optional_object_in, read_each}
 
 abbrev pub byte_most : ℕ
@@ -32,6 +34,18 @@ abbrev pub long_most : ℕ
 long_most = 18446744073709551615
 
 -- ---- words
+abbrev pub job_kind_word : JobKind → List ℕ
+job_kind_word Compile = codes "compile"
+job_kind_word Run = codes "run"
+job_kind_word Faulty = codes "faulty"
+
+abbrev pub job_kind_named : List ℕ → Option JobKind
+job_kind_named word =
+    if word_is word (codes "compile") then Some Compile
+    else if word_is word (codes "run") then Some Run
+    else if word_is word (codes "faulty") then Some Faulty
+    else None
+
 abbrev pub end_word : JobEnd → List ℕ
 end_word Ended = codes "ended"
 end_word Replied = codes "replied"
@@ -67,9 +81,11 @@ kind_named word =
     else if word_is word (codes "reply") then Some event.Reply
     else if word_is word (codes "cut") then Some event.Cut
     else if word_is word (codes "stop") then Some event.Stop
+    else if word_is word (codes "left") then Some event.Left
     else if word_is word (codes "declined") then Some event.Declined
     else if word_is word (codes "saving") then Some event.Saving
     else if word_is word (codes "end") then Some event.End
+    else if word_is word (codes "refused") then Some event.Refused
     else None
 
 -- ---- what the members of an object say
@@ -105,11 +121,19 @@ abbrev pub day_in : Members → Option Day
 day_in members =
     day_if_whole (texts_in (codes "words") members) (optional_file_in (codes "pack") members) (files_in (codes "deck1") members) (files_in (codes "deck2") members)
 
+-- what a job is for, or that a line of an earlier program doesn't have it
+abbrev pub job_kind_if_any : Option (List ℕ) → Option (Option JobKind)
+job_kind_if_any None = Some None
+job_kind_if_any (Some word) = option_map Some (job_kind_named word)
+
+abbrev pub job_kind_in : Members → Option (Option JobKind)
+job_kind_in members = option_and_then job_kind_if_any (optional_text_in (codes "kind") members)
+
 abbrev pub job_in : Members → Option Job
 job_in members =
-    option_and_then (λ level. option_and_then (λ job. option_and_then (λ card. option_map (λ program.
-    record { level = level; job = job; program = program; card = card })
-    (optional_text_in (codes "program") members)) (number_in (codes "card") short_most members)) (number_in (codes "job") short_most members)) (level_in members)
+    option_and_then (λ level. option_and_then (λ job. option_and_then (λ what. option_and_then (λ card. option_map (λ program.
+    record { level = level; job = job; kind = what; program = program; card = card })
+    (optional_text_in (codes "program") members)) (number_in (codes "card") short_most members)) (job_kind_in members)) (number_in (codes "job") short_most members)) (level_in members)
 
 abbrev pub job_over_in : Members → Option JobOver
 job_over_in members =
@@ -129,6 +153,17 @@ reply_said members =
     record { level = level; code = code; digit = digit; by = who })
     (option_and_then replier_named (text_in (codes "by") members))) (number_in (codes "digit") byte_most members)) (halt_in members)) (level_in members)
 
+abbrev pub left_in : Members → Option Left
+left_in members =
+    option_and_then (λ level. option_and_then (λ job. option_map (λ from.
+    record { level = level; job = job; from = from })
+    (optional_text_in (codes "from") members)) (optional_number_in (codes "job") short_most members)) (level_in members)
+
+abbrev pub refusal_said : Members → Option Said
+refusal_said members =
+    option_and_then (λ status. option_map (λ line. is_refused status line)
+    (text_in (codes "line") members)) (number_in (codes "status") byte_most members)
+
 abbrev pub end_said : Members → Option Said
 end_said members =
     option_and_then (λ status. option_map (λ saved. ends status saved)
@@ -143,9 +178,11 @@ said_as event.Halt line = option_map halts (halt_said line)
 said_as event.Reply line = option_map replies (reply_said line)
 said_as event.Cut line = option_map is_cut (level_in line)
 said_as event.Stop line = Some stops
+said_as event.Left line = option_map is_left (left_in line)
 said_as event.Declined line = Some declines
 said_as event.Saving line = option_map saves (option_and_then file_in (object_in (codes "pack") line))
 said_as event.End line = end_said line
+said_as event.Refused line = refusal_said line
 
 abbrev pub said_by : (word : List ℕ) → Members → Option Said
 said_by word members = option_and_then (λ kind. said_as kind members) (kind_named word)
@@ -186,6 +223,10 @@ abbrev pub text_or_null : Option (List ℕ) → Json
 text_or_null None = null
 text_or_null (Some text) = string text
 
+abbrev pub job_kind_or_null : Option JobKind → Json
+job_kind_or_null None = null
+job_kind_or_null (Some what) = string (job_kind_word what)
+
 abbrev pub whole_or_null : Option ℕ → Json
 whole_or_null None = null
 whole_or_null (Some n) = whole n
@@ -223,15 +264,17 @@ kind word = (codes "event", string word)
 
 abbrev pub pairs_of : Said → Pairs
 pairs_of (begins day) = kind (codes "begin") ∷ (codes "day", object (members_of (day_pairs day))) ∷ []
-pairs_of (job_begins job) = kind (codes "job_begins") ∷ level_pair job.level ∷ (codes "job", whole job.job) ∷ (codes "program", text_or_null job.program) ∷ (codes "card", whole job.card) ∷ []
+pairs_of (job_begins job) = kind (codes "job_begins") ∷ level_pair job.level ∷ (codes "job", whole job.job) ∷ (codes "kind", job_kind_or_null job.kind) ∷ (codes "program", text_or_null job.program) ∷ (codes "card", whole job.card) ∷ []
 pairs_of (job_ends job) = kind (codes "job_ends") ∷ level_pair job.level ∷ (codes "job", whole job.job) ∷ (codes "lines", whole job.lines) ∷ (codes "end", string (end_word job.end)) ∷ []
 pairs_of (halts halt) = kind (codes "halt") ∷ level_pair halt.level ∷ (codes "job", whole halt.job) ∷ code_pair halt.code ∷ (codes "card", whole_or_null halt.card) ∷ []
 pairs_of (replies reply) = kind (codes "reply") ∷ level_pair reply.level ∷ code_pair reply.code ∷ (codes "digit", whole reply.digit) ∷ (codes "by", string (replier_word reply.by)) ∷ []
 pairs_of (is_cut level) = kind (codes "cut") ∷ level_pair level ∷ []
 pairs_of stops = kind (codes "stop") ∷ []
+pairs_of (is_left left) = kind (codes "left") ∷ level_pair left.level ∷ (codes "job", whole_or_null left.job) ∷ (codes "from", text_or_null left.from) ∷ []
 pairs_of declines = kind (codes "declined") ∷ []
 pairs_of (saves file) = kind (codes "saving") ∷ (codes "pack", file_tree file) ∷ []
 pairs_of (ends status saved) = kind (codes "end") ∷ (codes "status", whole status) ∷ (codes "saved", file_or_null saved) ∷ []
+pairs_of (is_refused status line) = kind (codes "refused") ∷ (codes "status", whole status) ∷ (codes "line", string line) ∷ []
 
 -- an event at a time, as one object
 unfoldable pub tree_of : (at : List ℕ) → Said → Json

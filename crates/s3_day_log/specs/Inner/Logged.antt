@@ -12,7 +12,7 @@ use Rattle.s3_day_log.specs.declared.day_log.LogFault.TheVariants.{NoMemory, Lin
 use Rattle.s3_day_log.specs.declared.event.AnsweredHalt.{AnsweredHalt}
 use Rattle.s3_day_log.specs.declared.event.LoggedHalt.{LoggedHalt}
 use Rattle.s3_day_log.specs.declared.event.LoggedReply.{LoggedReply}
-use Rattle.s3_day_log.specs.Inner.Events.{File, Day, Said, begins, job_begins, job_ends, halts, replies, is_cut, stops, declines, saves, ends, day_of}
+use Rattle.s3_day_log.specs.Inner.Events.{File, Day, Said, begins, job_begins, job_ends, halts, replies, is_cut, stops, is_left, declines, saves, ends, is_refused, day_of}
 use Rattle.s3_day_log.specs.Inner.Lines.{said_on, line_of, is_time, byte_most, short_most, long_most}
 
 -- ---- the events of a text
@@ -93,9 +93,11 @@ continued (halts halt) log = Some (with_halt halt.level halt log)
 continued (replies reply) log = answered reply log
 continued (is_cut level) log = Some log
 continued stops log = Some log
+continued (is_left left) log = Some log
 continued declines log = Some (record log { is_declined = true })
 continued (saves file) log = with_pack file log
 continued (ends status saved) log = None
+continued (is_refused status line) log = None
 
 -- after the answer to the question about saving only the last event follows
 abbrev pub taken : Said → Log → Option Log
@@ -107,8 +109,10 @@ taken (halts halt) log = if is_some log.saved || log.is_declined then None else 
 taken (replies reply) log = if is_some log.saved || log.is_declined then None else continued (replies reply) log
 taken (is_cut level) log = if is_some log.saved || log.is_declined then None else continued (is_cut level) log
 taken stops log = if is_some log.saved || log.is_declined then None else continued stops log
+taken (is_left left) log = if is_some log.saved || log.is_declined then None else continued (is_left left) log
 taken declines log = if is_some log.saved || log.is_declined then None else continued declines log
 taken (saves file) log = if is_some log.saved || log.is_declined then None else continued (saves file) log
+taken (is_refused status line) log = if is_some log.saved || log.is_declined then None else continued (is_refused status line) log
 
 -- after the last event no line follows
 abbrev pub taken_if_said : Option Said → Log → Option Log
@@ -185,9 +189,11 @@ fits (halts halt) = nat_le halt.job short_most && is_shown halt.code && card_fit
 fits (replies reply) = is_shown reply.code && nat_le reply.digit byte_most
 fits (is_cut level) = true
 fits stops = true
+fits (is_left left) = card_fits left.job
 fits declines = true
 fits (saves file) = true
 fits (ends status saved) = nat_le status byte_most
+fits (is_refused status line) = nat_le status byte_most
 
 -- an event with the time at which it is written
 pub record Timed : Type 0 where

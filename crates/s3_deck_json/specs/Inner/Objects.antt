@@ -16,7 +16,9 @@ use Rattle.s3_source_listing.specs.declared.cards.Cards.{Cards}
 use Rattle.s3_source_listing.specs.declared.deck_messages.CardMessage.{CardMessage}
 use Rattle.s3_source_listing.specs.declared.deck_messages.Severity.{Severity}
 use Rattle.s3_source_listing.specs.declared.deck_messages.Severity.TheVariants.{Error, Warning}
+use Rattle.s3_ocl.specs.declared.contents.FileStatement.{FileStatement}
 use Rattle.s3_deck_json.specs.declared.places.JobPlace.{JobPlace}
+use Rattle.s3_deck_json.specs.declared.places.JobSpan.{JobSpan}
 use Rattle.s3_deck_json.specs.declared.tables.Tables.{Tables}
 
 -- ---- names and places
@@ -116,12 +118,22 @@ program_json deck job program messages tables = object_named (
 abbrev pub kind_word : (is_compile : Bool) → List ℕ
 kind_word is_compile = if is_compile then codes "compile" else codes "run"
 
--- the members of a job before its error
-abbrev pub job_head : LevelId → JobPlace → (program kind : Json) → Option FileLine → List (List ℕ × Json)
-job_head level job program kind place =
-    (codes "level", whole (level_number level)) ∷ (codes "job", whole job.number) ∷ (codes "program", program) ∷ (codes "kind", kind)
-    ∷ (codes "card", whole job.card) ∷ (codes "file", file_json place) ∷ (codes "line", line_json place) ∷ []
+-- a file of a job, with its label on the pack
+abbrev pub used_file_json : (name label : List ℕ) → Json
+used_file_json name label = object_named ((codes "name", string name) ∷ (codes "label", string label) ∷ [])
 
-abbrev pub job_json : Assembled → LevelId → JobPlace → (program kind error : Json) → Json
-job_json deck level job program kind error =
-    object_named (job_head level job program kind (line_of job.card deck) ++ (codes "error", error) ∷ [])
+-- the file of a FILE statement
+abbrev pub statement_json : FileStatement → Json
+statement_json statement = used_file_json (name_text statement.name) (name_text statement.label)
+
+-- the members of a job before its files: `first` and `last` are the lines of its first and its last card
+abbrev pub job_head : LevelId → JobSpan → (program kind : Json) → (first last : Option FileLine) → List (List ℕ × Json)
+job_head level job program kind first last =
+    (codes "level", whole (level_number level)) ∷ (codes "job", whole job.start.number) ∷ (codes "program", program) ∷ (codes "kind", kind)
+    ∷ (codes "card", whole job.start.card) ∷ (codes "file", file_json first) ∷ (codes "line", line_json first)
+    ∷ (codes "last_card", whole job.last) ∷ (codes "last_file", file_json last) ∷ (codes "last_line", line_json last) ∷ []
+
+abbrev pub job_json : Assembled → LevelId → JobSpan → (program kind files error : Json) → Json
+job_json deck level job program kind files error = object_named (
+    job_head level job program kind (line_of job.start.card deck) (line_of job.last deck)
+    ++ (codes "files", files) ∷ (codes "error", error) ∷ [])

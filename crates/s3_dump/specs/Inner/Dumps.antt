@@ -1,12 +1,14 @@
--- Dumps: texts that stand for bytes. A line is empty, a note, a run of zeros or codes. It stands for no bytes, for so many zeros, or for the
--- codes. The bytes of a dump are those of its lines, one line after another.
+-- Dumps: texts that stand for bytes. A line is empty, a note, a run of zeros, codes or an index. It stands for no bytes, for so many zeros,
+-- for the codes, or for the index of the records before it. The bytes of a dump are those of its lines, one line after another.
 use Rattle.std.specs.Prelude.{◌≡◌, ℕ, ◌+◌, ◌-◌, ◌*◌, ◌==◌, ◌&&◌, nat_le, nat_lt, Bool, true, false, List, [], ◌∷◌, ◌++◌, replicate, take, drop, Option, Some, None, ⊤, if◌then◌else◌}
 use Rattle.std.specs.List.{fold}
 use Rattle.s3_cards.specs.Codes.{ebcdic_of}
+use Rattle.s3_dump.specs.Inner.Indexes.{index_of}
 use Rattle.s3_dump.specs.declared.fault.RestoreFault.{RestoreFault}
 use Rattle.s3_dump.specs.declared.fault.RestoreFault.TheVariants.{NoDump, NoMemory}
+use Rattle.s3_dump.specs.declared.index.IndexLine.{IndexLine}
 use Rattle.s3_dump.specs.declared.reading.Mode.{Mode}
-use Rattle.s3_dump.specs.declared.reading.Mode.TheVariants.{Start, Note, Zeros, Codes, High, Low, End}
+use Rattle.s3_dump.specs.declared.reading.Mode.TheVariants.{Start, Note, Zeros, Codes, High, Low, End, Index}
 
 abbrev pub line_end : ℕ
 line_end = 10
@@ -29,12 +31,16 @@ pub record State : Type 0 where
 abbrev pub begun : State
 begun = record { mode = Start; bytes = [] }
 
+abbrev pub no_numbers : IndexLine
+no_numbers = record { count = 0; record_length = 0; sectors = 0; key_start = 0; key_length = 0 }
+
 abbrev pub at_start : ℕ → List ℕ → Option State
 at_start c bytes =
     if c == line_end then Some (record { mode = Start; bytes = bytes })
     else (if c == 35 then Some (record { mode = Note; bytes = bytes })
     else (if c == 91 then Some (record { mode = Codes; bytes = bytes })
-    else (if c == 42 then Some (record { mode = Zeros 0; bytes = bytes }) else None)))
+    else (if c == 42 then Some (record { mode = Zeros 0; bytes = bytes })
+    else (if c == 61 then Some (record { mode = Index 0 no_numbers; bytes = bytes }) else None))))
 
 abbrev pub in_note : ℕ → List ℕ → Option State
 in_note c bytes = if c == line_end then Some (record { mode = Start; bytes = bytes }) else Some (record { mode = Note; bytes = bytes })
@@ -64,8 +70,29 @@ with_low high None bytes = None
 abbrev pub at_end : ℕ → List ℕ → Option State
 at_end c bytes = if c == line_end then Some (record { mode = Start; bytes = bytes }) else None
 
--- one character more: # begins a note, * a number of zeros in decimal digits, and [ codes, up to ]. Among codes a card character is its
--- code, and \ and two hexadecimal digits are a byte.
+-- the numbers of an index are read into its last one, from which a blank moves them on
+abbrev pub most_number : ℕ
+most_number = 99999999
+
+abbrev pub moved_on : IndexLine → IndexLine
+moved_on line = record { count = line.record_length; record_length = line.sectors; sectors = line.key_start; key_start = line.key_length; key_length = 0 }
+
+abbrev pub with_number : IndexLine → ℕ → IndexLine
+with_number line number = record { count = line.count; record_length = line.record_length; sectors = line.sectors; key_start = line.key_start; key_length = number }
+
+abbrev pub with_index : Option (List ℕ) → List ℕ → Option State
+with_index (Some index) bytes = Some (record { mode = Start; bytes = bytes ++ index })
+with_index None bytes = None
+
+abbrev pub in_index : (blanks : ℕ) → IndexLine → ℕ → List ℕ → Option State
+in_index blanks line c bytes =
+    if c == line_end then (if blanks == 4 then with_index (index_of line bytes) bytes else None)
+    else (if c == 32 then (if nat_lt blanks 4 then Some (record { mode = Index (blanks + 1) (moved_on line); bytes = bytes }) else None)
+    else (if nat_le 48 c && nat_le c 57 && nat_le line.key_length most_number && nat_le (line.key_length * 10 + (c - 48)) most_number
+    then Some (record { mode = Index blanks (with_number line (line.key_length * 10 + (c - 48))); bytes = bytes }) else None))
+
+-- one character more: # begins a note, * a number of zeros in decimal digits, [ codes, up to ], and = the five numbers of an index. Among
+-- codes a card character is its code, and \ and two hexadecimal digits are a byte.
 abbrev pub step_by : Mode → ℕ → List ℕ → Option State
 step_by Start c bytes = at_start c bytes
 step_by Note c bytes = in_note c bytes
@@ -74,6 +101,7 @@ step_by Codes c bytes = in_codes c bytes
 step_by High c bytes = with_high (hex_value c) bytes
 step_by (Low high) c bytes = with_low high (hex_value c) bytes
 step_by End c bytes = at_end c bytes
+step_by (Index blanks line) c bytes = in_index blanks line c bytes
 
 abbrev pub step : Option State → ℕ → Option State
 step None c = None
@@ -88,6 +116,7 @@ is_start Codes = false
 is_start High = false
 is_start (Low high) = false
 is_start End = false
+is_start (Index blanks line) = false
 
 abbrev pub whole : Option State → Option (List ℕ)
 whole None = None

@@ -1,5 +1,5 @@
 -- How a new pack gets the name of a locked file, which files it may replace, and which files are leftovers of killed saves.
-use Rattle.std.specs.Prelude.{ℕ, Bool, true, false, ◌||◌, List, codes, Result, Ok, Err}
+use Rattle.std.specs.Prelude.{ℕ, Bool, true, false, ◌||◌, ◌==◌, List, codes, length, Result, Ok, Err}
 use Rattle.std.specs.List.{starts_with}
 use Rattle.std.specs.Prelude.{nat_eq}
 use Rattle.s3_host_files.specs.declared.naming.AtName.{AtName}
@@ -35,6 +35,10 @@ words_of_hindrance Changed = codes "was changed by another program while this co
 -- the bytes begin with a mark, or are the beginning of it
 abbrev pub is_begun : List ℕ → List ℕ → Bool
 is_begun mark bytes = starts_with nat_eq bytes mark || starts_with nat_eq mark bytes
+
+-- an empty file, or a pack of either format
+abbrev pub is_replaceable : List ℕ → Bool
+is_replaceable bytes = (length bytes == 0) || (starts_with nat_eq bytes (codes "S3PACK01") || starts_with nat_eq bytes (codes "S3PACK02"))
 
 -- a pack of either format, or what a killed save leaves of one
 abbrev pub can_begin_pack : List ℕ → Bool

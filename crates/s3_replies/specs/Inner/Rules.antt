@@ -13,6 +13,7 @@ use Rattle.s3_cards.specs.declared.levels.LevelId.TheVariants.{One, Two}
 use Rattle.s3_cards.specs.declared.name.Name.{Name}
 use Rattle.s3_operator.specs.declared.halt_code.HaltCode.{HaltCode}
 use Rattle.s3_operator.specs.Table.{letters_of}
+use Rattle.s3_operator.specs.Inner.Codes.{IsCodeOf}
 use Rattle.s3_operator.specs.Replies.{is_allowed}
 use Rattle.s3_replies.specs.declared.line_fault.LineFault.{LineFault}
 use Rattle.s3_replies.specs.declared.line_fault.LineFault.TheVariants.{TooShort, Level, Letters, Digit, NotOfThree, NotOfTwo, Program, TooLong}
@@ -79,11 +80,15 @@ level_named word =
     else if word_is word (codes "*") then Some None
     else None
 
+-- the halt whose letters a word is, in capitals or small letters; None where no halt has them
+abbrev pub IsHaltOf : List ℕ → Option HaltCode → Type 0
+IsHaltOf word code = IsCodeOf (map to_ascii_uppercase word) code
+
 -- a word for the halts: the letters of one, in capitals or small letters, or * for any
 abbrev pub NamesHalt : List ℕ → Option (Option HaltCode) → Type 0
-NamesHalt word None = word_is word (codes "*") ≡ false
+NamesHalt word None = (word_is word (codes "*") ≡ false) × IsHaltOf word None
 NamesHalt word (Some None) = word ≡ codes "*"
-NamesHalt word (Some (Some code)) = letters_of code ≡ map to_ascii_uppercase word
+NamesHalt word (Some (Some code)) = IsHaltOf word (Some code)
 
 -- a digit that the halt never allows, or none of them, is refused, by those that it allows
 abbrev pub digit_fault : Option HaltCode → (digit : ℕ) → Option LineFault

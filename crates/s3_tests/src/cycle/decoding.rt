@@ -60,7 +60,12 @@ fn name_of(work: &Work) -> &'static str {
         Work::Compare(_) => "compare",
         Work::WideCompare(_) => "wide compare",
         Work::CompareTexts(_) => "compare texts",
-        Work::MoveText(_) => "move text",
+        Work::MoveText(_)
+        | Work::MoveOne(_)
+        | Work::MoveTwo(_)
+        | Work::MoveFour(_)
+        | Work::MoveEight(_)
+        | Work::MoveSixteen(_) => "move text",
         Work::MoveToText(_) => "move to text",
         Work::MoveToNumber(_) => "move to number",
         Work::MoveNumber(_) => "move number",

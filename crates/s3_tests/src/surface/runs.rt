@@ -79,7 +79,16 @@ fn two_departments_run(rt: HostRuntime) -> Result<(), Fail> {
     Ok(())
 }
 
-/// A malformed line of the script is reported before the pack is looked at, and a pack is refused for its header or its size.
+/// A pack whose region of level 2 begins inside that of level 1.
+fn meeting_pack(alloc: Global) -> Result<Vec<u8>, Fail> {
+    let mut pack = new_pack(alloc, 2)?;
+    if let Some(start) = pack.get_mut(19) {
+        *start = 1;
+    }
+    Ok(pack)
+}
+
+/// A malformed line of the script is reported before the pack is looked at, and a pack is refused for its header, its regions or its size.
 #[test]
 fn a_run_is_refused(rt: HostRuntime) -> Result<(), Fail> {
     let decks = Decks {
@@ -89,9 +98,12 @@ fn a_run_is_refused(rt: HostRuntime) -> Result<(), Fail> {
     let blank = vec![in rt.alloc(); 0u8; 168 * 256]?;
     let script = fault_of(run_over(rt.alloc(), b"", decks, b"T1 8\nT3\n"));
     let header = fault_of(run_over(rt.alloc(), blank.as_slice(), decks, b"T1 8\n"));
+    let meeting = meeting_pack(rt.alloc())?;
+    let regions = fault_of(run_over(rt.alloc(), meeting.as_slice(), decks, b"T1 8\n"));
     let short = fault_of(run_over(rt.alloc(), b"", decks, b"T1 8\n"));
     assert!(rt; matches!(script, Some(RunFault::Script { line: 2 })));
     assert!(rt; matches!(header, Some(RunFault::Mount(MountFault::BadHeader))));
+    assert!(rt; matches!(regions, Some(RunFault::Mount(MountFault::BadRegions))));
     assert!(rt; matches!(short, Some(RunFault::Mount(MountFault::Short))));
     Ok(())
 }

@@ -1,4 +1,4 @@
-use Rattle.std.proofs.Common.{refl, rules}
+use Rattle.std.proofs.Common.{rules}
 use Rattle.s3_operations.proofs.PlaceLemmas.{bits_turned}
 use Rattle.s3_operations.proofs.indicators.Indicators.turn_bits.Goals as goal
 

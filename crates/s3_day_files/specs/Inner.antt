@@ -1,0 +1,2 @@
+-- What an output is, by its first bytes.
+pub mod Kinds
