@@ -49,7 +49,7 @@ tell_stopped() {
     else
         again="to do it again, give the same command, unless the file of --save has changed: then the pack is saved; with --log FILE the replies are kept for --redo"
     fi
-    say "signal $signal has ended the day before its end; $again" || true
+    say "signal $signal has ended the day before its end; $again; standard output may lack lines that level 2 has printed" || true
 }
 
 # Prints the file that --log names, or nothing.

@@ -3,6 +3,7 @@ ghost use Rattle.std.specs.Prelude.{◌≤◌, ◌≡◌};
 
 use crate::journaled_run::{has_journal, run_journaled};
 use crate::refusal::{fault_of, of_options, of_pack, reading, saving, session_refused};
+use crate::shown_words::{shown_error, shown_words};
 use crate::similar::explain_unknown;
 use crate::version::write_version;
 use crate::wrong_number::WrongNumber;
@@ -21,8 +22,9 @@ use s3_data_commands::sort::sort;
 use s3_data_commands::unload::unload;
 use s3_day_files::perform_journal;
 use s3_host_files::{
-    FileFault, Limit, LockedPack, StandardOutput, is_input_standard_error, is_standard_error,
-    keep_save_apart, read_pack, read_to_save, save_new_pack, save_pack,
+    FileFault, Limit, LockedPack, StandardInput, StandardOutput, is_input_standard_error,
+    is_pack_at, is_standard_error, keep_save_apart, read_pack, read_to_save, save_new_pack,
+    save_pack,
 };
 use s3_manual::{Manual, help_notes, is_manual, manual_of, manual_parser};
 use s3_operate::operate;
@@ -33,7 +35,9 @@ use s3_paper_commands::status::{DONE, FILE_FAILED, REFUSED, WRONG_WORDS};
 use s3_paper_commands::words::{CommandWords, value_of};
 use s3_paper_commands::{OutputReason, compile_files, list_entries, punch_files};
 use s3_refusals::{Reason, Refused, Shown};
+use std::alloc::{AllocError, Global};
 use std::io::{IsTerminal, Write};
+use std::path::Path;
 use std::{env, fs, io};
 
 /// Does what the command line asks, and gives the exit status: 0 if it is done; 4 or 5 if it is done and something waits for a person
@@ -61,14 +65,37 @@ pub fn execute(rt: &HostRuntime) -> u8
     if is_manual(&words) {
         return print_manual(rt, &words);
     }
-    let command = match command(alloc, first_of(&words)) {
-        Ok(command) => command,
+    let parser = match command(alloc, first_of(&words)) {
+        Ok(parser) => parser,
         Err(_) => return refuse(rt, &OUT_OF_MEMORY),
     };
-    match command.try_get_matches_from(words.as_slice()) {
+    match parser.try_get_matches_from(words.as_slice()) {
         Ok(matches) => perform(rt, &matches, &words),
-        Err(error) => explain(rt, &error, &words),
+        Err(error) => explain_shown(rt, error, &words),
     }
+}
+
+/// Prints what `explain` does, with the arguments as a terminal shows them.
+fn explain_shown(rt: &HostRuntime, error: Error, words: &[String]) -> u8
+    ensures { result ≤ 5 }
+{
+    match error_of_shown(rt.alloc(), error, words) {
+        Ok(error) => explain(rt, &error, words),
+        Err(_) => refuse(rt, &OUT_OF_MEMORY),
+    }
+}
+
+/// The error of a command line, with its arguments as a terminal shows them.
+fn error_of_shown(alloc: Global, error: Error, words: &[String]) -> Result<Error, AllocError> {
+    let Some(shown) = shown_words(alloc, words)? else {
+        return Ok(error);
+    };
+    let parser = if is_manual(words) {
+        manual_parser(alloc)?
+    } else {
+        command(alloc, first_of(&shown))?
+    };
+    Ok(shown_error(parser, &shown, error))
 }
 
 /// The first argument, if there is one: the name of a command, or an option of the program.
@@ -89,7 +116,7 @@ fn print_manual(rt: &HostRuntime, words: &[String]) -> u8
     };
     match parser.try_get_matches_from(words) {
         Ok(matches) => print_asked(rt, &matches),
-        Err(error) => explain(rt, &error, words),
+        Err(error) => explain_shown(rt, error, words),
     }
 }
 
@@ -375,11 +402,16 @@ fn session_over<'a>(
     matches: &ArgMatches<'a>,
     pack: Vec<u8>,
 ) -> Result<Vec<u8>, Refused<'a>> {
-    let mut input = Watched::new(rt.stdin());
+    let mut input = Watched::new(StandardInput::new(rt));
     let mut output = Watched::new(StandardOutput::new(rt));
     match session_on(rt.alloc(), pack, &mut input, &mut output) {
         Ok(saved) => Ok(saved),
-        Err(fault) => Err(session_refused(fault, input.has_failed, matches.get_str("pack"))),
+        Err(fault) => Err(session_refused(
+            fault,
+            input.channel.failure(),
+            output.channel.failure(),
+            matches.get_str("pack"),
+        )),
     }
 }
 
@@ -444,13 +476,19 @@ fn init(rt: &HostRuntime, matches: &ArgMatches<'_>) -> u8
     };
     let path = value_of(matches, "save");
     let read = [matches.get_str("from")];
+    let is_replaced = has_pack(rt, path);
     let done = if is_new {
         save_new_pack(rt, path, limit, &read, &pack)
     } else {
         save_pack(rt, path, locked, limit, &read, &pack)
     };
     match done {
-        Ok(()) => DONE,
+        Ok(()) => {
+            if is_replaced {
+                report_replaced(rt, path);
+            }
+            DONE
+        }
         Err(FileFault::Exists) => refuse_occupied(rt, matches),
         Err(fault) => tell_refused(rt, &saving(rt, path, &fault)),
     }
@@ -516,19 +554,27 @@ fn make_pack<'a>(rt: &HostRuntime, matches: &ArgMatches<'a>) -> Result<NewPack, 
 fn list_files<'a>(rt: &HostRuntime, matches: &ArgMatches<'a>) -> Result<(), Refused<'a>> {
     let path = value_of(matches, "pack");
     let pack = read(rt, path)?;
+    let mut output = StandardOutput::new(rt);
     let listed = if matches.get_flag("json") {
-        list_in_json(rt, &pack)
+        list_in_json(rt.alloc(), &pack, &mut output)
     } else if matches.get_flag("table") {
-        write_table(rt.alloc(), &pack, &mut StandardOutput::new(rt))
+        write_table(rt.alloc(), &pack, &mut output)
     } else {
-        list(rt.alloc(), &pack, &mut StandardOutput::new(rt))
+        list(rt.alloc(), &pack, &mut output)
     };
-    listed.map_err(|fault| session_refused(fault, false, Some(path)))
+    match listed {
+        Ok(()) => Ok(()),
+        Err(fault) => Err(session_refused(fault, None, output.failure(), Some(path))),
+    }
 }
 
 /// `bureau list --json`.
-fn list_in_json(rt: &HostRuntime, pack: &[u8]) -> Result<(), SessionFault> {
-    s3_pack_json::write_list(rt.alloc(), pack, &mut StandardOutput::new(rt))?;
+fn list_in_json(
+    alloc: Global,
+    pack: &[u8],
+    output: &mut StandardOutput<'_>,
+) -> Result<(), SessionFault> {
+    s3_pack_json::write_list(alloc, pack, output)?;
     Ok(())
 }
 
@@ -569,7 +615,8 @@ fn read_locked<'a>(
     read_to_save(rt, path, save).map_err(|fault| reading(rt, path, &fault))
 }
 
-pub fn save_to<'a>(
+/// Saves a pack, under the lock on its file if it was read from there. That another pack is replaced is reported at a terminal.
+fn save_to<'a>(
     rt: &HostRuntime,
     path: &'a str,
     locked: Option<LockedPack>,
@@ -577,5 +624,28 @@ pub fn save_to<'a>(
     read: Option<&str>,
     pack: &[u8],
 ) -> Result<(), Refused<'a>> {
-    save_pack(rt, path, locked, limit, &[read], pack).map_err(|fault| saving(rt, path, &fault))
+    let is_replaced = replaces_other(rt, path, &locked);
+    save_pack(rt, path, locked, limit, &[read], pack).map_err(|fault| saving(rt, path, &fault))?;
+    if is_replaced {
+        report_replaced(rt, path);
+    }
+    Ok(())
+}
+
+/// Whether a save replaces a pack that wasn't read.
+pub fn replaces_other(rt: &HostRuntime, path: &str, locked: &Option<LockedPack>) -> bool {
+    locked.is_none() && has_pack(rt, path)
+}
+
+/// Whether a file has a pack. If it can't be read, the save fails with the reason.
+fn has_pack(rt: &HostRuntime, path: &str) -> bool {
+    matches!(is_pack_at(rt, Path::new(path)), Ok(true))
+}
+
+/// Reports at a terminal that the pack that a file had is replaced.
+pub fn report_replaced(rt: &HostRuntime, path: &str) {
+    if rt.stderr().is_terminal() {
+        let path = Shown(path);
+        let _ = writeln!(rt.stderr(), "The pack that {path} had is replaced.");
+    }
 }

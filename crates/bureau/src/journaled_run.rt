@@ -1,13 +1,15 @@
 //! `bureau run` with a journal: the decks of standard input are posted once.
 ghost use Rattle.std.specs.Prelude.{◌≤◌};
 
-use crate::command::{limit_of, misuse, pack_to_run, report_typed, tell_refused};
+use crate::command::{
+    limit_of, misuse, pack_to_run, replaces_other, report_replaced, report_typed, tell_refused,
+};
 use crate::refusal::{saving, session_refused};
 use clap::ArgMatches;
 use s3_cli::{
     INPUT_LIMIT, ReadFault, RunFault, SessionFault, Watched, read_within, session_on, split_parts,
 };
-use s3_host_files::{StandardOutput, save_pack};
+use s3_host_files::{StandardInput, StandardOutput, save_pack};
 use s3_journal::{Posting, Ran, Work, checksum_of, checksum_of_deck};
 use s3_journal_files::{GivenPack, JournalFile, JournalRefusal, NewLine, keep_journal_apart};
 use s3_paper_commands::status::DONE;
@@ -84,12 +86,16 @@ fn run_once<'a>(
     let mut journal = JournalFile::open(rt, journal, limit)?;
     match run_noted(rt, matches, path, pack, &mut journal) {
         Ok(saved) => {
+            let is_replaced = replaces_other(rt, save, &locked);
             let done = save_pack(rt, save, locked, limit, &[path], &saved);
             journal.end_save(rt, &done);
-            match done {
-                Ok(()) => Ok(()),
-                Err(fault) => Err(RunRefusal::Run(saving(rt, save, &fault))),
+            if let Err(fault) = done {
+                return Err(RunRefusal::Run(saving(rt, save, &fault)));
             }
+            if is_replaced {
+                report_replaced(rt, save);
+            }
+            Ok(())
         }
         Err(refusal) => {
             journal.remove_if_unused(rt);
@@ -126,10 +132,15 @@ fn run_noted<'a>(
 
 /// All of standard input.
 fn input_of<'a>(rt: &HostRuntime, path: Option<&'a str>) -> Result<Vec<u8>, Refused<'a>> {
-    let mut input = Watched::new(rt.stdin());
+    let mut input = Watched::new(StandardInput::new(rt));
     match read_within(rt.alloc(), &mut input, INPUT_LIMIT) {
         Ok(bytes) => Ok(bytes),
-        Err(fault) => Err(session_refused(session_fault(fault), input.has_failed, path)),
+        Err(fault) => Err(session_refused(
+            session_fault(fault),
+            input.channel.failure(),
+            None,
+            path,
+        )),
     }
 }
 
@@ -150,7 +161,7 @@ fn ran_of<'a>(
 ) -> Result<Ran, RunRefusal<'a>> {
     let alloc = rt.alloc();
     let Some(parts) = split_parts(input) else {
-        return Err(RunRefusal::Run(session_refused(SessionFault::Input, false, path)));
+        return Err(RunRefusal::Run(session_refused(SessionFault::Input, None, None, path)));
     };
     Ok(Ran {
         deck1: checksum_of_deck(alloc, parts.deck1)?,
@@ -189,6 +200,6 @@ fn session_of<'a>(
     let mut output = Watched::new(StandardOutput::new(rt));
     match session_on(rt.alloc(), pack, &mut reader, &mut output) {
         Ok(saved) => Ok(saved),
-        Err(fault) => Err(session_refused(fault, false, path)),
+        Err(fault) => Err(session_refused(fault, None, output.channel.failure(), path)),
     }
 }

@@ -11,6 +11,7 @@ mod command;
 mod descriptors;
 mod journaled_run;
 mod refusal;
+mod shown_words;
 mod similar;
 mod version;
 mod wrong_number;

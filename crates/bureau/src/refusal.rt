@@ -34,16 +34,18 @@ pub fn of_pack<'a>(fault: CliFault, pack: Option<&'a str>) -> Refused<'a> {
     }
 }
 
-/// A session or a list that is refused, over the pack of a file or a new one.
+/// A session or a list that is refused, over the pack of a file or a new one, given why reads of standard input and writes of standard
+/// output failed, if they did.
 pub fn session_refused<'a>(
     fault: SessionFault,
-    has_input_failed: bool,
+    input: Option<io::Error>,
+    output: Option<io::Error>,
     pack: Option<&'a str>,
 ) -> Refused<'a> {
-    let work = match fault {
-        SessionFault::File if has_input_failed => Work::StandardInput,
-        SessionFault::File => Work::StandardOutput,
-        SessionFault::Input | SessionFault::Run(_) => {
+    let work = match (fault, input) {
+        (SessionFault::File, Some(error)) => Work::StandardInput(error),
+        (SessionFault::File, None) => Work::StandardOutput(output),
+        (SessionFault::Input | SessionFault::Run(_), _) => {
             return of_pack(CliFault::Session(fault), pack);
         }
     };

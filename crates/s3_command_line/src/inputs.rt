@@ -11,11 +11,18 @@ const INPUTS: [&str; 8] = [
     "pack", "into", "from", "layout", "deck1", "deck2", "redo", "replies",
 ];
 
-/// Why no pack is saved.
-const SAVED: &str =
-    "--save can't be -, for a pack is saved in a file; give its name, as ./- for a file called -";
+/// The options that name a file or a folder that is written.
+const OUTPUTS: [&str; 7] = [
+    "save",
+    "journal",
+    "script",
+    "log",
+    "paper",
+    "deck-out1",
+    "deck-out2",
+];
 
-/// Why a command isn't done, if two of its inputs are standard input, or its pack is to be saved there.
+/// Why a command isn't done, if two of its inputs are standard input, or one of its outputs is.
 pub fn input_conflict(
     alloc: Global,
     name: &str,
@@ -24,12 +31,12 @@ pub fn input_conflict(
     let Some(command) = command_of(name) else {
         return Ok(None);
     };
-    if matches.get_str("save") == Some(STANDARD_INPUT) {
-        return Ok(Some(String::from_str(alloc, SAVED)?));
-    }
     let mut found: Option<Word> = None;
     for word in command.words {
-        let count = inputs_of(name, *word, matches);
+        if is_output(*word) && matches.get_str(word.name) == Some(STANDARD_INPUT) {
+            return Ok(Some(output_sentence(alloc, *word)?));
+        }
+        let count = inputs_of(*word, matches);
         if count > 0 && (found.is_some() || count > 1) {
             return Ok(Some(twice_sentence(alloc, found.unwrap_or(*word), *word)?));
         }
@@ -38,6 +45,19 @@ pub fn input_conflict(
         }
     }
     own_conflict(alloc, name, found)
+}
+
+/// Whether an option names a file or a folder that is written.
+fn is_output(word: Word) -> bool {
+    OUTPUTS.contains(&word.name)
+}
+
+/// The refusal of an output that is standard input.
+fn output_sentence(alloc: Global, word: Word) -> Result<String, AllocError> {
+    let option = word.name;
+    format!(in alloc;
+        "--{option} can't be -, for that is standard input; give a name, as ./- for a file called -"
+    )
 }
 
 /// Why an option can't be standard input, if the command reads that for something else.
@@ -66,7 +86,7 @@ fn own_input(name: &str) -> Option<&'static str> {
 
 /// The refusal of two inputs, given their options.
 fn twice_sentence(alloc: Global, one: Word, other: Word) -> Result<String, AllocError> {
-    if let Takes::FollowingFiles = other.takes {
+    if has_no_option(one) || has_no_option(other) {
         return String::from_str(
             alloc,
             "standard input can be read once, and - is given twice; name a file in place of one",
@@ -83,14 +103,19 @@ fn twice_sentence(alloc: Global, one: Word, other: Word) -> Result<String, Alloc
     )
 }
 
-/// How often an option of a command means standard input. Replies from it are one list, however often they are asked for.
-fn inputs_of(command: &str, word: Word, matches: &ArgMatches<'_>) -> usize {
+/// Whether files are given without an option.
+fn has_no_option(word: Word) -> bool {
+    matches!(word.takes, Takes::FollowingFiles)
+}
+
+/// How often an option means standard input. Replies from it are one list, however often they are asked for.
+fn inputs_of(word: Word, matches: &ArgMatches<'_>) -> usize {
     let names = matches.get_strs(word.name).unwrap_or(&[]);
     match word.takes {
-        Takes::FollowingFiles if command != "journal" => count_of(names),
+        Takes::FollowingFiles => count_of(names),
         Takes::Values(_) if word.name == "layout" => decks_of(names),
         _ if word.name == "replies" => count_of(names).min(1),
-        _ if command != "journal" && INPUTS.contains(&word.name) => count_of(names),
+        _ if INPUTS.contains(&word.name) => count_of(names),
         _ => 0,
     }
 }

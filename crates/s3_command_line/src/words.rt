@@ -462,7 +462,7 @@ const JOURNAL: CommandWords = CommandWords {
         Word {
             name: "file",
             takes: Takes::FollowingFiles,
-            help: "Journals that --journal of `bureau operate` wrote",
+            help: "Journals that --journal of `bureau operate` wrote; - is standard input, as for --pack",
         },
         Word {
             name: "verify",

@@ -1,7 +1,7 @@
 //! The cycle of a job.
 
 use crate::request::{Answer, Request, Sought};
-use crate::stand::Stand;
+use crate::stand::{Stand, Totals};
 use crate::stepper::Stepper;
 use s3_cards::Name;
 use s3_lines::sheet::FileLine;
@@ -45,7 +45,7 @@ impl Cycle {
     ghost use Rattle.s3_cycle.specs.Inner.Requests.{FitsFile, IsLine, answer_of, sought_of};
     ghost use Rattle.s3_cycle.specs.Inner.Following.{StandsFor, asked, files, is_fit, put, waits};
     ghost use Rattle.s3_cycle.specs.Inner.Rest.{rest};
-    ghost use Rattle.s3_cycle.specs.Inner.Standing.{AsksAt, chain_of, file_of, record_at, sought_by, stand_of};
+    ghost use Rattle.s3_cycle.specs.Inner.Standing.{AsksAt, chain_of, file_of, record_at, record_behind, sought_by, stand_of, totals_of};
 
     /// A job at its first request, with its switches, U1 the highest bit, and its date, six EBCDIC digits. All memory of the
     /// run is taken here.
@@ -152,6 +152,20 @@ impl Cycle {
         ensures { result ≡ file_of self.now.program (stand_of self.now) }
     {
         self.stepper.file_there()
+    }
+
+    /// The totals that the run is at, if its calculations or total lines are carried out.
+    pub fn totals(&self) -> Totals
+        ensures { result ≡ totals_of self.now.progress self.now.progress.time }
+    {
+        self.stepper.totals()
+    }
+
+    /// The bytes of the record that is processed after the totals that the run is at; none at other times.
+    pub fn record_behind_totals(&self) -> &[u8]
+        ensures { result.now ≡ record_behind self.now.progress self.now.progress.time }
+    {
+        self.stepper.record_behind_totals()
     }
 
     /// Goes on with the answer, up to the next request. It takes no memory.

@@ -5,9 +5,9 @@ ghost use Rattle.s3_cycle.specs.Inner.Requests.{sought_of};
 ghost use Rattle.s3_cycle.specs.Inner.Going.{IsRunning};
 ghost use Rattle.s3_cycle.specs.Inner.Rest.{moved_bytes, starts_of};
 ghost use Rattle.s3_cycle.specs.declared.progress.Moves.TheVariants as moves;
-ghost use Rattle.s3_cycle.specs.Inner.Standing.{FindsChain, chain_at, chained_in, chain_of, field_at, file_of, head_at, output_before, record_at, sought_by, stand_before, stand_of};
+ghost use Rattle.s3_cycle.specs.Inner.Standing.{FindsChain, chain_at, chained_in, chain_of, field_at, file_of, head_at, output_before, record_at, record_behind, sought_by, stand_before, stand_of, totals_before, totals_of};
 
-use crate::progress::{Continuation, Moves, Point, Time};
+use crate::progress::{Continuation, Moves, Point, Selection, Time};
 use crate::request::Sought;
 use crate::stepper::Stepper;
 use s3_instructions::calculation::{Asked, Chained};
@@ -52,6 +52,22 @@ pub enum Stand {
         /// The place of its first card on the O sheet.
         place: usize,
     },
+}
+
+/// The totals to which the calculations and total lines belong that a run is at.
+#[derive(Clone, Copy)]
+pub enum Totals {
+    /// They belong to no totals.
+    Elsewhere,
+    /// To the totals before a record, which it has brought on unless totals are due at each record.
+    Before {
+        /// The slot of its file.
+        file: usize,
+        /// Its number among the records of that file that were read, from 1.
+        number: u32,
+    },
+    /// To the totals of the last record, which LR has brought on. So it is before the first record, too.
+    Last,
 }
 
 /// The CHAIN that is asked for, if one is.
@@ -163,6 +179,43 @@ impl Stepper {
             Stand::ChainedField { .. } => self.progress.record.as_record().as_slice(),
             Stand::Output { .. } => self.composition.codes(),
             Stand::Nowhere | Stand::Head { .. } | Stand::Calculation { .. } => &[],
+        }
+    }
+
+    /// The totals before a record that is selected.
+    fn totals_before(&self, selection: Selection) -> Totals
+        ensures { result ≡ totals_before self.now.progress selection }
+    {
+        match self.progress.reading.files.get(selection.place) {
+            Some(input) => Totals::Before {
+                file: input.file,
+                number: selection.number,
+            },
+            None => Totals::Elsewhere,
+        }
+    }
+
+    /// The totals that a run is at, if its calculations or total lines are carried out.
+    pub fn totals(&self) -> Totals
+        ensures { result ≡ totals_of self.now.progress self.now.progress.time }
+    {
+        match self.progress.time {
+            Time::Details(_) => Totals::Elsewhere,
+            Time::Totals(selection) => self.totals_before(selection),
+            Time::Last => Totals::Last,
+        }
+    }
+
+    /// The bytes of the record before whose processing the totals come that a run is at; none at other times.
+    pub fn record_behind_totals(&self) -> &[u8]
+        ensures { result.now ≡ record_behind self.now.progress self.now.progress.time }
+    {
+        let Time::Totals(selection) = self.progress.time else {
+            return &[];
+        };
+        match self.progress.reading.files.get(selection.place) {
+            Some(input) => input.bytes.as_slice(),
+            None => &[],
         }
     }
 

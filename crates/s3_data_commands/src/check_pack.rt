@@ -81,7 +81,7 @@ fn write_wrongs(rt: &HostRuntime, wrongs: &[Wrong]) -> Result<(), Fault> {
     let text = text_of(rt.alloc(), wrongs)?;
     match StandardOutput::new(rt).write_all(text.as_str().as_bytes()) {
         Ok(()) => Ok(()),
-        Err(_) => Err(Fault::File(output_sentence(rt.alloc())?)),
+        Err(error) => Err(Fault::File(output_sentence(rt.alloc(), Some(error))?)),
     }
 }
 

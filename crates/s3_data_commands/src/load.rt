@@ -18,6 +18,7 @@ use crate::pack_words::{
     Save, keep_input, label_of, level_of, no_room_sentence, number_of, pack_to_change, refused,
     room_in, saved, tell_done, wrong_words,
 };
+use crate::sentences::unread_sentence;
 use crate::standard_input::{InputFault, read_input};
 use crate::words::{
     AGAIN, DATE_FIELDS, DECIMAL, DELIMITER, JOURNAL, LABEL, LAYOUT, LAYOUT_FILE, LAYOUT_TYPE,
@@ -330,7 +331,9 @@ fn table_of(rt: &HostRuntime, words: &LoadWords<'_>) -> Result<Vec<u8>, Fault> {
             Some(sentence) => Err(Fault::Refused(sentence)),
         },
         Err(InputFault::TooLong) => Err(refused(String::from_str(rt.alloc(), TOO_LONG))),
-        Err(InputFault::Failed) => Err(fault_of(rt, words, &LoadFault::File)),
+        Err(InputFault::Failed(error)) => {
+            Err(Fault::File(unread_sentence(rt.alloc(), error, awaited(words))?))
+        }
         Err(InputFault::NoMemory) => Err(Fault::NoMemory),
     }
 }
@@ -402,14 +405,19 @@ fn load_by(
     }
 }
 
+/// What standard input has, for messages.
+fn awaited(words: &LoadWords<'_>) -> &'static str {
+    if words.form.is_some() {
+        "records"
+    } else {
+        "table in CSV"
+    }
+}
+
 /// Tells what is waited for, where standard input is a terminal.
 fn tell_waiting(rt: &HostRuntime, words: &LoadWords<'_>) {
     if rt.stdin().is_terminal() {
-        let awaited = if words.form.is_some() {
-            "records"
-        } else {
-            "table in CSV"
-        };
+        let awaited = awaited(words);
         let _ = writeln!(
             rt.stderr(),
             "load waits for the {awaited} on standard input: type it, and Control-D at its end"

@@ -7,8 +7,8 @@ use crate::journaling::OpenJournal;
 use clap::ArgMatches;
 use s3_cards::{LevelId, Name, is_name, to_ebcdic};
 use s3_host_files::{
-    FileFault, Limit, LockedPack, Target, is_empty_at, is_input, is_pack_at, keep_save_apart,
-    read_pack, read_to_save, save_new_pack, save_pack, shown_name,
+    FileFault, Limit, LockedPack, StandardOutput, Target, is_empty_at, is_input, is_pack_at,
+    keep_save_apart, read_pack, read_to_save, save_new_pack, save_pack, shown_name,
 };
 use s3_journal::Work;
 use s3_labels::{LabelFault, MountFault};
@@ -16,9 +16,9 @@ use s3_listing::{FreeRoom, file_size, free_room};
 use s3_pack_care::CareFault;
 use s3_refusals::{Shown, beginning_words, is_closed};
 use std::alloc::{AllocError, Global};
-use std::fs;
 use std::io::Write;
 use std::path::Path;
+use std::{fs, io};
 
 /// Why a text is no label.
 pub const NO_LABEL: &str =
@@ -114,6 +114,19 @@ pub fn pack_of(rt: &HostRuntime, path: &str) -> Result<Vec<u8>, Fault> {
     }
 }
 
+/// Standard output, before what a pack has is written to it. If it is a regular file, the file gets at most the access that the pack
+/// gives, as far as the user may change that.
+pub fn output_beside<'r>(rt: &'r HostRuntime, pack: &str) -> Result<StandardOutput<'r>, Fault> {
+    match Limit::of(rt, pack) {
+        Ok(Some(limit)) => {
+            let _ = limit.restrict_output(rt);
+        }
+        Ok(None) => {}
+        Err(error) => return Err(of_call(rt, Use::Reads, &error, pack)),
+    }
+    Ok(StandardOutput::new(rt))
+}
+
 /// Refuses a file that doesn't begin as a pack, as a text or a table that was named in a pack's place.
 pub fn test_begin(alloc: Global, path: &str, pack: &[u8]) -> Result<(), Fault> {
     let words = beginning_words(pack);
@@ -161,24 +174,28 @@ pub fn pack_to_change(
 pub fn refuse_file_there(rt: &HostRuntime, save: &str) -> Result<(), Fault> {
     match fs::exists(rt, save) {
         Ok(false) => Ok(()),
-        Ok(true) => Err(refused(Words::of_path(save).fill(rt.alloc(), there_words(rt, save)))),
+        Ok(true) => match there_words(rt, save) {
+            Ok(words) => Err(refused(Words::of_path(save).fill(rt.alloc(), words))),
+            Err(error) => Err(of_call(rt, Use::Reads, &error, save)),
+        },
         Err(error) => Err(of_call(rt, Use::Saves, &error, save)),
     }
 }
 
-/// Why a pack isn't saved over an existing file, and the cure: `--overwrite` writes only over packs and empty files.
-fn there_words(rt: &HostRuntime, save: &str) -> &'static str {
-    if is_folder(rt, save) {
+/// Why a pack isn't saved over an existing file, and the cure: `--overwrite` writes only over packs and empty files. It fails if the file
+/// can't be read for another reason than its mode.
+fn there_words(rt: &HostRuntime, save: &str) -> io::Result<&'static str> {
+    Ok(if is_folder(rt, save) {
         "{path} is a folder; give the name of a file"
     } else if is_closed(rt, save) {
         "{path} is there already, and permission to read it is denied, so it may be a pack; give another name"
-    } else if is_pack_at(rt, Path::new(save)) {
+    } else if is_pack_at(rt, Path::new(save))? {
         "{path} is there already; give another name, or --overwrite to write over it"
-    } else if is_empty_at(rt, Path::new(save)) {
+    } else if is_empty_at(rt, Path::new(save))? {
         "{path} is there already, and is empty; give another name, or --overwrite to write over it"
     } else {
         "{path} is there already and is no pack; give another name, or remove that file"
-    }
+    })
 }
 
 /// Whether a folder is at a path.
@@ -329,9 +346,11 @@ pub fn saved<'a>(
     if let Some(journal) = &mut journal {
         journal.append(rt, pack, work)?;
     }
+    // a pack that can't be read isn't replaced: the save fails with the reason
+    let is_pack = matches!(is_pack_at(rt, Path::new(path)), Ok(true));
     let saved = SavedPack {
         path,
-        is_other_replaced: locked.is_none() && is_pack_at(rt, Path::new(path)),
+        is_other_replaced: locked.is_none() && is_pack,
     };
     let done = save_at(rt, matches, path, limit, locked, pack);
     if let Some(journal) = &journal {

@@ -1,12 +1,15 @@
-//! Sentences of refusals of a layout, of `unload` and of standard output: what is wrong, where, and what mends it.
+//! Sentences of refusals of a layout, of `unload`, of standard input and of standard output: what is wrong, where, and what mends it.
 
 use crate::filled::{Words, push_name};
 use crate::pack_words::{label_words, mount_words};
 use s3_cells::{Field, ShowFault};
 use s3_labels::LabelFault;
 use s3_layout::LayoutFault;
+use s3_paper_commands::OutputReason;
+use s3_refusals::{Reason, call_words};
 use s3_unload::{HiddenValue, UnloadFault};
 use std::alloc::{AllocError, Global};
+use std::io;
 
 /// Why the source of a deck is no layout.
 pub fn layout_sentence(
@@ -78,7 +81,7 @@ pub fn unload_sentence<'a>(
                 "record {record} of {label} has a byte that is no character at position {position}; the lines before it are written, and --as hex shows its bytes"
             )
         }
-        UnloadFault::File => output_sentence(alloc),
+        UnloadFault::File => output_sentence(alloc, None),
         UnloadFault::NoMemory => Err(AllocError),
     }
 }
@@ -119,12 +122,28 @@ pub fn other_records_sentence<'a>(
         .fill(alloc, sentence)
 }
 
-/// Why standard output took nothing, or not all.
-pub fn output_sentence(alloc: Global) -> Result<String, AllocError> {
-    String::from_str(
-        alloc,
-        "standard output can't be written; see whether what takes it has ended or its disk is full",
-    )
+/// That standard output took nothing, or not all, and why the write failed, if that is known.
+pub fn output_sentence(alloc: Global, failure: Option<io::Error>) -> Result<String, AllocError> {
+    match failure {
+        Some(error) => {
+            let reason = OutputReason(error);
+            format!(in alloc; "standard output can't be written: {reason}")
+        }
+        None => String::from_str(
+            alloc,
+            "standard output can't be written; see whether what takes it has ended or its disk is full",
+        ),
+    }
+}
+
+/// That standard input can't be read, and why; what a command takes from it is named for the cure.
+pub fn unread_sentence(alloc: Global, error: io::Error, taken: &str) -> Result<String, AllocError> {
+    let reason = Reason(error);
+    let mut text = format!(in alloc; "standard input can't be read: {reason}")?;
+    if call_words(error.kind()).is_empty() {
+        write!(text, "; give it the {taken} by < FILE or by a pipe")?;
+    }
+    Ok(text)
 }
 
 /// Why the value of a field in a record can't be shown.

@@ -3,6 +3,7 @@ ghost use Rattle.std.specs.Prelude.{◌≡◌, ◌<◌, ◌≤◌, ℕ, List, So
 ghost use Rattle.s3_data_commands.specs.declared.standard_input.InputFault.TheVariants.{TooLong};
 
 use std::alloc::Global;
+use std::io;
 use std::io::{ErrorKind, Read};
 
 /// The most bytes of a table or a dump, 16 for each byte of the largest pack. `dump` writes at most 6 bytes for each byte of its pack, and
@@ -15,8 +16,8 @@ const INPUT_LIMIT: usize = 268_435_456;
 pub enum InputFault {
     /// It has more bytes than the limit.
     TooLong,
-    /// A read failed.
-    Failed,
+    /// A read failed, for this reason.
+    Failed(io::Error),
     /// Memory ran out.
     NoMemory,
 }
@@ -33,6 +34,6 @@ pub fn read_input<R: Read + Drop>(alloc: Global, reader: R) -> Result<Vec<u8>, I
         Ok(_) if bytes.len() > INPUT_LIMIT => Err(InputFault::TooLong),
         Ok(_) => Ok(bytes),
         Err(error) if error.kind() == ErrorKind::OutOfMemory => Err(InputFault::NoMemory),
-        Err(_) => Err(InputFault::Failed),
+        Err(error) => Err(InputFault::Failed(error)),
     }
 }

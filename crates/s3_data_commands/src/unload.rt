@@ -8,10 +8,10 @@ use crate::fixed::{
 };
 use crate::inputs::{delimiter_of, layout_of, whole_records_of};
 use crate::load::{MOST_TOLD, tell_others};
-use crate::pack_words::{area_number, label_of, pack_of, tell, wrong_words};
+use crate::pack_words::{area_number, label_of, output_beside, pack_of, tell, wrong_words};
 use crate::sentences::{
-    hidden_values_sentence, other_records_sentence, others_sentence, unload_sentence,
-    value_sentence,
+    hidden_values_sentence, other_records_sentence, others_sentence, output_sentence,
+    unload_sentence, value_sentence,
 };
 use crate::words::{
     AREA, DATE_FIELDS, DECIMAL, DELIMITER, LABEL, LAYOUT, LAYOUT_FILE, LAYOUT_TYPE, PACK,
@@ -184,12 +184,14 @@ fn unload_fixed(
     } = file;
     let layout = chosen_layout(rt, matches)?;
     let pack = pack_of(rt, path)?;
-    match unload_chosen(rt, &pack, file, form, &layout) {
+    let mut output = output_beside(rt, path)?;
+    match unload_chosen(rt.alloc(), &pack, file, form, &layout, &mut output) {
         Ok(0) => Ok(()),
         Ok(others) => tell(
             rt,
             other_records_sentence(rt.alloc(), path, area, label, others),
         ),
+        Err(UnloadFault::File) => Err(unwritten(rt.alloc(), &output)),
         Err(fault) => Err(fixed_fault(rt.alloc(), path, area, label, &fault)),
     }
 }
@@ -207,28 +209,29 @@ fn chosen_layout(
 
 /// Writes the records of a file of a pack that a layout chooses, all if there is none. Returns how many it leaves out.
 fn unload_chosen(
-    rt: &HostRuntime,
+    alloc: Global,
     pack: &[u8],
     file: PackFile<'_>,
     form: FixedForm,
     layout: &Option<SourceLayout>,
+    output: &mut StandardOutput<'_>,
 ) -> Result<u32, UnloadFault> {
     let all = ChosenRecords::All;
     let chosen = match layout {
         Some(layout) => {
-            test_length(rt.alloc(), pack, file, layout.layout.record_length)?;
+            test_length(alloc, pack, file, layout.layout.record_length)?;
             &layout.records
         }
         None => &all,
     };
     s3_unload::unload_fixed(
-        rt.alloc(),
+        alloc,
         pack,
         area_of(file.area),
         file.name,
         form,
         chosen,
-        &mut StandardOutput::new(rt),
+        output,
     )
 }
 
@@ -267,15 +270,10 @@ fn unload_lines(
     form: LineForm,
 ) -> Result<Result<u32, UnloadFault>, Fault> {
     let pack = pack_of(rt, path)?;
-    match s3_unload::unload_lines(
-        rt.alloc(),
-        &pack,
-        area,
-        name,
-        form,
-        &mut StandardOutput::new(rt),
-    ) {
+    let mut output = output_beside(rt, path)?;
+    match s3_unload::unload_lines(rt.alloc(), &pack, area, name, form, &mut output) {
         Ok(()) => Ok(Ok(0)),
+        Err(UnloadFault::File) => Err(unwritten(rt.alloc(), &output)),
         Err(fault) => Ok(Err(fault)),
     }
 }
@@ -300,6 +298,7 @@ fn unload_table(
         reading,
     )?;
     let pack = pack_of(rt, file.path)?;
+    let mut output = output_beside(rt, file.path)?;
     let done = s3_unload::unload(
         rt.alloc(),
         &pack,
@@ -308,12 +307,22 @@ fn unload_table(
         &layout.layout,
         &layout.records,
         delimiter,
-        &mut StandardOutput::new(rt),
+        &mut output,
     );
-    if let Err(UnloadFault::Hidden(first, ..)) = done {
-        tell_hidden(rt, &pack, file, &layout, first)?;
+    match done {
+        Err(UnloadFault::File) => return Err(unwritten(rt.alloc(), &output)),
+        Err(UnloadFault::Hidden(first, ..)) => tell_hidden(rt, &pack, file, &layout, first)?,
+        _ => {}
     }
     Ok(done)
+}
+
+/// What a failed write of standard output is to the command.
+fn unwritten(alloc: Global, output: &StandardOutput<'_>) -> Fault {
+    match output_sentence(alloc, output.failure()) {
+        Ok(sentence) => Fault::File(sentence),
+        Err(_) => Fault::NoMemory,
+    }
 }
 
 /// Reports all values of a table that can't be shown, a line each, and refuses them, given the number of the first record that has one.

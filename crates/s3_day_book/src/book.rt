@@ -9,6 +9,7 @@ use s3_labels::{AreaSlots, Header, Slot};
 use s3_listing::{ListFault, free_room, mount_slots};
 use s3_store::Stretch;
 use std::alloc::{AllocError, Global};
+use std::io::Write;
 
 /// The names of the regions.
 const MASTERS: &str = "Masters";
@@ -17,15 +18,17 @@ const LEVEL_ONE: &str = "Level 1";
 
 const LEVEL_TWO: &str = "Level 2";
 
-/// The page of a day, given its pack before and after. Refused where a pack can't be mounted, or memory runs out.
+/// The page of a day, given its pack before and after. What the book says first also names the damaged labels of the pack after the
+/// day. Refused if a pack can't be mounted, or memory runs out.
 pub fn page_of_day(
     alloc: Global,
-    book: &DayBook,
+    book: &mut DayBook,
     before: &[u8],
     after: &[u8],
 ) -> Result<Vec<u8>, ListFault> {
     let old = mount_slots(alloc, before)?;
     let new = mount_slots(alloc, after)?;
+    push_damaged(&mut book.given, &new)?;
     let changes = changes_of(alloc, before, &old, after, &new)?;
     let free = [
         u64::from(free_room(alloc, after, 0)?.tracks),
@@ -34,6 +37,26 @@ pub fn page_of_day(
     ];
     let page = page_with(alloc, book, &changes, &new, free)?;
     Ok(page)
+}
+
+/// Appends a line for each damaged label of a pack.
+fn push_damaged(text: &mut String, slots: &AreaSlots) -> Result<(), AllocError> {
+    push_damaged_of(text, MASTERS, slots.masters())?;
+    push_damaged_of(text, LEVEL_ONE, slots.slots(LevelId::One))?;
+    push_damaged_of(text, LEVEL_TWO, slots.slots(LevelId::Two))
+}
+
+/// Appends a line for each damaged label of a region.
+fn push_damaged_of(text: &mut String, region: &str, slots: &[Slot]) -> Result<(), AllocError> {
+    for (place, slot) in slots.iter().enumerate() {
+        if let Slot::Damaged(_) = slot {
+            write!(
+                text,
+                "{region}: the label in slot {place} is damaged, so the map doesn't show its file\n"
+            )?;
+        }
+    }
+    Ok(())
 }
 
 /// The files of all regions that the day changed.

@@ -331,7 +331,7 @@ pub fn unwritten<'a>(rt: &HostRuntime, name: &'a str, error: &io::Error) -> DayF
 /// Reports a file that appeared during the day in the place of an output.
 fn tell_appeared(rt: &HostRuntime, name: &str) {
     let shown = Shown(name);
-    let _ = if is_pack_at(rt, Path::new(name)) {
+    let _ = if matches!(is_pack_at(rt, Path::new(name)), Ok(true)) {
         writeln!(
             rt.stderr(),
             "{shown} can't be written: it is a pack by now; name another file"

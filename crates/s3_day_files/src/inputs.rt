@@ -2,7 +2,7 @@
 
 use crate::begun::{named_file, words_kept};
 use crate::fault::DayFault;
-use crate::level_deck::LevelDeck;
+use crate::level_deck::{HowRead, LevelDeck};
 use crate::log_line::{first_sentence, line_sentence};
 use crate::order::Order;
 use crate::strays::{ListedDecks, look_for_strays};
@@ -113,8 +113,12 @@ impl<'a> Decks<'a> {
         words: &[String],
         is_logged: bool,
     ) -> Result<Decks<'a>, DayFault<'a>> {
-        let one = LevelDeck::read(rt, LevelId::One, &order.deck1, is_logged)?;
-        let two = LevelDeck::read(rt, LevelId::Two, &order.deck2, is_logged)?;
+        let how = HowRead {
+            is_logged,
+            is_quiet: order.is_quiet,
+        };
+        let one = LevelDeck::read(rt, LevelId::One, &order.deck1, how)?;
+        let two = LevelDeck::read(rt, LevelId::Two, &order.deck2, how)?;
         let words = words_kept(rt.alloc(), words)?;
         Ok(Decks::of(words, one, two))
     }

@@ -1,5 +1,6 @@
 //! The journal of a pack: it is read and locked before the first turn, and gets its line before the pack is saved.
 
+use crate::exchanged::report_exchanged;
 use crate::fault::DayFault;
 use crate::inputs::Decks;
 use crate::order::Order;
@@ -95,7 +96,10 @@ pub fn begin_day<'a>(
         return Ok(Begin::Day(Some(journal)));
     }
     match journal.test_start(rt, order) {
-        Ok(()) => Ok(Begin::Day(Some(journal))),
+        Ok(()) => {
+            report_exchanged(rt, journal.file.days(), journal.given.posting())?;
+            Ok(Begin::Day(Some(journal)))
+        }
         Err(JournalRefusal::Posted) if order.is_once => Ok(Begin::IsPosted),
         Err(refusal) => Err(DayFault::from(refusal)),
     }

@@ -8,7 +8,7 @@ use crate::kept_packs::{KeptPack, kept_packs, kept_with, pack_itself};
 use crate::restoring::{Restoring, restore};
 use clap::ArgMatches;
 use s3_cards::LevelId;
-use s3_host_files::{StandardOutput, WRITTEN, stream_at};
+use s3_host_files::{StandardOutput, WRITTEN, is_input, path_of, shown_name, stream_at};
 use s3_journal::{LevelCount, PostedDay, Saved, Work, saved_of};
 use s3_journal_files::read_journal;
 use s3_paper_commands::status::DONE;
@@ -42,10 +42,15 @@ pub fn perform_journal<'a>(rt: &HostRuntime, matches: &ArgMatches<'a>) -> u8
     }
 }
 
+/// Why no pack is put back by a journal that is standard input.
+const NO_FILE: &str =
+    "--restore can't take the journal from standard input, for it writes a line to it; give the file of the journal in place of -";
+
 /// What the options say is put back, if they say it, or why they can't be followed.
 fn restoring_of<'a>(matches: &ArgMatches<'a>) -> Result<Option<Restoring<'a>>, &'static str> {
     match (matches.get_one::<u32>("restore"), matches.get_str("save")) {
         (Some(day), Some(save)) => match matches.get_strs("file").unwrap_or(&[]) {
+            [journal] if is_input(*journal) => Err(NO_FILE),
             [journal] if !is_listed(matches) => Ok(Some(Restoring {
                 journal: *journal,
                 day,
@@ -80,14 +85,18 @@ fn list_journals<'a>(rt: &HostRuntime, matches: &ArgMatches<'a>) -> Result<(), D
     Ok(())
 }
 
-/// A pack and its kept packs; none if no pack is named.
+/// A pack and its kept packs, of which standard input has none. Nothing if no pack is named.
 fn kept_beside<'a>(rt: &HostRuntime, pack: Option<&'a str>) -> Result<Vec<KeptPack>, DayFault<'a>> {
     let Some(name) = pack else {
         return Ok(Vec::new(rt.alloc()));
     };
     let itself = pack_itself(rt, name)?;
-    let place = place_of(rt, name)?;
-    let mut kept = kept_packs(rt, name, place.as_path())?;
+    let mut kept = if is_input(name) {
+        Vec::new(rt.alloc())
+    } else {
+        let place = place_of(rt, name)?;
+        kept_packs(rt, name, place.as_path())?
+    };
     kept.insert(0, itself)?;
     Ok(kept)
 }
@@ -99,8 +108,8 @@ fn list_journal<'a>(
     form: Form,
     kept: &[KeptPack],
 ) -> Result<(), DayFault<'a>> {
-    if let Some(stream) = stream_at(rt, name, &WRITTEN) {
-        return Err(DayFault::Stream(name, stream));
+    if let Some(stream) = stream_at(rt, path_of(name), &WRITTEN) {
+        return Err(DayFault::Stream(shown_name(name), stream));
     }
     let text = journal_text(rt, name, form, kept)?;
     match StandardOutput::new(rt).write_all(text.as_bytes()) {
@@ -111,7 +120,7 @@ fn list_journal<'a>(
 
 /// Reports that the last line of a journal isn't complete.
 fn report_cut(rt: &HostRuntime, name: &str) {
-    let name = Shown(name);
+    let name = Shown(shown_name(name));
     let _ = writeln!(
         rt.stderr(),
         "{name}: its last line isn't complete, as after a kill or on a full disk; the next command with this journal removes it"
@@ -140,7 +149,7 @@ fn journal_text<'a>(
 
 /// Appends how many lines a journal has.
 fn push_count(text: &mut String, name: &str, lines: usize) -> Result<(), AllocError> {
-    let name = Shown(name);
+    let name = Shown(shown_name(name));
     if lines == 1 {
         writeln!(text, "{name} has 1 line")
     } else {
@@ -221,7 +230,7 @@ fn last_words(saved: Saved, is_named: bool) -> &'static str {
 /// Appends in which file the pack is kept that a day left, if one is known.
 fn push_kept(text: &mut String, day: &PostedDay, kept: &[KeptPack]) -> Result<(), AllocError> {
     if let Some(pack) = kept_with(kept, day.after.as_str()) {
-        let path = Shown(pack.path.as_str());
+        let path = Shown(shown_name(pack.path.as_str()));
         write!(text, "; in {path}")?;
     }
     Ok(())

@@ -313,8 +313,11 @@ pub fn place_of(rt: &HostRuntime, name: &str) -> Result<PathBuf, AllocError> {
 /// What has a name. A link is something else than a pack.
 fn at_name(rt: &HostRuntime, name: &str) -> io::Result<AtName> {
     match fs::symlink_metadata(rt, name) {
-        Ok(found) if found.is_file() && is_pack_at(rt, Path::new(name)) => Ok(AtName::Pack),
-        Ok(_) => Ok(AtName::Other),
+        Ok(found) => Ok(if found.is_file() && is_pack_at(rt, Path::new(name))? {
+            AtName::Pack
+        } else {
+            AtName::Other
+        }),
         Err(error) if error.kind() == ErrorKind::NotFound => Ok(AtName::Nothing),
         Err(error) => Err(error),
     }
@@ -343,7 +346,7 @@ fn folder_of<'n>(place: Path<'n>) -> Path<'n> {
     }
 }
 
-/// Whether a name is the name of a pack.
-pub fn is_pack_of(rt: &HostRuntime, name: &str) -> bool {
-    matches!(at_name(rt, name), Ok(AtName::Pack))
+/// Whether a name is the name of a pack. It fails if the file can't be read.
+pub fn is_pack_of(rt: &HostRuntime, name: &str) -> io::Result<bool> {
+    Ok(at_name(rt, name)? == AtName::Pack)
 }

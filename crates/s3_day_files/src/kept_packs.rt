@@ -3,7 +3,11 @@
 use crate::fault::DayFault;
 use crate::keeping::{MOST_KEPT, is_pack_of, kept_name};
 use s3_day_log::checksum;
-use s3_host_files::read_pack;
+use s3_host_files::{read_pack, shown_name};
+use s3_refusals::{Reason, Shown};
+use std::alloc::AllocError;
+use std::io;
+use std::io::Write;
 use std::path::Path;
 
 /// A pack that is kept.
@@ -24,11 +28,23 @@ pub fn kept_packs<'a>(
     let mut packs = Vec::new(rt.alloc());
     for number in 0..MOST_KEPT.saturating_add(1) {
         let path = kept_name(rt.alloc(), place, number)?;
-        if is_pack_of(rt, path.as_str()) {
-            packs.push(kept_pack(rt, name, path)?)?;
+        match is_pack_of(rt, path.as_str()) {
+            Ok(true) => packs.push(kept_pack(rt, name, path)?)?,
+            Ok(false) => {}
+            Err(error) => return Err(unread(rt, name, path.as_str(), &error)),
         }
     }
     Ok(packs)
+}
+
+/// Reports why a pack that is kept can't be read, and gives the fault.
+fn unread<'a>(rt: &HostRuntime, name: &'a str, path: &str, error: &io::Error) -> DayFault<'a> {
+    if error.kind() == io::ErrorKind::OutOfMemory {
+        return DayFault::from(AllocError);
+    }
+    let (path, reason) = (Shown(path), Reason(*error));
+    let _ = writeln!(rt.stderr(), "{path} can't be read: {reason}");
+    DayFault::Keep(name)
 }
 
 /// A pack that is kept, with its checksum.
@@ -42,10 +58,10 @@ fn kept_pack<'a>(rt: &HostRuntime, name: &'a str, path: String) -> Result<KeptPa
     }
 }
 
-/// A pack, with its checksum.
+/// A pack, which may be standard input, with its checksum.
 pub fn pack_itself<'a>(rt: &HostRuntime, name: &'a str) -> Result<KeptPack, DayFault<'a>> {
     let path = String::from_str(rt.alloc(), name)?;
-    kept_pack(rt, name, path)
+    kept_pack(rt, shown_name(name), path)
 }
 
 /// The first of these packs with a checksum.

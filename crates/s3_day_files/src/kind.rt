@@ -4,6 +4,7 @@ ghost use Rattle.s3_day_files.specs.Inner.Kinds.{is_begun_as as is_begun_as_spec
 ghost use Rattle.s3_day_files.specs.declared.kind.Kind.TheVariants.{Script};
 
 use s3_host_files::beginning_of;
+use std::io::ErrorKind;
 use std::{fs, io};
 
 /// What an output is.
@@ -21,21 +22,21 @@ pub enum Kind {
 const SHOWN: usize = 6;
 
 impl Kind {
-    /// Whether such an output may replace the file at a path: the file is empty, or begins as such an output does, or it isn't a regular
-    /// file. A file that can't be read is not replaced.
-    pub fn may_replace(self, rt: &HostRuntime, path: &str) -> bool {
+    /// Whether such an output may replace the file at a path: nothing is there, the file is empty, or begins as such an output does, or it
+    /// isn't a regular file. It fails if the file can't be read.
+    pub fn may_replace(self, rt: &HostRuntime, path: &str) -> io::Result<bool> {
         match fs::metadata(rt, path) {
             Ok(found) if found.is_file() => self.is_begun_at(rt, path),
-            _ => true,
+            Ok(_) => Ok(true),
+            Err(error) if error.kind() == ErrorKind::NotFound => Ok(true),
+            Err(error) => Err(error),
         }
     }
 
     /// Whether a file is empty, or begins as such an output does.
-    fn is_begun_at(self, rt: &HostRuntime, path: &str) -> bool {
-        match beginning_of(rt, path, SHOWN) {
-            Ok(bytes) => bytes.is_empty() || self.is_begun_as(&bytes),
-            Err(_) => false,
-        }
+    fn is_begun_at(self, rt: &HostRuntime, path: &str) -> io::Result<bool> {
+        let bytes = beginning_of(rt, path, SHOWN)?;
+        Ok(bytes.is_empty() || self.is_begun_as(&bytes))
     }
 
     /// Whether bytes begin as such an output does.
@@ -81,11 +82,14 @@ const REFUSED_AT: usize = 26;
 /// How many bytes of a log show it.
 const REFUSED_TO: usize = 64;
 
-/// Whether a file is the log of a day that was refused before its first turn.
+/// Whether a file is the log of a day that was refused before its first turn, as far as it can be read.
 pub fn is_refused_log(rt: &HostRuntime, path: &str) -> bool {
-    match begins_with_refusal(rt, path) {
-        Ok(is_refused) => is_refused && Kind::Log.may_replace(rt, path),
-        Err(_) => false,
+    match (
+        begins_with_refusal(rt, path),
+        Kind::Log.may_replace(rt, path),
+    ) {
+        (Ok(is_refused), Ok(may_replace)) => is_refused && may_replace,
+        _ => false,
     }
 }
 

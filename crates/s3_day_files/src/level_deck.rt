@@ -9,14 +9,16 @@ use s3_day_log::NamedFile;
 use s3_decks::cards_len;
 use s3_host_files::{is_input, shown_name};
 use s3_operating::JoinedFiles;
-use s3_paper_commands::{deck_encoding_words, is_plain_text, tell_punched, tell_waiting};
+use s3_paper_commands::{
+    deck_encoding_words, is_plain_text, tell_errors, tell_punched, tell_waiting,
+};
 use s3_punch::{Begun, Punched, punch};
 use s3_refusals::{Shown, begins_as_pack};
 use std::alloc::{AllocError, Global};
 use std::io::Write;
 
 /// The most bytes of a file of a deck that is read.
-const TEXT_LIMIT: usize = 4_194_304;
+pub(crate) const TEXT_LIMIT: usize = 4_194_304;
 
 /// The deck of a level.
 #[derive(Drop)]
@@ -27,6 +29,15 @@ pub struct LevelDeck<'a> {
     pub files: Vec<NamedFile>,
 }
 
+/// How the files of a deck are read.
+#[derive(Clone, Copy)]
+pub struct HowRead {
+    /// Whether a log has them.
+    pub is_logged: bool,
+    /// Whether changed lines of plain text aren't counted for the reader.
+    pub is_quiet: bool,
+}
+
 /// The part of a deck that is read.
 #[derive(Drop)]
 struct Reading<'a> {
@@ -34,21 +45,21 @@ struct Reading<'a> {
     /// Where the next file begins; only followed if one of the files is punched.
     begun: Begun,
     is_punched: bool,
-    is_logged: bool,
+    how: HowRead,
     is_faulty: bool,
     ghost few: { begun.cards ≤ 9999 },
 }
 
 impl<'a> LevelDeck<'a> {
-    /// The deck of these files, with their digests if they are asked for. A file of plain text is punched, and what is wrong with it
-    /// is reported.
+    /// The deck of these files, with their digests if a log has them. A file of plain text is punched, and what is wrong with it is
+    /// reported.
     pub fn read(
         rt: &HostRuntime,
         level: LevelId,
         paths: &[&'a str],
-        is_logged: bool,
+        how: HowRead,
     ) -> Result<LevelDeck<'a>, DayFault<'a>> {
-        let mut reading = Reading::new(rt.alloc(), paths, is_logged);
+        let mut reading = Reading::new(rt.alloc(), paths, how);
         for path in paths {
             let name: &'a str = *path;
             let bytes = read_deck_file(rt, level, name)?;
@@ -89,7 +100,7 @@ fn report(rt: &HostRuntime, name: &str, sentence: &str) {
 }
 
 impl<'a> Reading<'a> {
-    fn new(alloc: Global, paths: &[&'a str], is_logged: bool) -> Reading<'a> {
+    fn new(alloc: Global, paths: &[&'a str], how: HowRead) -> Reading<'a> {
         Reading {
             deck: LevelDeck {
                 joined: JoinedFiles::new(alloc),
@@ -97,14 +108,14 @@ impl<'a> Reading<'a> {
             },
             begun: Begun::new(false),
             is_punched: paths.iter().any(|path| is_plain_text(*path)),
-            is_logged,
+            how,
             is_faulty: false,
         }
     }
 
     /// Puts a file after those that are read.
     fn add(&mut self, rt: &HostRuntime, name: &'a str, bytes: Vec<u8>) -> Result<(), AllocError> {
-        if self.is_logged {
+        if self.how.is_logged {
             let file = named_file(rt.alloc(), name, &bytes)?;
             self.deck.files.push(file)?;
         }
@@ -126,7 +137,11 @@ impl<'a> Reading<'a> {
         bytes: &[u8],
     ) -> Result<(), AllocError> {
         let punched = punch(rt.alloc(), bytes, &self.begun)?;
-        self.is_faulty |= tell_punched(rt, name, &punched);
+        self.is_faulty |= if self.how.is_quiet {
+            tell_errors(rt, name, &punched)
+        } else {
+            tell_punched(rt, name, &punched)
+        };
         self.begun = punched.behind(self.begun);
         let Punched {
             text,

@@ -9,6 +9,7 @@
 #![tactic(auto)]
 
 mod begun;
+mod exchanged;
 mod exit_zero;
 mod fault;
 mod inputs;

@@ -3,14 +3,15 @@
 use crate::fault::{DayFault, unwritten};
 use crate::keeping::{kept_name, place_of, test_keeping};
 use crate::kind::{Kind, is_refused_log};
+use crate::level_deck::TEXT_LIMIT;
 use crate::named_output::{KeptOutput, lost_text};
 use crate::order::Order;
 use crate::paper::Paper;
 pub use s3_host_files::Output;
 use s3_host_files::{
     FileFault, Limit, LockedFolder, LockedPack, SHOWN_INPUT, STANDARD_INPUT, STREAMS,
-    StandardStream, Target, WRITTEN, is_empty_at, is_input, is_pack_at, path_of, prepare_save,
-    stream_at,
+    StandardStream, Target, WRITTEN, beginning_of, is_empty_at, is_input, is_pack_at, path_of,
+    prepare_save, stream_at,
 };
 use s3_refusals::{Shown, is_closed};
 use std::alloc::Global;
@@ -151,15 +152,24 @@ fn is_apart(rt: &HostRuntime, order: &Order<'_>, log: &Target) -> bool {
     !is_other && !is_deck && !is_kept_name(rt, order, log) && !is_in_paper(rt, order, log)
 }
 
-/// Whether a name, if there is one, leads to a file.
+/// Whether a name, if there is one, leads to a file, or that can't be found out.
 fn leads_to(rt: &HostRuntime, name: Option<&str>, file: &Target) -> bool {
     match name {
         Some(name) => match Target::find(rt, name) {
             Ok(target) => target.is_same(file),
-            Err(_) => false,
+            Err(error) => !has_other_folder(error.kind()),
         },
         None => false,
     }
+}
+
+/// Whether a path that can't be followed for this reason has another folder than a path that can: the folder isn't there, or isn't
+/// accessible.
+fn has_other_folder(reason: ErrorKind) -> bool {
+    matches!(
+        reason,
+        ErrorKind::NotFound | ErrorKind::NotADirectory | ErrorKind::PermissionDenied
+    )
 }
 
 /// Whether a pack can be kept under the name of a file, or memory ran out.
@@ -200,8 +210,27 @@ impl<'a> Files<'a> {
         self.add_journal(rt, order.journal)?;
         self.add_written(rt, order)?;
         match order.paper {
-            Some(paper) => paper.test_free(rt, order.overwrites, self),
+            Some(paper) => {
+                self.test_paper(rt, paper.folder)?;
+                paper.test_free(rt, order.overwrites, self)
+            }
             None => Ok(()),
+        }
+    }
+
+    /// Refuses a folder of pages that has the name of another output. All else that is wrong with it is found later.
+    fn test_paper(&self, rt: &HostRuntime, folder: &'a str) -> Result<(), DayFault<'a>> {
+        let Ok(target) = Target::find(rt, folder) else {
+            return Ok(());
+        };
+        let folder_named = Named {
+            name: folder,
+            target,
+        };
+        if has_same(&self.written, &folder_named) {
+            Err(DayFault::Same(folder))
+        } else {
+            Ok(())
         }
     }
 
@@ -305,7 +334,7 @@ impl<'a> Files<'a> {
         if is_folder(rt, name) {
             return Err(DayFault::Call(name, io::Error::from(ErrorKind::IsADirectory)));
         }
-        if order.pack.is_none() && is_pack_at(rt, Path::new(name)) {
+        if order.pack.is_none() && is_pack_there(rt, name)? {
             return Err(DayFault::NewOverPack(name));
         }
         if !order.overwrites && save.target.is_there() && !self.is_pack(&save) {
@@ -347,10 +376,8 @@ impl<'a> Files<'a> {
         if !overwrites && output.target.is_there() {
             return Err(DayFault::Exists(name));
         }
-        if let Some(kind) = kind
-            && !kind.may_replace(rt, name)
-        {
-            return Err(not_replaced(rt, name, kind));
+        if let Some(kind) = kind {
+            test_kind(rt, name, kind)?;
         }
         self.written.push(output)?;
         Ok(())
@@ -394,41 +421,60 @@ fn replaces_log(rt: &HostRuntime, order: &Order<'_>) -> bool {
     }
 }
 
+/// Whether a pack is at a path.
+fn is_pack_there<'a>(rt: &HostRuntime, name: &'a str) -> Result<bool, DayFault<'a>> {
+    match is_pack_at(rt, Path::new(name)) {
+        Ok(is_pack) => Ok(is_pack),
+        Err(_) if is_closed(rt, name) => Err(DayFault::Closed(name)),
+        Err(error) => Err(DayFault::of(&error, name)),
+    }
+}
+
 /// Why a pack isn't saved over a file without `--overwrite`.
 fn there_already<'a>(rt: &HostRuntime, name: &'a str) -> DayFault<'a> {
-    let place = Path::new(name);
-    if is_closed(rt, name) {
-        DayFault::Closed(name)
-    } else if is_pack_at(rt, place) {
-        DayFault::OtherPack(name)
-    } else if is_empty_at(rt, place) {
-        DayFault::Exists(name)
-    } else {
-        DayFault::NoPack(name)
+    match is_pack_there(rt, name) {
+        Ok(true) => DayFault::OtherPack(name),
+        Ok(false) => no_pack_there(rt, name),
+        Err(fault) => fault,
+    }
+}
+
+/// Why a pack isn't saved over a file that isn't one.
+fn no_pack_there<'a>(rt: &HostRuntime, name: &'a str) -> DayFault<'a> {
+    match is_empty_at(rt, Path::new(name)) {
+        Ok(true) => DayFault::Exists(name),
+        Ok(false) => DayFault::NoPack(name),
+        Err(error) => DayFault::of(&error, name),
+    }
+}
+
+/// Refuses an output in the place of a file of another kind, or of one that can't be read.
+fn test_kind<'a>(rt: &HostRuntime, name: &'a str, kind: Kind) -> Result<(), DayFault<'a>> {
+    match kind.may_replace(rt, name) {
+        Ok(true) => Ok(()),
+        Ok(false) => Err(not_replaced(rt, name, kind)),
+        Err(error) => Err(DayFault::of(&error, name)),
     }
 }
 
 /// Why an output doesn't replace a file, even with `--overwrite`.
 fn not_replaced<'a>(rt: &HostRuntime, name: &'a str, kind: Kind) -> DayFault<'a> {
-    if is_pack_at(rt, Path::new(name)) {
-        DayFault::IsPack(name)
-    } else {
-        DayFault::NotReplaced(name, kind)
+    match is_pack_at(rt, Path::new(name)) {
+        Ok(true) => DayFault::IsPack(name),
+        Ok(false) => DayFault::NotReplaced(name, kind),
+        Err(error) => DayFault::of(&error, name),
     }
 }
 
 /// Why no pack can be read at a path.
 fn no_pack<'a>(rt: &HostRuntime, name: &'a str) -> DayFault<'a> {
     match fs::metadata(rt, name) {
-        Ok(found) if found.is_dir() => called(name, ErrorKind::IsADirectory),
+        Ok(found) if found.is_dir() => {
+            DayFault::Call(name, io::Error::from(ErrorKind::IsADirectory))
+        }
         Ok(_) => DayFault::Device(name),
-        Err(_) => called(name, ErrorKind::NotFound),
+        Err(error) => DayFault::of(&error, name),
     }
-}
-
-/// The fault of a call on a file that fails in this way.
-fn called<'a>(name: &'a str, kind: ErrorKind) -> DayFault<'a> {
-    DayFault::Call(name, io::Error::from(kind))
 }
 
 /// Whether a folder is at a path.
@@ -653,10 +699,53 @@ pub fn write_deck<'a>(
     let (Some(mut output), Some(name)) = (output, name) else {
         return Ok(());
     };
-    match write_whole(&mut output, text) {
-        Ok(()) => test_deck(rt, name, text),
+    match replace_text(rt, &mut output, name, text) {
+        Ok(old) => {
+            if !old.is_empty() && old.as_slice() != text {
+                report_replaced(rt, name, &old);
+            }
+            test_deck(rt, name, text)
+        }
         Err(error) => Err(unwritten(rt, name, &error)),
     }
+}
+
+/// Writes a text to a file. Returns what it replaces there, up to a byte more than a deck may have.
+fn replace_text(
+    rt: &HostRuntime,
+    output: &mut Output,
+    name: &str,
+    text: &[u8],
+) -> io::Result<Vec<u8>> {
+    let old = if output.is_made() || !fs::metadata(rt, name)?.is_file() {
+        Vec::new(rt.alloc())
+    } else {
+        beginning_of(rt, name, TEXT_LIMIT + 1)?
+    };
+    write_whole(output, text)?;
+    Ok(old)
+}
+
+/// Reports a deck of other cards that was replaced, given its text.
+fn report_replaced(rt: &HostRuntime, name: &str, old: &[u8]) {
+    let name = Shown(name);
+    let ends = old.iter().filter(|byte| **byte == b'\n').count();
+    let is_ended = old.ends_with(b"\n");
+    let cards = if is_ended {
+        ends
+    } else {
+        ends.saturating_add(1)
+    };
+    let most = if old.len() > TEXT_LIMIT {
+        "at least "
+    } else {
+        ""
+    };
+    let plural = if cards == 1 { "" } else { "s" };
+    let _ = writeln!(
+        rt.stderr(),
+        "{name}, another deck of {most}{cards} card{plural}, is replaced"
+    );
 }
 
 /// Reports a deck that was written to a file which has lost its name.

@@ -135,7 +135,7 @@ impl<'a> Paper<'a> {
 fn has_pack(rt: &HostRuntime, folder: &str) -> io::Result<bool> {
     for entry in fs::read_dir(rt, folder)? {
         if let Ok(entry) = entry
-            && is_pack_at(rt, entry.path())
+            && is_pack_at(rt, entry.path())?
         {
             return Ok(true);
         }

@@ -7,6 +7,7 @@ use crate::watch::Watch;
 use s3_cards::{Deck, LevelId};
 use s3_decks::{JobEntry, jobs_of, push_strays, strays_of};
 use s3_desk::ReadDeck;
+use s3_host_files::StandardInput;
 use s3_operating::{Clock, DayDeck, Questioned};
 use s3_replies::{Typed, read_typed};
 use std::alloc::AllocError;
@@ -186,7 +187,7 @@ fn read_answer(rt: &HostRuntime) -> Result<Option<Typed>, AllocError> {
 /// The next byte of standard input; `None` if it has ended or fails.
 fn next_byte(rt: &HostRuntime) -> Option<u8> {
     let mut byte = [0u8; 1];
-    match rt.stdin().read(&mut byte) {
+    match StandardInput::new(rt).read(&mut byte) {
         Ok(0) | Err(_) => None,
         Ok(_) => Some(byte[0]),
     }

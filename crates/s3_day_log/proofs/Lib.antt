@@ -8,3 +8,4 @@ pub mod RoundTrip
 pub mod DeckLemmas
 pub mod EndingLemmas
 pub mod BegunLemmas
+pub mod CountLemmas

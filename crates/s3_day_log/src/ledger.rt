@@ -1,9 +1,10 @@
 //! The jobs of a level's deck, as they begin and end.
-ghost use Rattle.std.specs.Prelude.{◌≡◌, ◌<◌, ◌-◌, [], ◌∷◌, ◌++◌, length, drop, true, false, None, if◌then◌else◌, OnOk};
+ghost use Rattle.std.specs.Prelude.{◌≡◌, ◌<◌, ◌+◌, ◌-◌, ◌^◌, min, not, [], ◌∷◌, ◌++◌, length, drop, true, false, None, if◌then◌else◌, OnOk};
 ghost use Rattle.s3_ocl.specs.Streams.{jobs_from};
 ghost use Rattle.s3_solo.specs.World.{World};
 ghost use Rattle.s3_level.specs.Inner.Holds.{Around, Holds};
 ghost use Rattle.s3_day_log.specs.Inner.Endings.{Begins, begins_next, begun_by, behind_reply, closed, endings, has_open_job, has_passed, is_open_behind, overs, overs_behind, stands_still};
+ghost use Rattle.s3_day_log.specs.Inner.Counting.{BeginsSilent, CountsLines, lines_of, with_more};
 
 use crate::event::JobKind;
 use s3_cards::{Deck, Name};
@@ -75,6 +76,7 @@ impl Ledger {
     pub fn new(alloc: Global, jobs: Vec<JobEntry>) -> Ledger
         ensures jobs { result.jobs.items ≡ jobs.items }
         ensures begun { result.begun.items ≡ [] }
+        ensures counted { result.counted ≡ 0 }
     {
         Ledger {
             jobs,
@@ -146,11 +148,15 @@ impl Ledger {
     }
 
     /// Looks at a level that has gone on, with how many lines it has printed, those that are queued among them. Afterwards each job has
-    /// begun that the level has passed, and each is over except for the last one of a level that has a job at work or halted.
-    #[tactic(auto, using(crate::proofs::EndingLemmas::begins_none, crate::proofs::EndingLemmas::begins_around, crate::proofs::BegunLemmas::stays_place, crate::proofs::BegunLemmas::stays_open))]
+    /// begun that the level has passed, and each is over except for the last one of a level that has a job at work or halted. The lines
+    /// since the last look are those of the job that was at work or halted then, or else of the job that has begun last.
+    #[tactic(auto, using(crate::proofs::EndingLemmas::begins_none, crate::proofs::EndingLemmas::begins_around, crate::proofs::BegunLemmas::stays_place, crate::proofs::BegunLemmas::stays_open, crate::proofs::CountLemmas::all_counted))]
     pub fn follow(&mut self, level: &Level, lines: usize) -> Result<(), AllocError>
         ensures begun { OnOk result (Begins self.old.begun.items self.new.begun.items) }
         ensures overs { OnOk result (overs self.new.begun.items ≡ overs_behind self.old.place self.new.place self.old.is_open self.new.is_open self.old.jobs.items (overs self.old.begun.items)) }
+        ensures still { OnOk result (stands_still self.old.place self.new.place self.old.is_open self.new.is_open ≡ true → (self.new.begun ≡ self.old.begun) × (self.new.counted ≡ self.old.counted)) }
+        ensures lines { OnOk result (stands_still self.old.place self.new.place self.old.is_open self.new.is_open ≡ false → CountsLines self.old.is_open (lines - self.old.counted) self.old.begun.items self.new.begun.items) }
+        ensures counted { OnOk result (stands_still self.old.place self.new.place self.old.is_open self.new.is_open ≡ false → self.new.counted ≡ lines) }
         ensures jobs { OnOk result (self.new.jobs ≡ self.old.jobs) }
         ensures place { OnOk result ((beside : Around) (w : World) → Holds level.now beside w → w.deck.jobs ≡ jobs_from w.deck.cards self.new.place) }
         ensures open { OnOk result ((beside : Around) (w : World) → Holds level.now beside w → self.new.is_open ≡ has_open_job w) }
@@ -160,11 +166,13 @@ impl Ledger {
         if self.stands_still(place, is_open) {
             return Ok(());
         }
-        self.count_open(lines);
+        let was_open = self.is_open;
+        self.count_if(was_open, lines);
         self.place = place;
         self.is_open = is_open;
         self.begin_all(level.deck())?;
-        self.count_begun(lines);
+        self.end_begun();
+        self.count_if(!was_open, lines);
         Ok(())
     }
 
@@ -175,21 +183,27 @@ impl Ledger {
         self.place == place && (if self.is_open { is_open } else { !is_open })
     }
 
-    /// Counts the lines of the last job that was begun, unless it is over.
-    fn count_open(&mut self, lines: usize)
+    /// Counts the lines that were printed since the last count for the job that was begun last, if they are its lines.
+    fn count_if(&mut self, are_of_last: bool, lines: usize)
         ensures endings { endings self.new.begun.items ≡ endings self.old.begun.items }
         ensures overs { overs self.new.begun.items ≡ overs self.old.begun.items }
+        ensures lines { lines_of self.new.begun.items ≡ (if are_of_last then with_more (lines - self.old.counted) (lines_of self.old.begun.items) else lines_of self.old.begun.items) }
+        ensures counted { self.new.counted ≡ (if are_of_last then lines else self.old.counted) }
         ensures jobs { self.new.jobs ≡ self.old.jobs }
+        ensures place { self.new.place ≡ self.old.place }
+        ensures open { self.new.is_open ≡ self.old.is_open }
     {
-        if self.is_open {
+        if are_of_last {
             self.count_lines(lines);
         }
     }
 
-    /// Counts the lines of the job that was begun last, which is over unless it is at work or its halt waits.
-    fn count_begun(&mut self, lines: usize)
+    /// The job that was begun last is over, unless it is at work or its halt waits.
+    fn end_begun(&mut self)
         ensures endings { endings self.new.begun.items ≡ endings self.old.begun.items }
         ensures overs { overs self.new.begun.items ≡ (if self.old.is_open then overs self.old.begun.items else closed (overs self.old.begun.items)) }
+        ensures lines { lines_of self.new.begun.items ≡ lines_of self.old.begun.items }
+        ensures counted { self.new.counted ≡ self.old.counted }
         ensures jobs { self.new.jobs ≡ self.old.jobs }
         ensures place { self.new.place ≡ self.old.place }
         ensures open { self.new.is_open ≡ self.old.is_open }
@@ -197,14 +211,15 @@ impl Ledger {
         if !self.is_open {
             self.mark_last_over();
         }
-        self.count_lines(lines);
     }
 
     /// Takes note of each further job that has begun.
-    #[tactic(auto, using(crate::proofs::EndingLemmas::begins_none, crate::proofs::EndingLemmas::begins_more, crate::proofs::BegunLemmas::has_job, crate::proofs::BegunLemmas::fewer_left, crate::proofs::BegunLemmas::one_begins, crate::proofs::BegunLemmas::all_begun))]
+    #[tactic(auto, using(crate::proofs::EndingLemmas::begins_none, crate::proofs::EndingLemmas::begins_more, crate::proofs::BegunLemmas::has_job, crate::proofs::BegunLemmas::fewer_left, crate::proofs::BegunLemmas::one_begins, crate::proofs::BegunLemmas::all_begun, crate::proofs::CountLemmas::silent_none, crate::proofs::CountLemmas::silent_more))]
     fn begin_all(&mut self, deck: &Deck) -> Result<(), AllocError>
         ensures begun { OnOk result (Begins self.old.begun.items self.new.begun.items) }
         ensures overs { OnOk result (overs self.new.begun.items ≡ begun_by self.old.place (drop (length (overs self.old.begun.items)) self.old.jobs.items) (overs self.old.begun.items)) }
+        ensures silent { OnOk result (BeginsSilent self.old.begun.items self.new.begun.items) }
+        ensures counted { OnOk result (self.new.counted ≡ self.old.counted) }
         ensures jobs { OnOk result (self.new.jobs ≡ self.old.jobs) }
         ensures place { OnOk result (self.new.place ≡ self.old.place) }
         ensures open { OnOk result (self.new.is_open ≡ self.old.is_open) }
@@ -216,10 +231,11 @@ impl Ledger {
     }
 
     /// Counts the lines that were printed since the last count for the job that was begun last.
-    #[tactic(auto, using(crate::proofs::EndingLemmas::endings_set, crate::proofs::BegunLemmas::overs_set))]
+    #[tactic(auto, using(crate::proofs::EndingLemmas::endings_set, crate::proofs::BegunLemmas::overs_set, crate::proofs::CountLemmas::lines_counted, crate::proofs::CountLemmas::none_counted))]
     fn count_lines(&mut self, lines: usize)
         ensures endings { endings self.new.begun.items ≡ endings self.old.begun.items }
         ensures overs { overs self.new.begun.items ≡ overs self.old.begun.items }
+        ensures lines { lines_of self.new.begun.items ≡ with_more (lines - self.old.counted) (lines_of self.old.begun.items) }
         ensures counted { self.new.counted ≡ lines }
         ensures jobs { self.new.jobs ≡ self.old.jobs }
         ensures place { self.new.place ≡ self.old.place }
@@ -243,11 +259,13 @@ impl Ledger {
     }
 
     /// Takes note that the next job has begun.
-    #[tactic(auto, using(crate::proofs::BegunLemmas::endings_more, crate::proofs::BegunLemmas::overs_more))]
+    #[tactic(auto, using(crate::proofs::BegunLemmas::endings_more, crate::proofs::BegunLemmas::overs_more, crate::proofs::CountLemmas::lines_more))]
     fn begin_next(&mut self, deck: &Deck) -> Result<(), AllocError>
         requires { length self.old.begun.items < length self.old.jobs.items }
         ensures endings { OnOk result (endings self.new.begun.items ≡ endings self.old.begun.items ++ None ∷ []) }
         ensures overs { OnOk result (overs self.new.begun.items ≡ closed (overs self.old.begun.items) ++ false ∷ []) }
+        ensures lines { OnOk result (lines_of self.new.begun.items ≡ lines_of self.old.begun.items ++ 0 ∷ []) }
+        ensures counted { self.new.counted ≡ self.old.counted }
         ensures jobs { self.new.jobs ≡ self.old.jobs }
         ensures place { self.new.place ≡ self.old.place }
         ensures open { self.new.is_open ≡ self.old.is_open }
@@ -259,10 +277,12 @@ impl Ledger {
     }
 
     /// Marks the last job that was begun as over.
-    #[tactic(auto, using(crate::proofs::EndingLemmas::endings_set, crate::proofs::BegunLemmas::overs_closed, crate::proofs::BegunLemmas::none_closed))]
+    #[tactic(auto, using(crate::proofs::EndingLemmas::endings_set, crate::proofs::BegunLemmas::overs_closed, crate::proofs::BegunLemmas::none_closed, crate::proofs::CountLemmas::lines_set))]
     fn mark_last_over(&mut self)
         ensures endings { endings self.new.begun.items ≡ endings self.old.begun.items }
         ensures overs { overs self.new.begun.items ≡ closed (overs self.old.begun.items) }
+        ensures lines { lines_of self.new.begun.items ≡ lines_of self.old.begun.items }
+        ensures counted { self.new.counted ≡ self.old.counted }
         ensures jobs { self.new.jobs ≡ self.old.jobs }
         ensures place { self.new.place ≡ self.old.place }
         ensures open { self.new.is_open ≡ self.old.is_open }
@@ -301,17 +321,20 @@ impl Ledger {
     fn close_last(&mut self)
         ensures endings { endings self.new.begun.items ≡ endings self.old.begun.items }
         ensures overs { overs self.new.begun.items ≡ closed (overs self.old.begun.items) }
+        ensures lines { lines_of self.new.begun.items ≡ lines_of self.old.begun.items }
     {
         self.is_open = false;
         self.mark_last_over();
     }
 
-    /// Ends the job accounting of a level that has printed so many lines in all, and has no job at work if it is done.
+    /// Ends the job accounting of a level that has printed so many lines in all, and has no job at work if it is done. The lines since
+    /// the last look are those of the last job that was begun, unless it is over.
     pub fn close(&mut self, lines: usize, is_done: bool)
         ensures endings { endings self.new.begun.items ≡ endings self.old.begun.items }
         ensures overs { overs self.new.begun.items ≡ (if is_done then closed (overs self.old.begun.items) else overs self.old.begun.items) }
+        ensures lines { lines_of self.new.begun.items ≡ (if self.old.is_open then with_more (lines - self.old.counted) (lines_of self.old.begun.items) else lines_of self.old.begun.items) }
     {
-        self.count_open(lines);
+        self.count_if(self.is_open, lines);
         if is_done {
             self.close_last();
         }
@@ -322,6 +345,7 @@ impl Ledger {
 fn begun_of(entry: &JobEntry, deck: &Deck) -> BegunJob
     ensures ending { result.ending ≡ None }
     ensures over { result.is_over ≡ false }
+    ensures lines { result.lines ≡ 0 }
 {
     BegunJob {
         purpose: purpose_of(entry, deck),

@@ -20,9 +20,10 @@
 //!   a line and its tokens are the kit's `json`, whose own round trip the proof uses. The premises: each time is one that `jiff` reads, and
 //!   each halt is one that a level can show. The times of `line_at` are such times, and are read back (`laws::times_read_back`);
 //! - after `Ledger::follow`, those jobs have begun that end before the place from which the level's world has its remaining jobs, and
-//!   each is over except for the last one of a level whose job is at work or halted.
+//!   each is over except for the last one of a level whose job is at work or halted; and the lines since the look before are those of the
+//!   job that was at work or halted then, or else of the job that has begun last.
 //!
-//! Tested: to which job a printed line belongs, and the card, the kind and the program of a job.
+//! Tested: the card, the kind and the program of a job.
 
 #![tactic(auto)]
 

@@ -1,3 +1,2 @@
 -- What the contracts of a run and of a session don't reach.
 pub mod Looks
-pub mod Totals

@@ -42,16 +42,9 @@ pub enum Evidence {
         /// The record before it: the record read before, the last record of a load, or the record to be updated.
         before: Option<Vec<u8>>,
     },
-    /// The record that was read last of a file that the cycle reads, and the one before it. If the program is at totals, the last one may
-    /// be selected and not processed yet.
+    /// The record of a file that was read before the one that brought totals on.
     Totals {
-        /// The name by which the program knows the file.
-        file: Name,
-        /// Which of its records was read last, from 1.
-        number: u32,
         /// That record.
-        last: Option<Vec<u8>>,
-        /// The record before it.
         before: Option<Vec<u8>>,
     },
     /// The slots that block labels of the job's FILE statements.

@@ -11,7 +11,6 @@ mod evidence;
 mod index;
 mod looking;
 mod reading;
-mod selected;
 mod total_time;
 mod wanted;
 
@@ -19,4 +18,3 @@ pub use at_fault::{Asked, Found, JobFile, key_of};
 pub use begun::{Begun, Source};
 pub use evidence::{BlockingSlot, CheckedIndex, Evidence, IndexFlaw};
 pub use looking::look;
-pub use selected::Selected;

@@ -73,21 +73,9 @@ fn read_evidence<S: PackStore>(
             let before = read_record(alloc, bureau, &label, before)?;
             Ok(Evidence::Records { last, before })
         }
-        Wanted::Totals {
-            file,
-            number,
-            label,
-            last,
-            before,
-        } => {
-            let last = read_record(alloc, bureau, &label, last)?;
+        Wanted::Totals { label, before } => {
             let before = read_record(alloc, bureau, &label, before)?;
-            Ok(Evidence::Totals {
-                file,
-                number,
-                last,
-                before,
-            })
+            Ok(Evidence::Totals { before })
         }
         Wanted::Slots(places) => Ok(Evidence::Slots(read_slots(alloc, bureau, &places)?)),
         Wanted::Indexes(files) => Ok(Evidence::Indexes(check_indexes(alloc, bureau, &files)?)),

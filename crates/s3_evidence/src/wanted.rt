@@ -4,7 +4,7 @@ use crate::at_fault::{Asked, Found, MASTERS};
 use crate::begun::Source;
 use s3_bureau::Bureau;
 use s3_cards::{LevelId, Name};
-use s3_cycle::{Cycle, Stand};
+use s3_cycle::{Cycle, Stand, Totals};
 use s3_decks::job_before;
 use s3_job_files::OpenFile;
 use s3_labels::{FileLabel, Organization, Slot, area_of};
@@ -42,17 +42,11 @@ pub(crate) enum Wanted {
         /// The one before it.
         before: Option<RecordPlace>,
     },
-    /// Records of a file that the cycle reads.
+    /// A record of a file that the cycle reads.
     Totals {
-        /// The name by which the program knows it.
-        file: Name,
-        /// How many records of it were read.
-        number: u32,
-        /// Its label.
+        /// The label of the file.
         label: FileLabel,
-        /// The record that was read last.
-        last: Option<RecordPlace>,
-        /// The one before it.
+        /// The record before the one that brought totals on.
         before: Option<RecordPlace>,
     },
     /// Slots that block labels.
@@ -96,49 +90,24 @@ pub(crate) fn find_wanted<S: PackStore>(
 
 // ---- a program at work
 
-/// The records that are to be read if a program at work halts in a calculation or an output line, which may be one of totals: of the disk
-/// files that the cycle reads those of the one that it has come to, if it reads them one after the other.
+/// The record that is to be read if a program at work halts in a calculation or an output line at totals before a record of a disk file:
+/// the record before that one. The cycle has the record itself.
 fn wanted_of_cycle(held: &Level) -> Option<Wanted> {
     let cycle = held.cycle()?;
+    let Totals::Before { file, number } = cycle.totals() else {
+        return None;
+    };
     if !matches!(
         cycle.stand(),
         Stand::Calculation { .. } | Stand::Output { .. }
     ) {
         return None;
     }
-    let file = held.files().get(place_in_turn(held, cycle)?)?;
+    let file = open_file(held, cycle.file_line(file)?.name)?;
     Some(Wanted::Totals {
-        file: file.name,
-        number: file.read,
         label: file.label.copied(),
-        last: nth_read(file, file.read),
-        before: nth_read(file, file.read.saturating_sub(1)),
+        before: nth_read(file, number.saturating_sub(1)),
     })
-}
-
-/// The place among a job's files of the last one that the cycle reads and has read more than one record of; else of the first one of which
-/// it has read one.
-fn place_in_turn(held: &Level, cycle: &Cycle) -> Option<usize> {
-    let mut found = None;
-    for (place, file) in held.files().iter().enumerate() {
-        let is_later = file.read > 1 || (file.read == 1 && found.is_none());
-        if is_later && is_read_by_cycle(cycle, file.name) {
-            found = Some(place);
-        }
-    }
-    found
-}
-
-/// Whether a file is primary or secondary.
-fn is_read_by_cycle(cycle: &Cycle, name: Name) -> bool {
-    for slot in 0..MOST_FILES {
-        match cycle.file_line(slot) {
-            Some(line) if line.name == name => return line.is_primary() || line.is_secondary(),
-            Some(_line) => {}
-            None => break,
-        }
-    }
-    false
 }
 
 /// The records that are to be read if a program at work halts. Its source isn't needed for that.

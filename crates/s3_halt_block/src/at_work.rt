@@ -4,15 +4,11 @@ use crate::cards::DeckCards;
 use crate::files::push_file;
 use crate::stand::{Shown, push_stand};
 use s3_cycle::Cycle;
-use s3_evidence::{Begun, Evidence, Selected, Source};
+use s3_evidence::{Begun, Evidence, Source};
 use s3_level::Level;
 use s3_lines::sheet::{Device, FileLine};
 use s3_operator::HaltCode;
 use std::alloc::{AllocError, Global};
-
-/// What is reported at totals if the records that were read don't show which of them isn't processed yet.
-const UNSURE: &'static str =
-    "  these are totals: the record that was read last may not be processed yet\n";
 
 /// A program that halts.
 #[derive(Clone, Copy)]
@@ -53,9 +49,10 @@ impl<'a> AtWork<'a> {
         (before > job.data_from()).then_some(before)
     }
 
-    /// The record that is selected, and processed after the totals, if the program is at totals; none if it isn't certain which one that is.
-    pub(crate) fn record_behind_totals(&self) -> Option<Selected> {
-        self.source.record_behind_totals(self.held, self.begun)
+    /// Whether the record that was read before another one of its file was also processed just before it: a reply may have passed it over,
+    /// and if files are matched, records of other files may come between.
+    pub(crate) fn is_in_order(&self) -> bool {
+        !self.begun.has_skipped() && self.source.reads_in_turn()
     }
 
     /// Whether the last data card that was read begins with these bytes.
@@ -82,9 +79,6 @@ pub(crate) fn push_at_work(
     at: AtWork<'_>,
 ) -> Result<(), AllocError> {
     let shown = push_stand(text, alloc, at)?;
-    if shown.is_unsure {
-        text.push_str(UNSURE)?;
-    }
     push_last_card(text, at, &shown)?;
     for file in at.held.files() {
         push_file(text, file)?;

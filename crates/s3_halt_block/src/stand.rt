@@ -5,12 +5,20 @@ use crate::bad_digits::bad_digits;
 use crate::causes::push_causes;
 use crate::match_fields::{Sort, level_fields};
 use s3_cards::Name;
-use s3_cycle::{Sought, Stand};
+use s3_cycle::{Sought, Stand, Totals};
 use s3_decks::{Columns, push_characters, push_name, push_ruled};
-use s3_evidence::{Evidence, Selected};
+use s3_evidence::Evidence;
 use s3_lines::sheet::{FieldLine, FileLine, InputLine, Line, SheetLine};
 use s3_operator::HaltCode;
 use std::alloc::{AllocError, Global};
+
+/// What brought on the totals with which a reply ends a job.
+const BY_REPLY: &'static str =
+    "  these are the last totals: the reply that ends the job brought them on, and no record\n";
+
+/// What brought on the totals of the last record.
+const BY_LAST_RECORD: &'static str =
+    "  these are the totals of the last record: LR brought them on, and no record follows\n";
 
 /// The part of the place of the run that is shown with the last data card.
 #[derive(Drop)]
@@ -21,8 +29,6 @@ pub(crate) struct Shown {
     pub(crate) is_before_shown: bool,
     /// Whether it waits for totals, which are of the cards before it.
     pub(crate) is_after_totals: bool,
-    /// Whether the program is at totals, and the records that were read don't show which of them isn't processed yet.
-    pub(crate) is_unsure: bool,
 }
 
 impl Shown {
@@ -32,76 +38,64 @@ impl Shown {
             marked: Vec::new(alloc),
             is_before_shown: false,
             is_after_totals: false,
-            is_unsure: false,
         }
     }
 }
 
-/// Appends the records on both sides of totals, with their control fields marked, if they are on the pack and it is sure which they are.
-/// If they are cards, they are handed on.
-fn push_totals(
+/// Appends what brought on the totals that the program is at, if it is at totals. A record on cards is handed on.
+fn push_totals(text: &mut String, alloc: Global, at: AtWork<'_>) -> Result<Shown, AllocError> {
+    match at.cycle.totals() {
+        Totals::Elsewhere => Ok(Shown::nothing(alloc)),
+        Totals::Before { file, number } => push_totals_before(text, alloc, at, file, number),
+        Totals::Last => {
+            text.push_str(if at.begun.is_ending() {
+                BY_REPLY
+            } else {
+                BY_LAST_RECORD
+            })?;
+            Ok(Shown::nothing(alloc))
+        }
+    }
+}
+
+/// Appends the record of a file that waits for totals, and the one before it, with their control fields marked. A record on cards is handed
+/// on: it is the card that was read last.
+fn push_totals_before(
     text: &mut String,
     alloc: Global,
     at: AtWork<'_>,
-    is_total: bool,
+    slot: usize,
+    number: u32,
 ) -> Result<Shown, AllocError> {
     let mut shown = Shown::nothing(alloc);
-    if !is_total {
-        return Ok(shown);
-    }
-    let Some(selected) = at.record_behind_totals() else {
-        shown.is_unsure = !at.begun.is_ending();
+    let Some(line) = at.file(slot) else {
         return Ok(shown);
     };
-    let marked = level_fields(alloc, &at.source.lines, selected.line.name, Sort::Control)?;
-    if is_on_cards(&selected.line) {
+    let marked = level_fields(alloc, &at.source.lines, line.name, Sort::Control)?;
+    if is_on_cards(line) {
         shown.marked = marked;
-        shown.is_before_shown = !at.begun.has_skipped();
+        shown.is_before_shown = at.is_in_order();
         shown.is_after_totals = true;
     } else {
-        push_selected(text, at, &selected, &marked)?;
+        text.push_str("  the totals are those before ")?;
+        push_record_number(text, Some(line), number)?;
+        text.push_str(", which isn't processed yet\n")?;
+        push_ruled(text, at.cycle.record_behind_totals(), &marked)?;
+        push_record_before(text, at, &marked)?;
     }
     Ok(shown)
 }
 
-/// Appends the record of a file on the pack that waits for totals, and the one before it, as far as they were read.
-fn push_selected(
+/// Appends the record that was read before the one that brought totals on, if it was processed before it.
+fn push_record_before(
     text: &mut String,
     at: AtWork<'_>,
-    selected: &Selected,
     marked: &[Columns],
 ) -> Result<(), AllocError> {
-    text.push_str("  the totals are those before ")?;
-    push_record_number(text, Some(&selected.line), selected.number)?;
-    text.push_str(", which isn't processed yet\n")?;
     match at.evidence {
         Evidence::Totals {
-            file,
-            number,
-            last,
-            before,
-        } if *file == selected.line.name && *number == selected.number => {
-            push_both(text, at, last, before, marked)
-        }
-        _ => Ok(()),
-    }
-}
-
-/// Appends a record, and the one before it unless a record was passed over.
-fn push_both(
-    text: &mut String,
-    at: AtWork<'_>,
-    last: &Option<Vec<u8>>,
-    before: &Option<Vec<u8>>,
-    marked: &[Columns],
-) -> Result<(), AllocError> {
-    if let Some(record) = last {
-        push_ruled(text, record, marked)?;
-    }
-    match before {
-        Some(record) if !at.begun.has_skipped() => {
-            push_named_record(text, "the record before it:", record, marked)
-        }
+            before: Some(record),
+        } if at.is_in_order() => push_named_record(text, "the record before it:", record, marked),
         _ => Ok(()),
     }
 }
@@ -143,12 +137,16 @@ pub(crate) fn push_stand(
             push_source_card(text, at, at.source.calculation_at(place))?;
             push_sought(text, at)?;
             push_found(text, at)?;
-            push_totals(text, alloc, at, at.source.is_total_calculation(place))
+            push_totals(text, alloc, at)
         }
         Stand::Output { file, place } => {
             push_source_card(text, at, at.source.output_at(place))?;
             push_put(text, at, at.file(file), place)?;
-            push_totals(text, alloc, at, at.source.is_total_output(place))
+            if at.source.may_be_total_output(place) {
+                push_totals(text, alloc, at)
+            } else {
+                Ok(Shown::nothing(alloc))
+            }
         }
     }
 }
@@ -205,7 +203,6 @@ fn push_head(
         marked: marks_of_head(alloc, at, line.name)?,
         is_before_shown: is_out_of_sequence(at.code),
         is_after_totals: false,
-        is_unsure: false,
     };
     if is_on_cards(line) {
         return Ok(shown);
@@ -297,7 +294,6 @@ fn push_field_record(
             marked,
             is_before_shown: false,
             is_after_totals: false,
-            is_unsure: false,
         });
     }
     push_ruled(text, record, &marked)?;

@@ -63,14 +63,14 @@ fn tried(rt: &HostRuntime, path: &str) -> io::Result<PathBuf> {
 }
 
 /// A new file at a path, to be written within a limit. If something has that name and may be overwritten, it is removed
-/// first, unless it is a pack; of a link, only the link is removed.
+/// first, unless it is a pack; of a link, only the link is removed. It fails if that can't be read: it may be a pack.
 pub fn create_anew(
     rt: &HostRuntime,
     path: &str,
     overwrites: bool,
     limit: Option<Limit>,
 ) -> io::Result<File> {
-    if overwrites && !is_pack_at(rt, Path::new(path)) {
+    if overwrites && !is_pack_at(rt, Path::new(path))? {
         remove_old(rt, path)?;
     }
     match made_file(rt, Path::new(path), limit)? {

@@ -1,6 +1,6 @@
 //! Standard input in the place of a file that is read.
-ghost use Rattle.std.specs.Io.{ReadsAtMost};
 
+use super::standard_input::StandardInput;
 use super::streams::StandardStream;
 use std::io;
 use std::io::{ErrorKind, Read};
@@ -57,14 +57,7 @@ pub fn input_up_to(rt: &HostRuntime, limit: usize) -> io::Result<Vec<u8>> {
 fn read_chunk(rt: &HostRuntime, bytes: &mut Vec<u8>, limit: usize) -> io::Result<usize> {
     let mut chunk = [0; CHUNK];
     let space = limit.saturating_sub(bytes.len()).min(CHUNK);
-    let count = read_some(rt, &mut chunk[..space])?;
+    let count = StandardInput::new(rt).read(&mut chunk[..space])?;
     bytes.extend_from_slice(&chunk[..count])?;
     Ok(count)
-}
-
-/// Reads some bytes of standard input.
-fn read_some(rt: &HostRuntime, bytes: &mut [u8]) -> io::Result<usize>
-    ensures { ReadsAtMost result bytes.new }
-{
-    rt.stdin().read(bytes)
 }

@@ -1,5 +1,5 @@
 //! Packs in files: read up to a limit, and saved whole or not at all, by one command at a time; outputs, each written by one command;
-//! and standard output.
+//! and standard input and standard output.
 //!
 //! What is proved: how a new file gets the name of an old one, by what is found there (`choose_naming`), which files a pack may replace
 //! (`is_replaceable`), which files a save removes (`is_leftover`), and the names of the standard streams (`StandardStream::name`).
@@ -20,6 +20,7 @@ mod outputs;
 mod places;
 mod reading;
 mod replacing;
+mod standard_input;
 mod standard_output;
 mod streams;
 mod syncing;
@@ -37,6 +38,7 @@ use places::{existing, followed};
 use reading::read_up_to;
 pub use reading::{beginning_of, is_empty_at, is_pack_at};
 use replacing::{replace, save_first, test_place, test_replacing};
+pub use standard_input::StandardInput;
 pub use standard_output::StandardOutput;
 use std::fs::{File, OpenOptions};
 use std::io;

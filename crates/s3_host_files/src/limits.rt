@@ -3,10 +3,11 @@
 use super::input::path_of;
 use super::places::existing;
 use super::replacing::without_group;
+use super::streams::StandardStream;
 use std::fs::{DirBuilder, File, Metadata, Permissions};
-use std::io;
 use std::os::unix::fs::{DirBuilderExt, MetadataExt, PermissionsExt};
 use std::path::Path;
+use std::{fs, io};
 
 /// The owner may always read and write.
 const OWNER: u32 = 0o600;
@@ -40,13 +41,34 @@ impl Limit {
 
     /// Takes from an open file what the limit doesn't allow.
     pub fn restrict(&self, file: &File) -> io::Result<()> {
-        let found = file.metadata()?;
-        let mode = found.mode() & 0o7777;
-        let allowed = mode & self.allowed(&found);
-        if allowed == mode {
-            return Ok(());
+        match self.reduced(&file.metadata()?) {
+            Some(mode) => file.set_permissions(Permissions::from_mode(mode)),
+            None => Ok(()),
         }
-        file.set_permissions(Permissions::from_mode(allowed))
+    }
+
+    /// Takes from the regular file that is standard output, if one is, what the limit doesn't allow.
+    pub fn restrict_output(&self, rt: &HostRuntime) -> io::Result<()> {
+        let output = StandardStream::Output.path();
+        match existing(rt, Path::new(output))? {
+            Some(found) if found.is_file() => self.restrict_at(rt, output, &found),
+            _ => Ok(()),
+        }
+    }
+
+    /// Takes from the file at a path what the limit doesn't allow.
+    fn restrict_at(&self, rt: &HostRuntime, path: &str, found: &Metadata) -> io::Result<()> {
+        match self.reduced(found) {
+            Some(mode) => fs::set_permissions(rt, path, Permissions::from_mode(mode)),
+            None => Ok(()),
+        }
+    }
+
+    /// The mode of a file without what the limit doesn't allow; none if the limit allows all of it.
+    fn reduced(&self, found: &Metadata) -> Option<u32> {
+        let mode = found.mode() & 0o7777;
+        let allowed = mode & self.allowed(found);
+        (allowed != mode).then_some(allowed)
     }
 
     /// The mode that is allowed to a file at most. If its group isn't the pack's group, it gets only what others get.

@@ -192,7 +192,7 @@ fn opened(
     if !leads_to(rt, place, &file)? {
         return Ok(None);
     }
-    if is_pack_at(rt, place) {
+    if is_pack_at(rt, place)? {
         return Err(FileFault::IsPack);
     }
     Ok(Some(Output {

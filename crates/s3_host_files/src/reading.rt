@@ -50,12 +50,12 @@ fn read_chunk(
     Ok(count)
 }
 
-/// Reads some bytes, after an interruption once more.
-fn read_some(file: &mut File, bytes: &mut [u8]) -> io::Result<usize>
+/// Reads some bytes. A read that a signal interrupts is tried again.
+pub fn read_some<R: Read>(reader: &mut R, bytes: &mut [u8]) -> io::Result<usize>
     ensures { ReadsAtMost result bytes.new }
 {
     for _try in 0..TRIES {
-        match file.read(bytes) {
+        match reader.read(bytes) {
             Err(error) if error.kind() == ErrorKind::Interrupted => {}
             done => return done,
         }
@@ -69,30 +69,26 @@ pub fn beginning_of(rt: &HostRuntime, path: &str, limit: usize) -> io::Result<Ve
     read_up_to(rt, &mut file, limit)
 }
 
-/// Whether the regular file at a path begins as a pack of any format does. A file that can't be read doesn't.
-pub fn is_pack_at(rt: &HostRuntime, place: Path<'_>) -> bool {
-    match existing(rt, place) {
-        Ok(Some(found)) if found.is_file() => begins_as_pack(rt, place),
-        _ => false,
+/// Whether a regular file is at a path and begins as a pack of any format does. It fails if the file can't be read: it may be a pack.
+pub fn is_pack_at(rt: &HostRuntime, place: Path<'_>) -> io::Result<bool> {
+    match existing(rt, place)? {
+        Some(found) if found.is_file() => begins_as_pack(rt, place),
+        _ => Ok(false),
     }
 }
 
 /// Whether an empty regular file is at a path.
-pub fn is_empty_at(rt: &HostRuntime, place: Path<'_>) -> bool {
-    match existing(rt, place) {
-        Ok(Some(found)) => found.is_file() && found.len() == 0,
-        _ => false,
+pub fn is_empty_at(rt: &HostRuntime, place: Path<'_>) -> io::Result<bool> {
+    match existing(rt, place)? {
+        Some(found) => Ok(found.is_file() && found.len() == 0),
+        None => Ok(false),
     }
 }
 
-fn begins_as_pack(rt: &HostRuntime, place: Path<'_>) -> bool {
-    let Ok(mut file) = File::open(rt, place) else {
-        return false;
-    };
-    match read_up_to(rt, &mut file, 6) {
-        Ok(beginning) => beginning.starts_with(b"S3PACK"),
-        Err(_) => false,
-    }
+fn begins_as_pack(rt: &HostRuntime, place: Path<'_>) -> io::Result<bool> {
+    let mut file = File::open(rt, place)?;
+    let beginning = read_up_to(rt, &mut file, 6)?;
+    Ok(beginning.starts_with(b"S3PACK"))
 }
 
 /// Whether an open file is empty or begins as a pack does, as far as it goes.

@@ -8,7 +8,8 @@ use std::time::Duration;
 /// How long a writer waits before it tries again, in milliseconds.
 const PAUSE: u64 = 5;
 
-/// Standard output. If it takes nothing at the moment, as a pipe that doesn't block, a write waits until it does.
+/// Standard output. If it takes nothing at the moment, as a pipe that doesn't block, a write waits until it does. A write that a signal
+/// interrupts is tried again.
 #[derive(Drop)]
 pub struct StandardOutput<'a> {
     rt: &'a HostRuntime,
@@ -43,6 +44,7 @@ impl<'a> Write for StandardOutput<'a> {
                 Err(error) if error.kind() == ErrorKind::WouldBlock => {
                     sleep(self.rt, Duration::from_millis(PAUSE));
                 }
+                Err(error) if error.kind() == ErrorKind::Interrupted => {}
                 Err(error) => {
                     self.failure = Some(error);
                     return Err(error);

@@ -36,5 +36,5 @@ pub use decks::checksum_of_deck;
 pub use laws::{a_journal_reads_back, crashes_are_seen, posts_once};
 pub use reading::{JournalFault, Lines, read_lines};
 pub use saved::{Saved, saved_of};
-pub use standing::{Start, day_with, posted_day, start_of};
+pub use standing::{Start, day_that_left, day_with, posted_day, start_of};
 pub use writing::line_of;

@@ -134,6 +134,13 @@ fn last_posted<'a>(days: &'a [PostedDay], posting: Posting<'_>) -> Option<&'a Po
     days.iter().find(|day| has_posted(day, posting))
 }
 
+/// The last of these days that left the pack.
+pub fn day_that_left<'a>(days: &'a [PostedDay], pack: &str) -> Option<&'a PostedDay>
+    ensures { option_copied result ≡ find (λ day. bytes_eq (line_of day).after pack.now) days.now }
+{
+    days.iter().find(|day| is_same(day.after.as_str(), pack))
+}
+
 /// The last of these days before or after which the pack was there.
 pub fn day_with<'a>(days: &'a [PostedDay], pack: &str) -> Option<&'a PostedDay>
     ensures { option_copied result ≡ find (λ day. has_pack_spec pack.now (line_of day)) days.now }

@@ -50,7 +50,7 @@ pub struct JournalFile<'a> {
     file: File,
     /// The file was made here.
     is_made: bool,
-    /// The folder, if it can be opened: the name of a new journal is brought to the disk.
+    /// The folder, if it may be opened: the name of a new journal is brought to the disk.
     folder: Option<File>,
     read: Journal,
 }
@@ -65,8 +65,10 @@ impl<'a> JournalFile<'a> {
         for _turn in 0..TURNS {
             let opened = Opened::open(rt, name, limit)?;
             keep_others_out(&opened.file, name)?;
-            if leads_to(rt, name, &opened.file) {
-                return JournalFile::read(rt, name, opened);
+            match leads_to(rt, name, &opened.file) {
+                Ok(true) => return JournalFile::read(rt, name, opened),
+                Ok(false) => {}
+                Err(error) => return Err(JournalRefusal::of(&error, name)),
             }
         }
         Err(JournalRefusal::InUse(name))
@@ -79,12 +81,16 @@ impl<'a> JournalFile<'a> {
         opened: Opened,
     ) -> Result<JournalFile<'a>, JournalRefusal<'a>> {
         let Opened { file, is_made } = opened;
+        let folder = match opened_folder(rt, name) {
+            Ok(folder) => folder,
+            Err(error) => return Err(JournalRefusal::of(&error, name)),
+        };
         match read_journal(rt, name) {
             Ok(read) => Ok(JournalFile {
                 name,
                 file,
                 is_made,
-                folder: File::open(rt, folder_of(name)).ok(),
+                folder,
                 read,
             }),
             Err(refusal) => Err(refusal),
@@ -165,20 +171,27 @@ impl<'a> JournalFile<'a> {
         work: Work,
     ) -> Result<(), JournalRefusal<'a>> {
         let line = self.line_for(rt, new, work)?;
-        if !leads_to(rt, self.name, &self.file) {
-            report_gone(rt, self.name);
-            return Err(JournalRefusal::Unwritten(self.name));
+        match leads_to(rt, self.name, &self.file) {
+            Ok(true) => {}
+            Ok(false) => {
+                report_gone(rt, self.name);
+                return Err(JournalRefusal::Unwritten(self.name));
+            }
+            Err(error) => return Err(self.unwritten(rt, &error)),
         }
         match self.append_line(line.as_str()) {
             Ok(()) => Ok(()),
-            Err(error) if error.kind() == io::ErrorKind::OutOfMemory => {
-                Err(JournalRefusal::NoMemory)
-            }
-            Err(error) => {
-                report_unwritten(rt, self.name, &error);
-                Err(JournalRefusal::Unwritten(self.name))
-            }
+            Err(error) => Err(self.unwritten(rt, &error)),
         }
+    }
+
+    /// The refusal of a command whose line can't be written. The reason is reported.
+    fn unwritten(&self, rt: &HostRuntime, error: &io::Error) -> JournalRefusal<'a> {
+        if error.kind() == io::ErrorKind::OutOfMemory {
+            return JournalRefusal::NoMemory;
+        }
+        report_unwritten(rt, self.name, error);
+        JournalRefusal::Unwritten(self.name)
     }
 
     /// Ends the save of the pack whose line was appended last. If the pack wasn't saved, the line is removed again; if that fails, the
@@ -247,7 +260,7 @@ impl<'a> MadeJournal<'a> {
 fn remove_if_empty(rt: &HostRuntime, name: &str, file: &File) {
     if let Ok(found) = file.metadata()
         && found.len() == 0
-        && leads_to(rt, name, file)
+        && matches!(leads_to(rt, name, file), Ok(true))
     {
         let _ = fs::remove_file(rt, name);
     }
@@ -329,10 +342,12 @@ impl Opened {
 }
 
 /// Whether a path leads to an open file. Another command may have removed an empty journal before it was locked.
-fn leads_to(rt: &HostRuntime, name: &str, file: &File) -> bool {
-    match (fs::metadata(rt, name), file.metadata()) {
-        (Ok(there), Ok(opened)) => there.dev() == opened.dev() && there.ino() == opened.ino(),
-        _ => false,
+fn leads_to(rt: &HostRuntime, name: &str, file: &File) -> io::Result<bool> {
+    let opened = file.metadata()?;
+    match fs::metadata(rt, name) {
+        Ok(there) => Ok(there.dev() == opened.dev() && there.ino() == opened.ino()),
+        Err(error) if error.kind() == io::ErrorKind::NotFound => Ok(false),
+        Err(error) => Err(error),
     }
 }
 
@@ -341,6 +356,15 @@ fn keep_others_out<'a>(file: &File, name: &'a str) -> Result<(), JournalRefusal<
     match file.try_lock() {
         Err(TryLockError::WouldBlock) => Err(JournalRefusal::InUse(name)),
         Ok(()) | Err(TryLockError::Error(_)) => Ok(()),
+    }
+}
+
+/// The folder of a journal, opened; none if it may not be read.
+fn opened_folder(rt: &HostRuntime, name: &str) -> io::Result<Option<File>> {
+    match File::open(rt, folder_of(name)) {
+        Ok(folder) => Ok(Some(folder)),
+        Err(error) if error.kind() == io::ErrorKind::PermissionDenied => Ok(None),
+        Err(error) => Err(error),
     }
 }
 

@@ -1,7 +1,7 @@
 //! A journal that is read.
 
 use crate::refusal::JournalRefusal;
-use s3_host_files::read_within;
+use s3_host_files::{read_within, shown_name};
 use s3_journal::{JournalFault, PostedDay, read_lines};
 use s3_refusals::Shown;
 use std::io::Write;
@@ -22,14 +22,14 @@ pub struct Journal {
     pub is_cut: bool,
 }
 
-/// The lines of a journal. What is wrong with them is reported.
+/// The lines of a journal, or of standard input if its name is `-`. What is wrong with them is reported.
 pub fn read_journal<'a>(rt: &HostRuntime, name: &'a str) -> Result<Journal, JournalRefusal<'a>> {
     let bytes = match read_within(rt, name, JOURNAL_LIMIT) {
         Ok(bytes) => bytes,
-        Err(error) => return Err(JournalRefusal::of(&error, name)),
+        Err(error) => return Err(JournalRefusal::of(&error, shown_name(name))),
     };
     let Ok(text) = str::from_utf8(&bytes) else {
-        let name = Shown(name);
+        let name = Shown(shown_name(name));
         let _ = writeln!(
             rt.stderr(),
             "{name} is no journal, for it isn't text in UTF-8; give the file that --journal wrote, or a new name"
@@ -45,7 +45,7 @@ pub fn read_journal<'a>(rt: &HostRuntime, name: &'a str) -> Result<Journal, Jour
         }),
         Err(JournalFault::NoMemory) => Err(JournalRefusal::NoMemory),
         Err(fault) => {
-            let name = Shown(name);
+            let name = Shown(shown_name(name));
             let _ = writeln!(
                 rt.stderr(),
                 "{name}: {fault}; restore the journal from a copy, or give --journal a new name"

@@ -1,26 +1,59 @@
 //! What is reported before a refusal: the line of the journal that is the reason, and what to do.
 
 use crate::file::GivenPack;
-use s3_journal::{PostedDay, Posting, day_with, posted_day};
+use s3_journal::{PostedDay, Posting, day_that_left, day_with, posted_day};
 use s3_refusals::{Reason, Shown};
 use std::io;
 use std::io::Write;
 
-/// Reports that the pack is an old copy.
+/// Reports that the pack is an old copy: the day that left it, or the day that began on it if none did.
 pub(crate) fn report_old(
     rt: &HostRuntime,
     journal: &str,
     days: &[PostedDay],
     pack: GivenPack<'_, '_>,
 ) {
-    if let (Some(day), Some(last)) = (day_with(days, pack.sum), days.first()) {
-        let (pack, journal) = (Shown(pack.name), Shown(journal));
-        let (number, at, last) = (day.number, day.at.as_str(), last.number);
-        let _ = writeln!(
-            rt.stderr(),
-            "{pack} is an old copy: {journal} has it at day {number}, {at}, and its last day is {last}; give the pack that day {last} left, or --again to begin from the old copy"
-        );
+    let Some(last) = days.first() else {
+        return;
+    };
+    let last = last.number;
+    if let Some(day) = day_that_left(days, pack.sum) {
+        report_left(rt, journal, pack, day, last);
+    } else if let Some(day) = day_with(days, pack.sum) {
+        report_begun(rt, journal, pack, day, last);
     }
+}
+
+/// Reports that the pack is the pack that an earlier day left.
+fn report_left(
+    rt: &HostRuntime,
+    journal: &str,
+    pack: GivenPack<'_, '_>,
+    day: &PostedDay,
+    last: u64,
+) {
+    let (pack, journal) = (Shown(pack.name), Shown(journal));
+    let (number, at) = (day.number, day.at.as_str());
+    let _ = writeln!(
+        rt.stderr(),
+        "{pack} is an old copy: it is the pack that day {number} left, {at}, and the last day of {journal} is {last}; give the pack that day {last} left, or go back to day {number} by `bureau journal {journal} --restore {number} --save FILE`"
+    );
+}
+
+/// Reports that the pack is one on which an earlier day began, and that no day left it.
+fn report_begun(
+    rt: &HostRuntime,
+    journal: &str,
+    pack: GivenPack<'_, '_>,
+    day: &PostedDay,
+    last: u64,
+) {
+    let (pack, journal) = (Shown(pack.name), Shown(journal));
+    let (number, at) = (day.number, day.at.as_str());
+    let _ = writeln!(
+        rt.stderr(),
+        "{pack} is an old copy: it is the pack before day {number}, {at}, and the last day of {journal} is {last}; give the pack that day {last} left, or --again to begin from the old copy"
+    );
 }
 
 /// Reports that something else changed the pack.

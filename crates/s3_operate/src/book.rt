@@ -16,6 +16,9 @@ use std::io::Write;
 /// The date of a job if none was set.
 const NO_DATE: [u8; 6] = [DIGIT_0; 6];
 
+/// What the page shows of a pack that isn't saved.
+const SHOWN: &str = "Changed files and the pack are shown as the day left them in memory.";
+
 /// What became of a day and its pack, as the page shows it.
 #[derive(Clone, Copy)]
 pub struct Outcome {
@@ -38,8 +41,8 @@ pub fn write_index<'n>(
         return Ok(());
     };
     let alloc = rt.alloc();
-    let book = book_of(alloc, order, desk, over, outcome)?;
-    let page = match page_of_day(alloc, &book, &over.before, &over.day.run.pack) {
+    let mut book = book_of(alloc, order, desk, over, outcome)?;
+    let page = match page_of_day(alloc, &mut book, &over.before, &over.day.run.pack) {
         Ok(page) => page,
         // both packs were mounted before, so only memory can be refused
         Err(_) => return Err(DayFault::from(AllocError)),
@@ -92,8 +95,13 @@ fn status_of(
     let words = words_of(verdict);
     write!(text, "Status {status}: ")?;
     match order.save {
-        None => write!(text, "{words}. Nothing is saved: there is no --save.")?,
-        Some(_) if !outcome.is_saved => write!(text, "the pack isn't saved; {words}.")?,
+        None => write!(
+            text,
+            "{words}. Nothing is saved: there is no --save. {SHOWN}"
+        )?,
+        Some(_) if !outcome.is_saved => {
+            write!(text, "the pack isn't saved; {words}. {SHOWN}")?;
+        }
         Some(path) => push_saved(&mut text, words, path)?,
     }
     Ok(text)

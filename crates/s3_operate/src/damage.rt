@@ -6,8 +6,8 @@ use s3_pack_check::first_damaged;
 use s3_refusals::Shown;
 use std::io::Write;
 
-/// Reports the first damaged label of each level of a pack that the day saves: a job that makes a file may write over the records of that
-/// label's file.
+/// Reports the first damaged label of each level of a day's pack: a job that makes a file may write over the records of that label's
+/// file.
 pub fn report_damage(rt: &HostRuntime, pack: &str, areas: &AreaSlots) {
     for level in 1..3u16 {
         if let Some(slot) = first_damaged(areas, level) {

@@ -11,7 +11,7 @@ use s3_day_files::{
 };
 use s3_day_log::{Begun, DayLog};
 use s3_desk::{Day, Printing, operate_printing};
-use s3_host_files::StandardOutput;
+use s3_host_files::{StandardInput, StandardOutput};
 use s3_operating::{Closing, Desk, Journal, Questioned, Seat, Settings, Tape, Verdict};
 use s3_paper_commands::OutputReason;
 use s3_refusals::Shown;
@@ -20,7 +20,7 @@ use s3_replies::Rules;
 use s3_reports::Reports;
 use std::alloc::{AllocError, Global};
 use std::io;
-use std::io::{IsTerminal, Stderr, Stdin, Write};
+use std::io::{IsTerminal, Stderr, Write};
 
 /// The most bytes that `run` reads.
 const RUN_LIMIT: u64 = 4_194_304;
@@ -50,7 +50,7 @@ const REPLIES_TYPED: &'static str =
     "replies are read from this terminal, one a line, as halts are asked; control-D ends them\n";
 
 /// The desk of the command.
-pub type OwnDesk<'a> = Desk<'a, Stdin, Stderr, NamedOutput<'a>, Watch<'a>>;
+pub type OwnDesk<'a> = Desk<'a, StandardInput<'a>, Stderr, NamedOutput<'a>, Watch<'a>>;
 
 /// The desk with the reports, which go to standard output.
 type PrintingDesk<'a> = Printing<OwnDesk<'a>, StandardOutput<'a>>;
@@ -317,7 +317,7 @@ fn desk_of<'a>(
         settings,
         one,
         two,
-        rt.stdin(),
+        StandardInput::new(rt),
         rt.stderr(),
         Tape::new(rt.alloc(), script),
         Journal::new(log),

@@ -4,7 +4,10 @@ use clap::ArgMatches;
 use s3_command_line::command;
 use s3_day_files::{push_word, replies_of};
 use s3_day_log::DayLog;
+use s3_host_files::shown_name;
+use s3_refusals::Shown;
 use std::alloc::{AllocError, Global};
+use std::io::Write;
 
 /// The options that such a day takes from its log if it is given none of its own, and how they are written.
 const INHERITED: [(&str, &str); 4] = [
@@ -13,6 +16,24 @@ const INHERITED: [(&str, &str); 4] = [
     ("from1", "--from1"),
     ("from2", "--from2"),
 ];
+
+/// The options among them that limit a level.
+const LIMITS: [(&str, &str); 2] = [("turns", "--turns"), ("lines", "--lines")];
+
+/// Reports the limits that a day takes from its log, given the options that were given and all that it has.
+pub fn report_limits(rt: &HostRuntime, path: &str, given: &ArgMatches<'_>, all: &ArgMatches<'_>) {
+    for (name, word) in LIMITS {
+        if let Some(value) = all.get_str(name)
+            && !given.contains_id(name)
+        {
+            let (path, value) = (Shown(shown_name(path)), Shown(value));
+            let _ = writeln!(
+                rt.stderr(),
+                "{word} {value} holds again, as in {path}; give {word} to set another limit"
+            );
+        }
+    }
+}
 
 /// The command line that does a logged day again; `None` if the options of the log can't be read.
 pub fn words_again(

@@ -20,7 +20,7 @@ mod saving;
 use clap::ArgMatches;
 use damage::report_damage;
 use day::{Prepared, operate_prepared};
-use inherited_words::words_again;
+use inherited_words::{report_limits, words_again};
 use s3_cards::LevelId;
 use s3_cli::{CliFault, RunFault, SessionFault};
 use s3_command_line::{OUT_OF_MEMORY, command, names_standard_error};
@@ -66,14 +66,31 @@ fn status_of_day(rt: &HostRuntime, done: Result<u8, DayFault<'_>>) -> u8
 }
 
 /// Does the day of a log again.
-fn operate_again(rt: &HostRuntime, matches: &ArgMatches<'_>, words: &[String], path: &str) -> u8
+fn operate_again<'a>(
+    rt: &HostRuntime,
+    matches: &ArgMatches<'a>,
+    words: &[String],
+    path: &'a str,
+) -> u8
     ensures { result ≤ 5 }
 {
-    let log = match read_log(rt, path) {
-        Ok(log) => log,
-        Err(fault) => return status_of_day(rt, Err(fault)),
-    };
-    let whole = match words_again(rt.alloc(), words, matches, &log) {
+    match read_log(rt, path) {
+        Ok(log) => operate_logged(rt, matches, words, path, &log),
+        Err(fault) => refuse_again(rt, matches, fault),
+    }
+}
+
+/// Does the day of a log again, once the log is read.
+fn operate_logged(
+    rt: &HostRuntime,
+    matches: &ArgMatches<'_>,
+    words: &[String],
+    path: &str,
+    log: &DayLog,
+) -> u8
+    ensures { result ≤ 5 }
+{
+    let whole = match words_again(rt.alloc(), words, matches, log) {
         Ok(Some(whole)) => whole,
         Ok(None) => return refuse_log(rt, matches, path),
         Err(_) => return refuse_for_memory(rt),
@@ -82,8 +99,21 @@ fn operate_again(rt: &HostRuntime, matches: &ArgMatches<'_>, words: &[String], p
         return refuse_for_memory(rt);
     };
     match parser.try_get_matches_from(whole.as_slice()) {
-        Ok(parsed) => operate_parsed(rt, &parsed, &whole, path, &log),
+        Ok(parsed) => {
+            tell_limits(rt, path, matches, &parsed);
+            operate_parsed(rt, &parsed, &whole, path, log)
+        }
         Err(_) => refuse_log(rt, matches, path),
+    }
+}
+
+/// Reports the limits that the day takes from its log, unless it is quiet or the report would get into one of its files.
+fn tell_limits(rt: &HostRuntime, path: &str, given: &ArgMatches<'_>, parsed: &ArgMatches<'_>) {
+    if let Some((_operate, all)) = parsed.subcommand()
+        && !all.get_flag("quiet")
+        && !names_standard_error(rt, "operate", all)
+    {
+        report_limits(rt, path, given, all);
     }
 }
 
@@ -112,13 +142,16 @@ fn operate_parsed<'a>(
     }
 }
 
-/// Refuses to do the day of a log again, before its options are read.
+/// Refuses to do the day of a log again, before the options of the log are read. A list of jobs gets no log.
 fn refuse_again<'a>(rt: &HostRuntime, matches: &ArgMatches<'a>, fault: DayFault<'a>) -> u8
     ensures { result ≤ 5 }
 {
     match order_of(rt, matches) {
-        Ok(order) => status_of_day(rt, Err(log_refusal(rt, &order, fault))),
-        Err(_) => status_of_day(rt, Err(fault)),
+        Ok(order) if !matches.get_flag("jobs") => status_of_day(
+            rt,
+            Err(log_refusal(rt, &order, fault)),
+        ),
+        _ => status_of_day(rt, Err(fault)),
     }
 }
 
@@ -505,7 +538,7 @@ fn mount<'n>(
 }
 
 /// A pack that can be mounted, as it was given; any other is refused before an output is emptied, with the command that shows why.
-/// Damage is reported if the day saves the pack.
+/// Its damage is reported.
 fn mountable<'a>(
     rt: &HostRuntime,
     order: &Order<'_>,
@@ -514,7 +547,7 @@ fn mountable<'a>(
     let beginning = beginning_words(&pack);
     match Pack::over(rt.alloc(), MemoryStore::from_bytes(pack)) {
         Ok(Pack { pool, areas }) => {
-            if let (Some(path), Some(_)) = (order.pack, order.save) {
+            if let Some(path) = order.pack {
                 report_damage(rt, path, &areas);
             }
             Ok(pool.into_bytes())

@@ -315,11 +315,12 @@ fn end_saved<'n>(
     Ok(status)
 }
 
-/// Whether the file at a path has another pack than the one that the day began with.
+/// Whether the file at a path has another pack than the one that the day began with. If it can't be read, the save fails with the reason.
 fn has_other_pack(rt: &HostRuntime, order: &Order<'_>, path: &str) -> bool {
     match order.pack {
         Some(pack) => {
-            is_pack_at(rt, Path::new(path)) && !lead_to_one_file(rt, path_of(pack), path)
+            matches!(is_pack_at(rt, Path::new(path)), Ok(true))
+                && !lead_to_one_file(rt, path_of(pack), path)
         }
         None => false,
     }

@@ -153,10 +153,10 @@ impl<'a> Levels<'a> {
     fn summary(&self, one: Ended, two: Ended) -> Message {
         let mut message = Message::new(self.alloc);
         push_summary(&mut message, &self.one, one);
-        self.push_turns(&mut message, one);
+        self.push_limit(&mut message, one);
         self.push_unused(&mut message, &self.one);
         push_summary(&mut message, &self.two, two);
-        self.push_turns(&mut message, two);
+        self.push_limit(&mut message, two);
         self.push_unused(&mut message, &self.two);
         message
     }
@@ -172,15 +172,21 @@ impl<'a> Levels<'a> {
         }
     }
 
-    /// Appends how many turns a level may take, and what to do, if it was stopped by that.
-    fn push_turns(&self, message: &mut Message, ended: Ended) {
-        if matches!(ended.end, LevelEnd::CutByTurns) {
-            message.push("  it has taken ");
-            message.push_number(u64::from(self.settings.bounds.turns));
-            message.push(
-                " turns, the most that --turns allows: if the program isn't in a loop, give a larger number\n",
-            );
+    /// Appends the limit that stopped a level, and what to do, if one did.
+    fn push_limit(&self, message: &mut Message, ended: Ended) {
+        match ended.end {
+            LevelEnd::CutByTurns => {
+                message.push("  it has taken ");
+                message.push_number(u64::from(self.settings.bounds.turns));
+                message.push(" turns, the most that --turns allows");
+            }
+            LevelEnd::CutByLines => {
+                message.push("  --lines stops it after ");
+                message.push_counted(u64::from(self.settings.bounds.lines), "line");
+            }
+            _ => return,
         }
+        message.push(": if the program isn't in a loop, give a larger number\n");
     }
 }
 

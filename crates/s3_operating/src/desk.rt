@@ -28,9 +28,9 @@ const BEFORE_HALT: &'static str = "that was typed before this question; once mor
 /// Printed for a line that was typed before another question was asked.
 const BEFORE_QUESTION: &'static str = "that was typed before it was asked; once more\n";
 
-/// Printed for a line of replies that doesn't end.
+/// Printed after the number of a line of replies that doesn't end.
 const TOO_LONG: &'static str =
-    "a line of the replies has more than 4,194,304 bytes, so no more replies are read; give --replies - a list with a reply on each line\n";
+    " has more than 4,194,304 bytes, so no more replies are read; give --replies - a list with a reply on each line\n";
 
 /// Asked of a person when an output fails.
 const WITHOUT: &'static str = "go on without it? yes, or no to stop the day ";
@@ -100,6 +100,8 @@ pub struct Desk<'a, R: Read + Drop, W: Write + Drop, F: Write + Drop, C: Clock +
     has_begun: bool,
     refused: Option<LevelId>,
     reader: R,
+    /// How many lines were read.
+    lines_read: u64,
     messages: W,
     pub(crate) clock: C,
     /// When progress was reported last, or the work was continued.
@@ -135,6 +137,7 @@ impl<'a, R: Read + Drop, W: Write + Drop, F: Write + Drop, C: Clock + Drop> Desk
             has_begun: false,
             refused: None,
             reader,
+            lines_read: 0,
             messages,
             clock,
             told_at: 0,
@@ -371,7 +374,10 @@ impl<'a, R: Read + Drop, W: Write + Drop, F: Write + Drop, C: Clock + Drop> Desk
         self.levels
             .seat_mut(level)
             .note_reply(answer.digit, answer.giver.replier());
-        self.levels.seat_mut(level).take_reply(code, answer.digit);
+        let turns = self.turns();
+        self.levels
+            .seat_mut(level)
+            .take_reply(code, answer.digit, turns);
         self.told_at = self.clock.milliseconds();
         Ok(())
     }
@@ -464,9 +470,14 @@ impl<'a, R: Read + Drop, W: Write + Drop, F: Write + Drop, C: Clock + Drop> Desk
             return Ok(None);
         }
         let asked_at = self.clock.milliseconds();
-        let typed = match next_listed(self.levels.alloc, &mut self.reader)? {
+        let listed = next_listed(self.levels.alloc, &mut self.reader)?;
+        self.lines_read = self.lines_read.saturating_add(1);
+        let typed = match listed {
             Listed::Line(typed) => typed,
-            Listed::TooLong => return Ok(self.ended(TOO_LONG)),
+            Listed::TooLong => {
+                self.tell_line_number()?;
+                return Ok(self.ended(TOO_LONG));
+            }
             Listed::Ended | Listed::Failed => return Ok(self.ended("(no more replies)\n")),
         };
         if self.is_too_soon(asked_at) {
@@ -474,6 +485,15 @@ impl<'a, R: Read + Drop, W: Write + Drop, F: Write + Drop, C: Clock + Drop> Desk
             return Ok(Some(Typed::Nothing));
         }
         Ok(Some(typed))
+    }
+
+    /// Prints the number of the line of replies that was read last, before what is wrong with it.
+    fn tell_line_number(&mut self) -> Result<(), AllocError> {
+        let mut message = Message::new(self.levels.alloc);
+        message.push("line ");
+        message.push_number(self.lines_read);
+        message.push(" of the replies");
+        self.tell_message(message)
     }
 
     /// No more replies are read, which is reported.
@@ -590,6 +610,10 @@ impl<'a, R: Read + Drop, W: Write + Drop, F: Write + Drop, C: Clock + Drop> Desk
     ) -> Result<Said, AllocError> {
         let mut message = Message::new(self.levels.alloc);
         let said = self.levels.hear(&mut message, machine, level, typed);
+        if self.levels.is_refused(typed, said) {
+            self.tell_line_number()?;
+            self.tell(": ");
+        }
         self.tell_message(message)?;
         if let Said::Over = said {
             self.stop()?;

@@ -456,6 +456,11 @@ impl<'a> Levels<'a> {
 
     // ---- lines that are typed
 
+    /// Whether a line of a list of replies is refused, given what came of it.
+    pub(crate) fn is_refused(&self, typed: Typed, said: Said) -> bool {
+        !self.is_person_asked() && !matches!(typed, Typed::Nothing) && matches!(said, Said::Nothing)
+    }
+
     /// Interprets a typed line for the halt of a level, and appends the response. Only a person may type more than a reply.
     pub(crate) fn hear<S: PackStore>(
         &self,
@@ -528,7 +533,7 @@ impl<'a> Levels<'a> {
                 "a digit, as 0; a level and a digit, as 1 0; ? for what replies do; show; lines; or stop\n",
             );
         } else {
-            message.push("this line is no reply: ");
+            message.push("this is no reply; give a digit for ");
             self.push_choices(message, level);
             message.push("\n");
         }

@@ -26,7 +26,8 @@ pub struct NotedHalt {
 pub struct JobTurns {
     /// The turns when the job before it in its level was over; 0 for the first job.
     pub first: u64,
-    /// The turns when it was over; those of the whole day if it wasn't.
+    /// The turns when it was over. If a reply ended it, and no job came after it, those when the reply was given. If it wasn't over,
+    /// those of the whole day.
     pub last: u64,
 }
 
@@ -63,10 +64,23 @@ impl<'a, R: Read + Drop, W: Write + Drop, F: Write + Drop, C: Clock + Drop> Desk
 
 /// When the job at a place was at work, given the turns of the whole day.
 fn turns_of(seat: &Seat<'_>, place: usize, turns: u64) -> JobTurns {
-    let last = seat.over_at.get(place).copied().unwrap_or(turns);
+    let last = match seat.over_at.get(place) {
+        Some(over) => *over,
+        // the operator doesn't follow a level that has nothing left to do
+        None if is_ended_by_reply(seat, place) => seat.replied_at,
+        None => turns,
+    };
     let first = match place.checked_sub(1) {
         Some(before) => seat.over_at.get(before).copied().unwrap_or(last),
         None => 0,
     };
     JobTurns { first, last }
+}
+
+/// Whether a reply ended the job at a place, or passed over it.
+fn is_ended_by_reply(seat: &Seat<'_>, place: usize) -> bool {
+    match seat.ledger.begun().get(place) {
+        Some(job) => job.ending.is_some(),
+        None => false,
+    }
 }

@@ -52,6 +52,8 @@ pub struct Seat<'a> {
     spoilt: Vec<usize>,
     /// How many turns both levels had taken when each job that is over was found to be, in order.
     pub(crate) over_at: Vec<u64>,
+    /// How many turns both levels had taken when the last reply was given.
+    pub(crate) replied_at: u64,
     /// The halts, if they are noted.
     pub(crate) noted: Vec<NotedHalt>,
 }
@@ -84,6 +86,7 @@ impl<'a> Seat<'a> {
             over: 0,
             spoilt: Vec::new(alloc),
             over_at: Vec::new(alloc),
+            replied_at: 0,
             noted: Vec::new(alloc),
         }
     }
@@ -190,9 +193,10 @@ impl<'a> Seat<'a> {
         }
     }
 
-    /// Takes note of the reply to the halt that waits.
-    pub(crate) fn take_reply(&mut self, code: HaltCode, digit: u8) {
+    /// Takes note of the reply to the halt that waits, after so many turns of both levels.
+    pub(crate) fn take_reply(&mut self, code: HaltCode, digit: u8, turns: u64) {
         self.replies = self.replies.saturating_add(1);
+        self.replied_at = turns;
         self.waits = None;
         self.shown = None;
         self.ledger.reply(code, digit);

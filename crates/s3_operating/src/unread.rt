@@ -23,11 +23,33 @@ pub fn push_unread(
         text,
         "level {number}: the deck can't be read, and no job of it runs"
     )?;
-    let words = words_of(fault);
-    writeln!(text, "  {place} {words}")?;
-    match line_of(deck.text(), card) {
-        Some(line) if fault != CardFault::TooMany => push_card(text, line, fault),
-        _ => Ok(()),
+    let line = line_of(deck.text(), card).unwrap_or(&[]);
+    match tab_in(line, fault) {
+        Some(column) => writeln!(
+            text,
+            "  {place} has a tab in column {column}; put as many blanks there as bring what follows into its columns; only a source that is typed with tabs belongs into a file whose name ends in .rpg"
+        )?,
+        None => {
+            let words = words_of(fault);
+            writeln!(text, "  {place} {words}")?;
+        }
+    }
+    if fault == CardFault::TooMany || line.is_empty() {
+        return Ok(());
+    }
+    push_card(text, line, fault)
+}
+
+/// The column of the first character of a card that no card has, if it is a tab.
+fn tab_in(line: &[u8], fault: CardFault) -> Option<usize> {
+    if fault != CardFault::BadCharacter {
+        return None;
+    }
+    let place = line.iter().position(|byte| code_of_byte(*byte).is_none())?;
+    if line.get(place).copied() == Some(b'\t') {
+        Some(place.saturating_add(1))
+    } else {
+        None
     }
 }
 

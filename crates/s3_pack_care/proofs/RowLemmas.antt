@@ -1,6 +1,10 @@
 -- Rows that are read one after another, and written so.
-use Rattle.std.proofs.Common.{◌≡◌, ℕ, zero, suc, ◌+◌, ◌≤◌, List, [], ◌∷◌, ◌++◌, length, map, take, drop, slice_get, slice_set, Some, refl, sym, ap, ap₂, ◌∙◌, arith}
-use Rattle.std.proofs.lemmas.List.{drop_all, map-append, take_all, take_more}
+use Rattle.std.proofs.Common.{◌≡◌, ℕ, zero, suc, ◌+◌, ◌-◌, ◌*◌, ◌<◌, ◌≤◌, List, [], ◌∷◌, ◌++◌, length, map, take, drop, slice_get, slice_set, Some, refl, sym, ap, ap₂, ◌∙◌, arith}
+use Rattle.std.proofs.lemmas.List.{drop-drop, drop_all, map-append, take_all, take_more}
+use Rattle.std.proofs.Math.Nat.{add-mul}
+use Rattle.s3_store.specs.Bytes.{bytes_at}
+use Rattle.s3_files.specs.Inner.Files.{ChangesRecord, FileShape}
+use Rattle.s3_pack_care.specs.Inner.Rows.{KeepsTail}
 use Rattle.std.proofs.lemmas.Option.{get_or_from_slice_get, slice_get_within}
 
 pub rows_more : {R A : Type 0} (f : R → A) (rows : List R) (row : R) (all : List A) (i : ℕ) → map f rows ≡ take i all → slice_get all i ≡ Some (f row) → map f (rows ++ row ∷ []) ≡ take (i + 1) all
@@ -36,3 +40,20 @@ got_map f (x ∷ rows) zero row got =
     let e : x ≡ row = cc in
     ap (λ y. Some (f y)) e
 got_map f (x ∷ rows) (suc i) row got = got_map f rows i row got
+
+-- ---- the bytes after the last record
+past : (bytes : List ℕ) (at n end : ℕ) → end ≡ at + n → drop end bytes ≡ drop n (drop at bytes)
+past bytes at n end is = ap (λ k. drop k bytes) is ∙ sym (drop-drop n at bytes)
+
+pub tail_kept : (file : FileShape) (i : ℕ) (old new : List (List ℕ)) → i < file.count → ChangesRecord file i old new → KeepsTail file old new
+tail_kept file i old new low outside =
+    let long : ℕ = file.record_length in
+    let rest : ℕ = file.count - (i + 1) in
+    let counted : file.count ≡ i + (1 + rest) = omega (arith, low) in
+    let first : (i + (1 + rest)) * long ≡ i * long + (1 + rest) * long = add-mul i (1 + rest) long in
+    let next : (1 + rest) * long ≡ 1 * long + rest * long = add-mul 1 rest long in
+    let one : 1 * long ≡ long = omega arith in
+    let end : file.count * long ≡ (i * long + long) + rest * long = ap (λ n. n * long) counted ∙ first ∙ omega (arith, next, one) in
+    past (bytes_at file.sectors new) (i * long + long) (rest * long) (file.count * long) end
+    ∙ ap (drop (rest * long)) outside.after
+    ∙ sym (past (bytes_at file.sectors old) (i * long + long) (rest * long) (file.count * long) end)

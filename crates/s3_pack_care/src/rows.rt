@@ -3,7 +3,7 @@ ghost use Rattle.std.specs.Prelude.{◌≡◌, ◌<◌, length, map, slice_get, 
 ghost use Rattle.std.specs.List.{All};
 ghost use Rattle.s3_files.specs.Inner.Files.{AreStored, records};
 ghost use Rattle.s3_pack_care.specs.Inner.Keys.{fits};
-ghost use Rattle.s3_pack_care.specs.Inner.Rows.{ChangesSectors, IsKeyed, shape_of};
+ghost use Rattle.s3_pack_care.specs.Inner.Rows.{ChangesSectors, IsKeyed, KeepsTail, shape_of};
 
 use crate::fields::SortField;
 use crate::keys::key_of;
@@ -133,6 +133,8 @@ pub fn rows_of(
 fn put_row(store: &mut MemoryStore, file: &Sequential, i: u32, row: &Row) -> Result<(), SortFault>
     requires stored { AreStored file.now.sectors store.old }
     requires long { length row.now.bytes.items ≡ file.now.record_length }
+    requires there { i < file.now.count }
+    ensures tail { KeepsTail (shape_of file.now) store.old store.new }
     ensures ok { OnOk result (records (shape_of file.now) store.new ≡ slice_set (records (shape_of file.now) store.old) i row.now.bytes.items) }
     ensures count { length store.new ≡ length store.old }
     ensures others { ChangesSectors file.now.sectors store.old store.new }
@@ -158,6 +160,7 @@ pub fn write_rows(store: &mut MemoryStore, file: &Sequential, rows: &[Row]) -> R
     requires stored { AreStored file.now.sectors store.old }
     requires long { All (λ row. length row.bytes.items ≡ file.now.record_length) rows.now }
     requires many { length rows.now ≡ file.now.count }
+    ensures tail { KeepsTail (shape_of file.now) store.old store.new }
     ensures ok { OnOk result (records (shape_of file.now) store.new ≡ map (λ row. row.bytes.items) rows.now) }
     ensures count { length store.new ≡ length store.old }
     ensures others { ChangesSectors file.now.sectors store.old store.new }

@@ -5,10 +5,10 @@ ghost use Rattle.s3_slots.specs.Inner.Kept.{IsOfPack};
 ghost use Rattle.s3_slots.specs.Labels.{sectors_of};
 ghost use Rattle.s3_slots.specs.declared.label.Organization.TheVariants.{Sequential as SequentialVariant};
 ghost use Rattle.s3_labels.specs.Contents.{contents_of};
-ghost use Rattle.s3_files.specs.Inner.Files.{AreStored, records};
+ghost use Rattle.s3_files.specs.Inner.Files.{AreStored, file_of, records};
 ghost use Rattle.s3_pack_care.specs.Inner.Frames.{ChangesBytes, ChangesRecords, IsInFile};
 ghost use Rattle.s3_pack_care.specs.Inner.Keys.{fits, key_of};
-ghost use Rattle.s3_pack_care.specs.Inner.Rows.{ChangesSectors, shape_of};
+ghost use Rattle.s3_pack_care.specs.Inner.Rows.{ChangesSectors, KeepsTail, shape_of};
 ghost use Rattle.s3_pack_care.specs.Inner.Sorted.{IsArranged, IsFirstMisfit, IsSorted, RefusesFile, RefusesSort, records_of};
 
 use crate::fields::SortField;
@@ -47,6 +47,7 @@ fn sort_file(
     requires stored { AreStored file.now.sectors store.old }
     requires fields { All (λ field. fits field file.now.record_length ≡ true) fields.now }
     ensures sorted { OnOk result (IsArranged (key_of fields.now) (records (shape_of file.now) store.old) (records (shape_of file.now) store.new)) }
+    ensures tail { KeepsTail (shape_of file.now) store.old store.new }
     ensures count { length store.new ≡ length store.old }
     ensures others { ChangesSectors file.now.sectors store.old store.new }
     ensures fault { IfErr result (λ fault. fault ≡ SortFault.NoMemory) }
@@ -70,6 +71,7 @@ fn sort_label(
     ensures in_order { OnOk result (label.now.organization ≡ SequentialVariant) }
     ensures within { OnOk result (All (λ field. fits field label.now.record_length ≡ true) fields.now) }
     ensures sorted { OnOk result (IsArranged (key_of fields.now) (records_of label.now store.old) (records_of label.now store.new)) }
+    ensures tail { OnOk result (KeepsTail (file_of label.now) store.old store.new) }
     ensures count { length store.new ≡ length store.old }
     ensures others { ChangesSectors (sectors_of label.now) store.old store.new }
     ensures refused { IfErr result (RefusesFile fields.now label.now) }
@@ -109,7 +111,7 @@ fn sorted(
 }
 
 /// The pack of these bytes with the records of a file sorted by the fields, the first field first. Records that are equal in all
-/// fields keep their order. The file must be a sequential one. No byte outside of its sectors changes. An area is 0 for the
+/// fields keep their order. The file must be a sequential one. No byte outside of its records changes. An area is 0 for the
 /// masters, 1 or 2 for a level.
 ///
 /// Refused with `Mount` by the header; with `Label` if no sound file has the label; with `NotInOrder` if the file is indexed or

@@ -325,6 +325,6 @@ fn print_record(
     )?;
     match StandardOutput::new(rt).write_all(text.as_slice()) {
         Ok(()) => Ok(()),
-        Err(_) => Err(Fault::File(output_sentence(rt.alloc())?)),
+        Err(error) => Err(Fault::File(output_sentence(rt.alloc(), Some(error))?)),
     }
 }

@@ -80,7 +80,7 @@ fn plain_words(mistake: &Mistake) -> &'static str {
         Mistake::Twice(_) => "the field {field} is named twice; leave one value out",
         Mistake::Overlap(..) => "the fields {field} and {other} overlap; leave one of them out",
         Mistake::InKey(_) =>
-            "the field {field} is in the key, by which the index finds the record, so it can't be changed; add a record with the other key by `bureau load --append`",
+            "the field {field} is in the key, by which the index finds the record, so it can't be changed; add a record with the other key by `bureau load --append`; if the file is full, unload it, delete it, and load all of its records with more space by --records",
         Mistake::NoNumber(0) => "the file has no records; add some by `bureau load --append`",
         Mistake::NoNumber(_) =>
             "--record isn't a number of a record; the file has records 1 to {number}",

@@ -24,8 +24,8 @@ pub fn check_in_json(rt: &HostRuntime, matches: &ArgMatches<'_>) -> u8
 fn print_wrongs(rt: &HostRuntime, path: &str) -> Result<(), Fault> {
     let wrongs = wrongs_of(rt, path)?;
     let text = checked(rt.alloc(), &wrongs)?;
-    if StandardOutput::new(rt).write_all(text.as_slice()).is_err() {
-        return Err(Fault::File(output_sentence(rt.alloc())?));
+    if let Err(error) = StandardOutput::new(rt).write_all(text.as_slice()) {
+        return Err(Fault::File(output_sentence(rt.alloc(), Some(error))?));
     }
     match wrongs.len() {
         0 => Ok(()),

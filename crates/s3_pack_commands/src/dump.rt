@@ -6,9 +6,9 @@ use clap::ArgMatches;
 use s3_data_commands::fault::{Fault, Use, of_call, of_pack};
 use s3_data_commands::filled::Words;
 use s3_data_commands::pack_words::{
-    Save, pack_of, refuse_file_there, refused, saved, tell, tell_done,
+    Save, output_beside, pack_of, refuse_file_there, refused, saved, tell, tell_done,
 };
-use s3_data_commands::sentences::output_sentence;
+use s3_data_commands::sentences::{output_sentence, unread_sentence};
 use s3_data_commands::standard_input::{InputFault, read_input};
 use s3_data_commands::words::{OVERWRITE, PACK, SAVE};
 use s3_dump::{RestoreFault, Unlaid};
@@ -28,9 +28,6 @@ use std::{fs, io};
 /// The refusal of a text that is too long.
 const TOO_LONG: &str =
     "standard input has more than 268,435,456 bytes, and no dump of a pack is as long; give the text that `bureau dump` printed, and nothing after it";
-
-/// The refusal of standard input that can't be read.
-const UNREAD: &str = "standard input can't be read; give it the dump by < FILE or by a pipe";
 
 /// The first line of each dump.
 const FIRST_NOTE: &[u8] = b"# a dump of `bureau`: [codes], *zeros, # notes";
@@ -115,8 +112,9 @@ fn print_dump(rt: &HostRuntime, matches: &ArgMatches<'_>, path: &str) -> Result<
     let layouts = file_layouts(rt.alloc(), &found)?;
     let dump = s3_dump::dump(rt.alloc(), &pack, &layouts)?;
     let notes = missing_notes(rt.alloc(), &found)?;
-    if write_texts(rt, dump.text.as_slice(), notes.as_str().as_bytes()).is_err() {
-        return Err(Fault::File(output_sentence(rt.alloc())?));
+    let mut output = output_beside(rt, path)?;
+    if let Err(error) = write_texts(&mut output, dump.text.as_slice(), notes.as_str().as_bytes()) {
+        return Err(Fault::File(output_sentence(rt.alloc(), Some(error))?));
     }
     for file in &dump.unlaid {
         tell(rt, unlaid_sentence(rt.alloc(), path, file))?;
@@ -125,8 +123,7 @@ fn print_dump(rt: &HostRuntime, matches: &ArgMatches<'_>, path: &str) -> Result<
 }
 
 /// Writes two texts to standard output, one after the other.
-fn write_texts(rt: &HostRuntime, one: &[u8], other: &[u8]) -> io::Result<()> {
-    let mut output = StandardOutput::new(rt);
+fn write_texts(output: &mut StandardOutput<'_>, one: &[u8], other: &[u8]) -> io::Result<()> {
     output.write_all(one)?;
     output.write_all(other)
 }
@@ -318,7 +315,9 @@ fn dump_text(rt: &HostRuntime) -> Result<Vec<u8>, Fault> {
     match read_input(rt.alloc(), rt.stdin()) {
         Ok(text) => Ok(text),
         Err(InputFault::TooLong) => Err(refused(String::from_str(rt.alloc(), TOO_LONG))),
-        Err(InputFault::Failed) => Err(Fault::File(String::from_str(rt.alloc(), UNREAD)?)),
+        Err(InputFault::Failed(error)) => {
+            Err(Fault::File(unread_sentence(rt.alloc(), error, "dump")?))
+        }
         Err(InputFault::NoMemory) => Err(Fault::NoMemory),
     }
 }

@@ -29,4 +29,4 @@ pub use deck::{is_plain_text, tell_waiting};
 pub use encodings::{deck_encoding_words, encoding_words};
 pub use entries::{ENTRIES, list_entries};
 pub use output_reason::OutputReason;
-pub use punch::{PUNCH, punch_files, tell_punched};
+pub use punch::{PUNCH, punch_files, tell_errors, tell_punched};

@@ -349,8 +349,7 @@ fn tell_count(rt: &HostRuntime, counted: Counted) {
 /// Reports the errors of a file that was punched, or else how many of its lines were changed and left out, if any were. It returns
 /// whether the file is in error.
 pub fn tell_punched(rt: &HostRuntime, file: &str, punched: &Punched) -> bool {
-    if !punched.faults.is_empty() {
-        tell_faults(rt, file, &punched.faults);
+    if tell_errors(rt, file, punched) {
         return true;
     }
     let counted = Counted::NONE.with(&punched.changes);
@@ -364,4 +363,13 @@ pub fn tell_punched(rt: &HostRuntime, file: &str, punched: &Punched) -> bool {
         );
     }
     false
+}
+
+/// Reports the errors of a file that was punched. It returns whether the file is in error.
+pub fn tell_errors(rt: &HostRuntime, file: &str, punched: &Punched) -> bool {
+    let is_faulty = !punched.faults.is_empty();
+    if is_faulty {
+        tell_faults(rt, file, &punched.faults);
+    }
+    is_faulty
 }

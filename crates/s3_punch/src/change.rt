@@ -59,6 +59,11 @@ pub struct LineChange {
     pub changes: Changes,
 }
 
+/// Whether the table has a plain character for another one. It has none for a character of ASCII.
+fn has_mark(character: char) -> bool {
+    !character.is_ascii() && in_table(character).is_some()
+}
+
 /// What is done to a line that becomes a card.
 pub fn changes_of(
     form: LineForm,
@@ -70,9 +75,7 @@ pub fn changes_of(
         is_left_out: false,
         has_small: characters.iter().any(|character| is_small(*character)),
         has_tabs: characters.iter().any(|character| *character == TAB),
-        has_marks: characters
-            .iter()
-            .any(|character| in_table(*character).is_some()),
+        has_marks: characters.iter().any(|character| has_mark(*character)),
         has_pieces: form == LineForm::InPieces,
         has_remark,
         has_return,

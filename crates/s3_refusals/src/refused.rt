@@ -19,9 +19,9 @@ pub enum Work<'a> {
     /// This file was in error, in this work.
     File(&'a str, FileWork),
     /// A read of standard input failed.
-    StandardInput,
-    /// A write of standard output failed.
-    StandardOutput,
+    StandardInput(io::Error),
+    /// A write of standard output failed, for a reason that may be known.
+    StandardOutput(Option<io::Error>),
     /// It had read this pack.
     Pack(&'a str),
 }
@@ -84,11 +84,21 @@ impl<'a> Refused<'a> {
     fn explain<W: Write>(&self, writer: &mut W) -> io::Result<()> {
         match self.work {
             Work::File(name, work) => explain_file(writer, name, work),
-            Work::StandardInput => writeln!(
-                writer,
-                "Standard input can't be read, so nothing is done. Give a file with the decks and the script: `bureau run < FILE`."
-            ),
-            Work::StandardOutput => writeln!(
+            Work::StandardInput(error) => {
+                let reason = Reason(error);
+                writeln!(
+                    writer,
+                    "Standard input can't be read, so nothing is done: {reason}. Give a file with the decks and the script: `bureau run < FILE`."
+                )
+            }
+            Work::StandardOutput(Some(error)) => {
+                let reason = Reason(error);
+                writeln!(
+                    writer,
+                    "Standard output can't be written, and no pack is saved: {reason}."
+                )
+            }
+            Work::StandardOutput(None) => writeln!(
                 writer,
                 "Standard output can't be written, and no pack is saved. Its disk may be full, or the program that reads it has ended."
             ),

@@ -8,7 +8,7 @@ use Rattle.std.proofs.lemmas.List.{drop-append-le, length-append}
 use Rattle.std.proofs.lemmas.Grind.{flat_map-append}
 use Rattle.s3_bureau.specs.declared.entry.Entry.{Entry}
 use Rattle.s3_replay.specs.declared.performed.Repeated.{Repeated}
-use Rattle.s3_replay.specs.Inner.Taped.{AreKnown, EndsWith, HasScript, HasText, IsOnTape}
+use Rattle.s3_replay.specs.Inner.Taped.{AreKnown, EndsWith, HasScript, HasText, IsOnTape, Tapes}
 use Rattle.s3_replay.specs.Inner.Written.{entries_in, is_part_writable, part_lines, text_of}
 
 pub kept : (old between new : Option (List ℕ)) (bytes : List ℕ) → Appends old between bytes → Keeps between new → Appends old new bytes
@@ -111,3 +111,30 @@ has_failed contents file failure entries parts failed writable ask known =
       ask = ask;
       written = subst (λ (b : Bool). HasText (option_and_then contents file) b (text_of parts)) (sym failed) tt;
     }
+
+-- ---- what a call appends
+no_parts : (parts : List Repeated) → parts ≡ parts ++ []
+no_parts [] = refl
+no_parts (part ∷ parts) = ap (λ (ps : List Repeated). part ∷ ps) (no_parts parts)
+
+no_bytes : (bytes : List ℕ) → bytes ≡ bytes ++ []
+no_bytes [] = refl
+no_bytes (byte ∷ bytes) = ap (λ (bs : List ℕ). byte ∷ bs) (no_bytes bytes)
+
+no_more : (known : Option (List ℕ)) → Appends known known []
+no_more None = tt
+no_more (Some bytes) = no_bytes bytes
+
+pub tapes_nothing : {F E : Type 0} (contents : F → Option (List ℕ)) (file : Option F) (failure : Option E) (parts : List Repeated) → Tapes contents file file failure parts parts
+tapes_nothing contents file failure parts = record { more = []; written = no_parts parts; appended = λ works. no_more (option_and_then contents file) }
+
+-- a text is written, or that fails
+pub tapes_more : {F E : Type 0} (contents : F → Option (List ℕ)) (old new : Option F) (failure : Option E) (parts next all : List Repeated) (text : List ℕ) → text ≡ text_of next → all ≡ parts ++ next
+    → MatchOption failure (Appends (option_and_then contents old) (option_and_then contents new) text) (λ _. ⊤) → Tapes contents old new failure parts all
+tapes_more contents old new None parts next all text is joined written =
+    record { more = next; written = joined; appended = λ works. subst (Appends (option_and_then contents old) (option_and_then contents new)) is written }
+tapes_more contents old new (Some e) parts next all text is joined written = record { more = next; written = joined; appended = λ works. cc }
+
+-- nothing is written after a failure
+pub tapes_failed : {F E : Type 0} (contents : F → Option (List ℕ)) (old new : Option F) (failure : Option E) (parts next all : List Repeated) → is_some failure ≡ true → all ≡ parts ++ next → Tapes contents old new failure parts all
+tapes_failed contents old new failure parts next all failed joined = record { more = next; written = joined; appended = λ works. let no : true ≡ false = sym failed ∙ works in absurd cc }

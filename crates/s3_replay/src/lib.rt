@@ -7,7 +7,8 @@
 //! entries as they were performed, `script_text` is proved to be their script (`text_of`), and `run` to read exactly those
 //! entries from it (`scripts_read_back`). `Tape` writes that script to a file during a day: unless a write failed, the file is
 //! proved to end with the script of the parts written so far, whatever happens between two calls, and after `finish` with the
-//! script of all entries that were performed. The premise is a type of file whose bytes are known, as of one in memory.
+//! script of all entries that were performed. The premise is a type of file whose bytes are known, as of one in memory. Each call of
+//! `Tape` appends the script of the parts that it adds, and nothing else (`Tapes`).
 
 #![tactic(auto)]
 

@@ -1,8 +1,8 @@
 //! The script as it is written, reply by reply.
-ghost use Rattle.std.specs.Prelude.{◌≡◌, ◌++◌, true, is_some, IfSome, MatchOption, OnOk, ⊤};
+ghost use Rattle.std.specs.Prelude.{◌≡◌, ◌++◌, [], None, true, is_some, IfSome, MatchOption, OnOk, ⊤};
 ghost use Rattle.std.specs.Option.{option_and_then};
 ghost use Rattle.std.specs.Io.KnownBytes.{Appends};
-ghost use Rattle.s3_replay.specs.Inner.Taped.{AreKnown, HasScript, IsOnTape};
+ghost use Rattle.s3_replay.specs.Inner.Taped.{AreKnown, HasScript, IsOnTape, Tapes};
 
 use crate::performed::{Performed, Repeated, are_same};
 use crate::script::script_text;
@@ -12,7 +12,8 @@ use std::io;
 use std::io::{ErrorKind, Write};
 
 /// Where the script of a day is written. Unless a write has failed, the bytes of the file end with the script of the parts that are
-/// written, if these bytes are known.
+/// written, if these bytes are known. Each call appends just the text of the parts that it writes: a file that was empty has only the
+/// script.
 #[derive(Drop)]
 pub struct Tape<F: Write + Drop> {
     file: Option<F>,
@@ -29,7 +30,10 @@ pub struct Tape<F: Write + Drop> {
 impl<F: Write + Drop> Tape<F> {
     /// A script that is written to a file, or to none.
     #[tactic(auto, using(crate::proofs::Taping::nothing_yet))]
-    pub fn new(alloc: Global, file: Option<F>) -> Tape<F> {
+    pub fn new(alloc: Global, file: Option<F>) -> Tape<F>
+        ensures file { result.file ≡ file }
+        ensures nothing { result.written.items ≡ [] }
+    {
         Tape {
             file,
             written: Vec::new(alloc),
@@ -42,12 +46,16 @@ impl<F: Write + Drop> Tape<F> {
     /// Writes what was performed up to the last reply, if there is a new one. If a level halts and nothing is written yet, writes what
     /// was performed up to there, so that a script that can't be written is found before the first reply. The last part isn't written:
     /// it may still grow.
+    #[tactic(auto, using(crate::proofs::Taping::tapes_nothing))]
     pub fn follow(
         &mut self,
         alloc: Global,
         parts: &[Repeated],
         is_halted: bool,
-    ) -> Result<(), AllocError> {
+    ) -> Result<(), AllocError>
+        ensures tapes { OnOk result (Tapes F.contents self.old.file self.new.file self.new.failure self.old.written.items self.new.written.items) }
+        ensures failed { OnOk result (is_some self.old.failure ≡ true → is_some self.new.failure ≡ true) }
+    {
         let whole = parts.len().saturating_sub(1);
         let from = self.seen.max(self.written.len());
         if from >= whole {
@@ -63,9 +71,11 @@ impl<F: Write + Drop> Tape<F> {
 
     /// Writes all that was performed. Unless a write has failed, the file then ends with the script that asks for just that. If the
     /// parts that are written aren't the first ones of these, that counts as a failure.
-    #[tactic(auto, using(crate::proofs::Taping::has_script, crate::proofs::Taping::has_failed, crate::proofs::Taping::after_failure))]
+    #[tactic(auto, using(crate::proofs::Taping::has_script, crate::proofs::Taping::has_failed, crate::proofs::Taping::after_failure, crate::proofs::Taping::tapes_nothing))]
     pub fn finish(&mut self, alloc: Global, performed: &Performed) -> Result<(), AllocError>
-        ensures { OnOk result (AreKnown F.contents → HasScript (option_and_then F.contents self.new.file) (is_some self.new.failure) performed.now) }
+        ensures tapes { OnOk result (Tapes F.contents self.old.file self.new.file self.new.failure self.old.written.items self.new.written.items) }
+        ensures failed { OnOk result (is_some self.old.failure ≡ true → is_some self.new.failure ≡ true) }
+        ensures script { OnOk result (AreKnown F.contents → HasScript (option_and_then F.contents self.new.file) (is_some self.new.failure) performed.now) }
     {
         let parts = performed.parts();
         match unwritten(parts, &self.written) {
@@ -78,9 +88,11 @@ impl<F: Write + Drop> Tape<F> {
     }
 
     /// Writes further parts. After a failure nothing more is written.
-    #[tactic(auto, using(crate::proofs::Taping::after_failure, crate::proofs::Taping::one_more))]
+    #[tactic(auto, using(crate::proofs::Taping::after_failure, crate::proofs::Taping::one_more, crate::proofs::Taping::tapes_more, crate::proofs::Taping::tapes_failed))]
     fn write(&mut self, alloc: Global, next: &[Repeated]) -> Result<(), AllocError>
-        ensures { OnOk result (self.new.written.items ≡ self.old.written.items ++ next.now) }
+        ensures tapes { OnOk result (Tapes F.contents self.old.file self.new.file self.new.failure self.old.written.items self.new.written.items) }
+        ensures failed { OnOk result (is_some self.old.failure ≡ true → is_some self.new.failure ≡ true) }
+        ensures written { OnOk result (self.new.written.items ≡ self.old.written.items ++ next.now) }
     {
         let text = script_text(alloc, next)?;
         self.written.extend_from_slice(next)?;
@@ -115,7 +127,9 @@ impl<F: Write + Drop> Tape<F> {
 
     /// From now on no script is written.
     #[tactic(auto, using(crate::proofs::Taping::no_file))]
-    pub fn give_up(&mut self) {
+    pub fn give_up(&mut self)
+        ensures { self.new.file ≡ None }
+    {
         self.file = None;
         self.failure = None;
     }

@@ -1,13 +1,13 @@
 " What the cards of an RPG II source have in which columns. The table is in rpgii_entries.vim, which `tools/check/editors` writes.
 
-" Whether lines are those of a source or of a deck that begins with one: between its statements, each line that isn't blank is a card of a
-" sheet, and there are two at least.
+" Whether lines are those of a source or of a deck that begins with one: between its statements and its comments, as a ruler, each line that
+" isn't blank is a card of a sheet, and there are two at least.
 function! rpgii#IsSource(lines) abort
   let l:cards = 0
   for l:line in a:lines
     if l:line =~# '^/[*&]'
       break
-    elseif l:line =~# '^//' || l:line =~# '^[#%]' || l:line =~# '^\s*$'
+    elseif l:line =~# '^//' || l:line =~# '^[#%]' || l:line =~# '^.\{6}\*' || l:line =~# '^\s*$'
       continue
     elseif l:line !~? '^\%([ 0-9]\{5}\|\t\)[HFICO]'
       return 0

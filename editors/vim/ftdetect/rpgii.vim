@@ -1,3 +1,3 @@
-" RPG II of the IBM System/3: files named *.rpg, and files whose cards have H, F, I, C or O in column 6.
-autocmd BufNewFile,BufRead *.rpg,*.RPG set filetype=rpgii
+" RPG II of the IBM System/3: files named *.rpg or *.punch, and files whose cards have H, F, I, C or O in column 6.
+autocmd BufNewFile,BufRead *.rpg,*.RPG,*.punch,*.PUNCH set filetype=rpgii
 autocmd BufNewFile,BufRead * if !did_filetype() && rpgii#IsSource(getline(1, 60)) | setfiletype rpgii | endif

@@ -9,8 +9,9 @@ compiler bureau
 setlocal textwidth=0 nowrap expandtab
 setlocal comments=:# commentstring=#%s
 setlocal omnifunc=rpgii#Complete
-" a tab goes to the next entry of the card's sheet, as blanks
-inoremap <buffer> <expr> <Tab> rpgii#Tab()
+" A tab goes to the next entry of the card's sheet, as blanks. Vim asks an <expr> mapping before it has inserted the characters that were
+" typed ahead, and this one after it.
+inoremap <buffer> <silent> <Tab> <C-R>=rpgii#Tab()<CR>
 " the entry at the cursor, as `C 28-32 operation`
 setlocal statusline=%f\ %m%=%{rpgii#Ruler()}\ \ %l,%v
 if !get(g:, "rpgii_keeps_laststatus", 0)

@@ -32,11 +32,14 @@ use Rattle.s3_cycle.specs.declared.progress.Continuation.{Continuation}
 use Rattle.s3_cycle.specs.declared.progress.Continuation.TheVariants as after
 use Rattle.s3_cycle.specs.declared.progress.Point.{Point}
 use Rattle.s3_cycle.specs.declared.progress.Point.TheVariants as at
+use Rattle.s3_cycle.specs.declared.progress.Selection.{Selection}
 use Rattle.s3_cycle.specs.declared.stand.Stand.{Stand}
 use Rattle.s3_cycle.specs.declared.stand.Stand.TheVariants.{Nowhere, Head, Field, ChainedField, Calculation, Output}
+use Rattle.s3_cycle.specs.declared.stand.Totals.{Totals}
+use Rattle.s3_cycle.specs.declared.stand.Totals.TheVariants as totals
 use Rattle.s3_cycle.specs.declared.stepper.Stepper.{Stepper}
 use Rattle.s3_cycle.specs.Inner.Going.{IsField, IsLineAt, own, held_by}
-use Rattle.s3_cycle.specs.Inner.Rest.{calculating, division_then, field_then, head_again, lines_from, moved_bytes, rest, selected_input, starts_of}
+use Rattle.s3_cycle.specs.Inner.Rest.{calculating, division_then, field_then, head_again, lines_from, moved_bytes, rest, selected_bytes, selected_input, starts_of}
 
 -- ---- where it stands
 -- the output line before the next one of those that are put out together
@@ -92,6 +95,26 @@ record_at c (Field place file number) = moved_bytes c.progress moves.Selected
 record_at c (ChainedField place) = moved_bytes c.progress moves.Chained
 record_at c (Output file place) = filled c.composition
 record_at c stand = []
+
+-- ---- the totals that it is at
+-- those before a record
+abbrev pub totals_before : Progress → Selection → Totals
+totals_before progress selection = on (selected_input progress selection)
+  where
+    on : Option InputFile → Totals
+    on None = totals.Elsewhere
+    on (Some input) = totals.Before input.file selection.number
+
+abbrev pub totals_of : Progress → Time → Totals
+totals_of progress (time.Details selection) = totals.Elsewhere
+totals_of progress (time.Totals selection) = totals_before progress selection
+totals_of progress time.Last = totals.Last
+
+-- the record that they come before
+abbrev pub record_behind : Progress → Time → List ℕ
+record_behind progress (time.Details selection) = []
+record_behind progress (time.Totals selection) = selected_bytes progress selection
+record_behind progress time.Last = []
 
 -- ---- the CHAIN that it stands at
 abbrev pub is_chain : Option Operation → Bool

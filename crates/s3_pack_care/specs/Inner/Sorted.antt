@@ -21,6 +21,7 @@ use Rattle.s3_pack_care.specs.Inner.Kept.{AreOn, slot_on}
 use Rattle.s3_pack_care.specs.declared.fault.CareFault.{CareFault}
 use Rattle.s3_pack_care.specs.declared.fault.CareFault.TheVariants.{Label as LabelOfCare, Mount as MountOfCare}
 use Rattle.s3_pack_care.specs.Inner.Keys.{fits, key_of}
+use Rattle.s3_pack_care.specs.Inner.Rows.{KeepsTail}
 use Rattle.s3_pack_care.specs.declared.sort_fault.SortFault.{SortFault}
 use Rattle.s3_pack_care.specs.declared.sort_fault.SortFault.TheVariants.{Field, Label, Mount, NoMemory, NotInOrder}
 use Rattle.s3_pack_care.specs.declared.fields.SortField.{SortField}
@@ -51,6 +52,7 @@ pub record IsSortedIn (area : ℕ) (name : Name) (fields : List SortField) (head
   pub in_order : label.organization ≡ Sequential
   pub within : All (λ field. fits field label.record_length ≡ true) fields
   pub sorted : IsArranged (key_of fields) (records_of label old) (records_of label new)
+  pub tail : KeepsTail (file_of label) old new
   pub others : (a i : ℕ) (other : FileLabel) → a < 3 → slot_on header old a i ≡ Some (Sound other) → (a ≡ area → i ≡ slot → ⊥) → file_bytes other new ≡ file_bytes other old
 
 -- a mounted pack in which the file of a label of an area is sorted

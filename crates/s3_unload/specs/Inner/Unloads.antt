@@ -70,7 +70,7 @@ abbrev pub IsUnloadRefusal : Area → Name → Layout → ChosenRecords → List
 IsUnloadRefusal area name layout chosen contents (Mount fault) = IsFindRefusal area name contents (Mount fault)
 IsUnloadRefusal area name layout chosen contents NotFound = IsFindRefusal area name contents NotFound
 IsUnloadRefusal area name layout chosen contents DamagedLabel = IsFindRefusal area name contents DamagedLabel
-IsUnloadRefusal area name layout chosen contents (OtherLength long) = Refuses area name contents (λ label. label.record_length ≢ layout.record_length)
+IsUnloadRefusal area name layout chosen contents (OtherLength long) = Refuses area name contents (λ label. (long ≡ label.record_length) × (label.record_length ≢ layout.record_length))
 IsUnloadRefusal area name layout chosen contents BadIndex = Refuses area name contents (λ label. IsOpenRefusal label contents BadIndex)
 IsUnloadRefusal area name layout chosen contents (Hidden number field fault) = Refuses area name contents (λ label. HasHidden layout.fields.items chosen (in_order label contents) number)
 IsUnloadRefusal area name layout chosen contents (NoCharacter number position) = ⊥

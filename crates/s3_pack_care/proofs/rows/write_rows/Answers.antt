@@ -15,6 +15,7 @@ loop-i-preserved c = record {
       ∙ put_more c.loop-i.i (records (shape_of c.args.file.now) c.args.store.now) (map (λ (row : Row). row.bytes.items) c.args.rows.now) c.row_of.result.now.bytes.items
       (length_records c.args.file.now.record_length c.args.file.now.count (bytes_at c.args.file.now.sectors c.args.store.now) ∙ sym (length-map c.args.rows.now (λ (row : Row). row.bytes.items) ∙ c.requires.many))
       (got_map (λ (row : Row). row.bytes.items) c.args.rows.now c.loop-i.i c.row_of.result.now c.row_of.ensures);
+  tail = c.in_ok-put_row.ensures.tail ∙ c.loop-i.invariant.tail;
   count = c.in_ok-put_row.ensures.count ∙ c.loop-i.invariant.count;
   others = λ n out. c.in_ok-put_row.ensures.others n out ∙ c.loop-i.invariant.others n out;
 }

@@ -19,7 +19,7 @@ returns-in_ok-sort_label-in-Present-clause-sorted c = record {
   sorted =
       sorted_is c.args.area c.args.name c.in-Present.label c.in_ok-store.field-0.areas c.args.store c.in_ok-store.field-0.store c.sort_label.new.store c.requires c.in_ok-store.ensures.ok c.in_ok-store.ensures.same
       (sym (c.standing_of.ensures ∙ ap (standing c.args.name) c.slots_of.ensures.slots) ∙ c.in-Present.is) c.in_ok-sort_label-in-Present.ensures.others c.in_ok-sort_label-in-Present.ensures.count
-      c.args.fields.now c.in_ok-sort_label-in-Present.ensures.in_order c.in_ok-sort_label-in-Present.ensures.within c.in_ok-sort_label-in-Present.ensures.sorted;
+      c.args.fields.now c.in_ok-sort_label-in-Present.ensures.in_order c.in_ok-sort_label-in-Present.ensures.within c.in_ok-sort_label-in-Present.ensures.sorted c.in_ok-sort_label-in-Present.ensures.tail;
 }
 
 pub returns-in_ok-sort_label-in-Present-clause-only : goal.returns-in_ok-sort_label-in-Present-clause-only
