@@ -1,7 +1,7 @@
 // What the cards of an RPG II source have in which columns. The table is in entries.json, which `tools/check/editors` writes.
 "use strict";
 
-const { stops, entries } = require("./entries.json");
+const { stops, fields, entries } = require("./entries.json");
 
 // A line as its card has it: capitals, and tabs as blanks.
 function cardOf(line) {
@@ -36,10 +36,25 @@ function kindOf(card) {
   return { sheet, card: /\S/.test(card.slice(6, sheet === "I" ? 14 : 15)) ? "record" : "field" };
 }
 
-// The entries of a card.
+// The entries of a kind of card.
+function entriesOfKind(kind) {
+  return kind ? entries.filter((entry) => entry.sheet === kind.sheet && entry.card === kind.card) : [];
+}
+
+// Whether nothing of a card shows yet whether it is one of a record or of a field. Its kind is then that of a field.
+function isUndecided(card, kind) {
+  return kind !== null && kind.card === "field" && !/\S/.test(card.slice(fields[kind.sheet] - 1, 74));
+}
+
+// The entries of a card. One that isn't decided has those of a record too, except in columns of a field's entries.
 function entriesOf(card) {
   const kind = kindOf(card);
-  return kind ? entries.filter((entry) => entry.sheet === kind.sheet && entry.card === kind.card) : [];
+  const found = entriesOfKind(kind);
+  if (!isUndecided(card, kind)) {
+    return found;
+  }
+  const others = entriesOfKind({ sheet: kind.sheet, card: "record" });
+  return others.filter((other) => found.every((entry) => other.to < entry.from || entry.to < other.from)).concat(found);
 }
 
 // The entry of a column, from 1. If two entries share it, it is the one whose values the card has, or the later one.

@@ -16,8 +16,9 @@ stopped=130
 # executables of each kind
 most_kept=4
 
+# Standard error may be full.
 say() {
-    echo "$name: $*" >&2
+    printf '%s\n' "$name: $*" >&2 || true
 }
 
 # Prints the checksum of the sources that the proof reads. It covers the path of each.

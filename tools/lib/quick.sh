@@ -55,7 +55,7 @@ compile() {
     fi
     tried_for=
     [ $outcome -ne 3 ] || compile_by_try
-    [ $outcome -eq 0 ] || { cat "$log" >&2; say "the program doesn't compile"; exit $failed; }
+    [ $outcome -eq 0 ] || { cat "$log" >&2 || true; say "the program doesn't compile"; exit $failed; }
     if [ "$made_from" = "$(sources)" ]; then
         keep "$kept/unstamped"
         [ -z "$tried_for" ] || echo "$tried_for" > "$(by_try)"
@@ -68,7 +68,7 @@ compile() {
 
 # The status 3 of tools/lib/unproved says that it didn't find its way into the kit; its message says what it looked for.
 compile_by_try() {
-    cat "$log" >&2
+    cat "$log" >&2 || true
     say "tools/lib/unproved doesn't work with this kit, so rt try builds the program: the executable is slow and has run-time tests"
     kind=tested
     tried_for=$(circumstances)
@@ -80,7 +80,8 @@ progress() {
     echo "compiling"
 }
 
-# Prints which executable runs, unless it is a proved one. samples/month-end/run knows the message by its first words.
+# Prints which executable runs, unless it is a proved one. bureau does so only on a terminal, check always. samples/month-end/run
+# knows the message by its first words.
 tell() {
     case $kind in
         plain) say "runs without a proof made here; $(whose_proof)" ;;

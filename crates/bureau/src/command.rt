@@ -28,6 +28,7 @@ use s3_host_files::{
 };
 use s3_manual::{Manual, help_notes, is_manual, manual_of, manual_parser};
 use s3_operate::operate;
+use s3_pack_check::{Cause, check_pack};
 use s3_pack_commands::amend::amend_file;
 use s3_pack_commands::check::check_in_json;
 use s3_pack_commands::dump::{dump_pack, restore_pack};
@@ -470,6 +471,7 @@ fn init(rt: &HostRuntime, matches: &ArgMatches<'_>) -> u8
         pack,
         locked,
         limit,
+        left_out,
     } = match make_pack(rt, matches) {
         Ok(made) => made,
         Err(refused) => return tell_refused(rt, &refused),
@@ -487,6 +489,7 @@ fn init(rt: &HostRuntime, matches: &ArgMatches<'_>) -> u8
             if is_replaced {
                 report_replaced(rt, path);
             }
+            report_left_out(rt, matches, left_out);
             DONE
         }
         Err(FileFault::Exists) => refuse_occupied(rt, matches),
@@ -520,6 +523,8 @@ struct NewPack {
     locked: Option<LockedPack>,
     /// The most that its file lets anyone do: what the file lets them do that it was made from.
     limit: Option<Limit>,
+    /// How many damaged labels of the pack that it was made from it doesn't have.
+    left_out: usize,
 }
 
 /// The pack that `bureau init` makes, of an old one or of none.
@@ -543,11 +548,46 @@ fn make_pack<'a>(rt: &HostRuntime, matches: &ArgMatches<'a>) -> Result<NewPack, 
         quota(matches, "quota2"),
     )
     .map_err(|fault| of_pack(CliFault::Image(fault), from))?;
+    let left_out = match &old {
+        Some(old) if rt.stderr().is_terminal() => damaged_labels(rt, old),
+        _ => 0,
+    };
     Ok(NewPack {
         pack,
         locked,
         limit,
+        left_out,
     })
+}
+
+/// How many labels of a pack are damaged.
+fn damaged_labels(rt: &HostRuntime, pack: &[u8]) -> usize {
+    match check_pack(rt.alloc(), pack) {
+        Ok(wrongs) => wrongs
+            .iter()
+            .filter(|wrong| matches!(wrong.cause, Cause::Label(_)))
+            .count(),
+        Err(_) => 0,
+    }
+}
+
+/// Reports at a terminal how many damaged labels aren't in the pack that is made of another one.
+fn report_left_out(rt: &HostRuntime, matches: &ArgMatches<'_>, count: usize) {
+    let Some(from) = matches.get_str("from") else {
+        return;
+    };
+    let from = Shown(from);
+    let _ = match count {
+        0 => Ok(()),
+        1 => writeln!(
+            rt.stderr(),
+            "A damaged label of {from} is left out, with its file."
+        ),
+        _ => writeln!(
+            rt.stderr(),
+            "{count} damaged labels of {from} are left out, with their files."
+        ),
+    };
 }
 
 /// `bureau list`.

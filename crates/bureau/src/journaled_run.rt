@@ -84,7 +84,7 @@ fn run_once<'a>(
     let limit = limit_of(rt, path)?;
     keep_journal_apart(rt, journal, &[path, Some(save)])?;
     let mut journal = JournalFile::open(rt, journal, limit)?;
-    match run_noted(rt, matches, path, pack, &mut journal) {
+    match run_noted(rt, matches, path, save, pack, &mut journal) {
         Ok(saved) => {
             let is_replaced = replaces_other(rt, save, &locked);
             let done = save_pack(rt, save, locked, limit, &[path], &saved);
@@ -109,6 +109,7 @@ fn run_noted<'a>(
     rt: &HostRuntime,
     matches: &ArgMatches<'a>,
     path: Option<&'a str>,
+    save: &'a str,
     pack: Vec<u8>,
     journal: &mut JournalFile<'a>,
 ) -> Result<Vec<u8>, RunRefusal<'a>> {
@@ -116,15 +117,15 @@ fn run_noted<'a>(
     let input = input_of(rt, path)?;
     let ran = ran_of(rt, path, &input)?;
     let before = checksum_of(rt.alloc(), &pack)?;
-    if !matches.get_flag("again") {
-        test_start(rt, journal, path, before.as_str(), &ran)?;
-    }
+    let does_again = matches.get_flag("again");
+    test_start(rt, journal, path, before.as_str(), &ran, does_again)?;
     let saved = session_of(rt, path, pack, &input)?;
     let after = checksum_of(rt.alloc(), &saved)?;
     let line = NewLine {
         before: before.as_str(),
         after: after.as_str(),
         status: DONE,
+        save: Some(save),
     };
     journal.append(rt, line, Work::Run(ran))?;
     Ok(saved)
@@ -170,13 +171,14 @@ fn ran_of<'a>(
     })
 }
 
-/// Refuses a run that the journal doesn't let begin.
+/// Refuses a run that the journal doesn't let begin, unless `--again` is given.
 fn test_start<'a>(
     rt: &HostRuntime,
     journal: &JournalFile<'a>,
     path: Option<&'a str>,
     before: &str,
     ran: &Ran,
+    does_again: bool,
 ) -> Result<(), JournalRefusal<'a>> {
     let pack = GivenPack {
         name: path.unwrap_or("the new pack"),
@@ -186,6 +188,10 @@ fn test_start<'a>(
         one: ran.deck1.as_str(),
         two: ran.deck2.as_str(),
     };
+    if does_again {
+        journal.report_again(rt, pack, posting);
+        return Ok(());
+    }
     journal.test_start(rt, pack, posting, AGAIN)
 }
 

@@ -1,3 +1,4 @@
+pub mod NameLemmas
 pub mod OwnLemmas
 pub mod PartLemmas
 pub mod Shown

@@ -15,6 +15,7 @@ use Rattle.s3_diagnose.specs.Inner.Order.{AreInOrder}
 use Rattle.s3_blame.specs.declared.parts.Part.{Part}
 use Rattle.s3_blame.specs.Inner.Changes.{Entry}
 use Rattle.s3_blame.specs.Inner.Marks.{span, fails, entry_of}
+use Rattle.s3_blame.specs.Inner.Names.{Names}
 use Rattle.s3_blame.specs.Inner.OwnMarks.{BeginsAt, HasAllMarks, HasMarks, MarksFirst, PassesLine, are_marked, chosen, is_marked, marks, own_marks}
 
 same : (n : ℕ) → (n == n) ≡ true
@@ -84,40 +85,40 @@ among card number parts wanted entries found spans failing is =
     ap (λ es. are_marked card number es found) (sym both) ∙ is
 
 -- ---- the diagnostics of a card
-has_more : (line : Line) (number : ℕ) (old more : List FaultyEntry) → HasMarks line old number → HasMarks line (old ++ more) number
-has_more line number old more is = marked_more line.card number (own_marks line.sheet number) old more is
+has_more : (names : Names) (line : Line) (number : ℕ) (old more : List FaultyEntry) → HasMarks names line old number → HasMarks names line (old ++ more) number
+has_more names line number old more is = marked_more line.card number (own_marks names line.sheet number) old more is
 
-has_behind : (line : Line) (number : ℕ) (old more : List FaultyEntry) → HasMarks line more number → HasMarks line (old ++ more) number
-has_behind line number old more is = marked_behind line.card number (own_marks line.sheet number) old more is
+has_behind : (names : Names) (line : Line) (number : ℕ) (old more : List FaultyEntry) → HasMarks names line more number → HasMarks names line (old ++ more) number
+has_behind names line number old more is = marked_behind line.card number (own_marks names line.sheet number) old more is
 
 -- so many diagnostics have their marks
-pub record MarksSoFar (line : Line) (told : List Diagnostic) (count : ℕ) (marked : List FaultyEntry) : Type 0 where
-  pub each : (k : ℕ) (d : Diagnostic) → k < count → HasMarks line marked (get_or told k d).number
+pub record MarksSoFar (names : Names) (line : Line) (told : List Diagnostic) (count : ℕ) (marked : List FaultyEntry) : Type 0 where
+  pub each : (k : ℕ) (d : Diagnostic) → k < count → HasMarks names line marked (get_or told k d).number
 
-pub none_so_far : (line : Line) (told : List Diagnostic) → MarksSoFar line told 0 []
-none_so_far line told = record { each = λ k d low. absurd (omega (arith, low)) }
+pub none_so_far : (names : Names) (line : Line) (told : List Diagnostic) → MarksSoFar names line told 0 []
+none_so_far names line told = record { each = λ k d low. absurd (omega (arith, low)) }
 
-pub one_more_so_far : (line : Line) (told : List Diagnostic) (count : ℕ) (diagnostic : Diagnostic) (old more new : List FaultyEntry) → count < length told
-    → new ≡ old ++ more → HasMarks line more (get_or told count diagnostic).number → MarksSoFar line told count old → MarksSoFar line told (count + 1) new
-one_more_so_far line told count diagnostic old more new within added has before = record {
-  each = λ k d low. subst (λ marked. HasMarks line marked (get_or told k d).number) (sym added) (elim (cases_eq k count) [
+pub one_more_so_far : (names : Names) (line : Line) (told : List Diagnostic) (count : ℕ) (diagnostic : Diagnostic) (old more new : List FaultyEntry) → count < length told
+    → new ≡ old ++ more → HasMarks names line more (get_or told count diagnostic).number → MarksSoFar names line told count old → MarksSoFar names line told (count + 1) new
+one_more_so_far names line told count diagnostic old more new within added has before = record {
+  each = λ k d low. subst (λ marked. HasMarks names line marked (get_or told k d).number) (sym added) (elim (cases_eq k count) [
     | inl here ↦
         let one : get_or told k d ≡ get_or told count diagnostic = ap (λ n. get_or told n d) here ∙ get_or_default told count d diagnostic within in
-        has_behind line (get_or told k d).number old more (subst (λ (x : Diagnostic). HasMarks line more x.number) (sym one) has)
-    | inr other ↦ has_more line (get_or told k d).number old more (before.each k d (omega (arith, low, other)))
+        has_behind names line (get_or told k d).number old more (subst (λ (x : Diagnostic). HasMarks names line more x.number) (sym one) has)
+    | inr other ↦ has_more names line (get_or told k d).number old more (before.each k d (omega (arith, low, other)))
   ]);
 }
 
-pub ends_at_other : (line : Line) (told : List Diagnostic) (count : ℕ) (diagnostic : Diagnostic) (marked : List FaultyEntry) → count < length told → (get_or told count diagnostic).card ≢ line.card
-    → MarksSoFar line told count marked → MarksFirst line told marked
-ends_at_other line told count diagnostic marked within other before = record {
+pub ends_at_other : (names : Names) (line : Line) (told : List Diagnostic) (count : ℕ) (diagnostic : Diagnostic) (marked : List FaultyEntry) → count < length told → (get_or told count diagnostic).card ≢ line.card
+    → MarksSoFar names line told count marked → MarksFirst names line told marked
+ends_at_other names line told count diagnostic marked within other before = record {
   count = count;
   each = before.each;
   end = λ d low same_card. other (ap (λ (x : Diagnostic). x.card) (get_or_default told count diagnostic d within) ∙ same_card);
 }
 
-pub ends_with_all : (line : Line) (told : List Diagnostic) (count : ℕ) (marked : List FaultyEntry) → length told ≤ count → MarksSoFar line told count marked → MarksFirst line told marked
-ends_with_all line told count marked whole before = record { count = count; each = before.each; end = λ d low same_card. absurd (omega (arith, low, whole)) }
+pub ends_with_all : (names : Names) (line : Line) (told : List Diagnostic) (count : ℕ) (marked : List FaultyEntry) → length told ≤ count → MarksSoFar names line told count marked → MarksFirst names line told marked
+ends_with_all names line told count marked whole before = record { count = count; each = before.each; end = λ d low same_card. absurd (omega (arith, low, whole)) }
 
 -- ---- where the diagnostics of a card begin
 -- so many diagnostics are of cards before this one
@@ -199,14 +200,14 @@ ascends from (line ∷ lines) ascend (suc i) (suc j) d e h low =
 
 -- ---- lines, one after another
 -- of the lines before a place each has its marks, and what is left of the diagnostics are all but some of cards before the line there
-pub record HasPassed (lines : List Line) (told : List Diagnostic) (place : ℕ) (rest : List Diagnostic) (marked : List FaultyEntry) : Type 0 where
+pub record HasPassed (names : Names) (lines : List Line) (told : List Diagnostic) (place : ℕ) (rest : List Diagnostic) (marked : List FaultyEntry) : Type 0 where
   pub passed : ℕ
   pub is : rest ≡ drop passed told
   pub low : (k : ℕ) (d : Diagnostic) (j : ℕ) (line : Line) → k < passed → place ≤ j → j < length lines → (get_or told k d).card < (get_or lines j line).card
-  pub done : (j : ℕ) (line : Line) → j < place → HasAllMarks told marked (get_or lines j line)
+  pub done : (j : ℕ) (line : Line) → j < place → HasAllMarks names told marked (get_or lines j line)
 
-pub none_passed : (lines : List Line) (told : List Diagnostic) → HasPassed lines told 0 told []
-none_passed lines told = record { passed = 0; is = refl; low = λ k d j line h. absurd (omega (arith, h)); done = λ j line h. absurd (omega (arith, h)) }
+pub none_passed : (names : Names) (lines : List Line) (told : List Diagnostic) → HasPassed names lines told 0 told []
+none_passed names lines told = record { passed = 0; is = refl; low = λ k d j line h. absurd (omega (arith, h)); done = λ j line h. absurd (omega (arith, h)) }
 
 drop_nothing : (k : ℕ) → drop {A = Diagnostic} k [] ≡ []
 drop_nothing zero = refl
@@ -218,9 +219,9 @@ drop_more (suc n) m [] = drop_nothing m ∙ sym (drop_nothing (suc n + m))
 drop_more (suc n) m (x ∷ xs) = let e : suc n + m ≡ suc (n + m) = omega arith in rw e (drop_more n m xs)
 
 -- what is left begins with the diagnostics of a card, so that these have their marks
-here_marked : (line : Line) (told rest : List Diagnostic) (passed : ℕ) (more : List FaultyEntry) → rest ≡ drop passed told → AreInOrder told → ((k : ℕ) (d : Diagnostic) → k < passed → (get_or told k d).card < line.card)
-    → ((d : Diagnostic) → passed < length told → line.card ≤ (get_or told passed d).card) → MarksFirst line rest more → HasAllMarks told more line
-here_marked line told rest passed more is order below at first k d low on = elim (less_or_not k passed) [
+here_marked : (names : Names) (line : Line) (told rest : List Diagnostic) (passed : ℕ) (more : List FaultyEntry) → rest ≡ drop passed told → AreInOrder told → ((k : ℕ) (d : Diagnostic) → k < passed → (get_or told k d).card < line.card)
+    → ((d : Diagnostic) → passed < length told → line.card ≤ (get_or told passed d).card) → MarksFirst names line rest more → HasAllMarks names told more line
+here_marked names line told rest passed more is order below at first k d low on = elim (less_or_not k passed) [
   | inl before ↦ let less = below k d before in absurd (omega (arith, less, on))
   | inr behind ↦
       let long : length rest ≡ length told - passed = ap length is ∙ length-drop passed told in
@@ -228,7 +229,7 @@ here_marked line told rest passed more is order below at first k d low on = elim
       let in_rest : (i : ℕ) → get_or rest i d ≡ get_or told (passed + i) d = λ i. ap (λ xs. get_or xs i d) is ∙ get_or-drop passed told i d in
       let here : get_or rest (k - passed) d ≡ get_or told k d = in_rest (k - passed) ∙ ap (λ i. get_or told i d) place in
       elim (less_or_not (k - passed) first.count) [
-        | inl counted ↦ subst (λ (x : Diagnostic). HasMarks line more x.number) here (first.each (k - passed) d counted)
+        | inl counted ↦ subst (λ (x : Diagnostic). HasMarks names line more x.number) here (first.each (k - passed) d counted)
         | inr over ↦
             let low_end : first.count < length rest = omega (arith, over, long, low, behind) in
             let up : (get_or told (passed + first.count) d).card ≤ (get_or told k d).card = rises told order (passed + first.count) k d (omega (arith, over, behind)) low in
@@ -239,10 +240,10 @@ here_marked line told rest passed more is order below at first k d low on = elim
       ]
 ]
 
-pub one_more_passed : (from : ℕ) (lines : List Line) (told old_rest rest : List Diagnostic) (place : ℕ) (item : Line) (old new : List FaultyEntry) → place < length lines
-    → AreInOrder told → cards_ascend from lines ≡ true → BeginsAt (get_or lines place item).card old_rest rest → PassesLine lines place rest old new → HasPassed lines told place old_rest old
-    → HasPassed lines told (place + 1) rest new
-one_more_passed from lines told old_rest rest place item old new within order ascend begins passes before =
+pub one_more_passed : (names : Names) (from : ℕ) (lines : List Line) (told old_rest rest : List Diagnostic) (place : ℕ) (item : Line) (old new : List FaultyEntry) → place < length lines
+    → AreInOrder told → cards_ascend from lines ≡ true → BeginsAt (get_or lines place item).card old_rest rest → PassesLine names lines place rest old new → HasPassed names lines told place old_rest old
+    → HasPassed names lines told (place + 1) rest new
+one_more_passed names from lines told old_rest rest place item old new within order ascend begins passes before =
     let line : Line = get_or lines place item in
     let is : line ≡ get_or lines place line = get_or_default lines place item line within in
     let n = before.passed in
@@ -262,7 +263,7 @@ one_more_passed from lines told old_rest rest place item old new within order as
       | inl less ↦ absurd (begins.first d (omega (arith, low, long)) (subst (λ (x : Diagnostic). x.card < line.card) (sym (in_old m d)) less))
       | inr not_less ↦ not_less
     ] in
-    let here : HasAllMarks told passes.more line = here_marked line told rest (n + m) passes.more whole order below at first in
+    let here : HasAllMarks names told passes.more line = here_marked names line told rest (n + m) passes.more whole order below at first in
     record {
       passed = n + m;
       is = whole;
@@ -274,14 +275,14 @@ one_more_passed from lines told old_rest rest place item old new within order as
       done = λ j other h. elim (cases_eq j place) [
         | inl same_place ↦
             let this : get_or lines j other ≡ line = ap (λ i. get_or lines i other) same_place ∙ get_or_default lines place other line within ∙ sym is in
-            subst (HasAllMarks told new) (sym this) (λ k d low on. subst (λ marked. HasMarks line marked (get_or told k d).number) (sym passes.added) (has_behind line (get_or told k d).number old passes.more (here k d low on)))
-        | inr earlier ↦ λ k d low on. subst (λ marked. HasMarks (get_or lines j other) marked (get_or told k d).number) (sym passes.added)
-            (has_more (get_or lines j other) (get_or told k d).number old passes.more (before.done j other (omega (arith, h, earlier)) k d low on))
+            subst (HasAllMarks names told new) (sym this) (λ k d low on. subst (λ marked. HasMarks names line marked (get_or told k d).number) (sym passes.added) (has_behind names line (get_or told k d).number old passes.more (here k d low on)))
+        | inr earlier ↦ λ k d low on. subst (λ marked. HasMarks names (get_or lines j other) marked (get_or told k d).number) (sym passes.added)
+            (has_more names (get_or lines j other) (get_or told k d).number old passes.more (before.done j other (omega (arith, h, earlier)) k d low on))
       ];
     }
 
-pub all_passed : (lines : List Line) (told : List Diagnostic) (place : ℕ) (rest : List Diagnostic) (marked : List FaultyEntry) → length lines ≤ place → HasPassed lines told place rest marked → All (HasAllMarks told marked) lines
-all_passed lines told place rest marked whole before = λ k d low. before.done k d (omega (arith, whole, low))
+pub all_passed : (names : Names) (lines : List Line) (told : List Diagnostic) (place : ℕ) (rest : List Diagnostic) (marked : List FaultyEntry) → length lines ≤ place → HasPassed names lines told place rest marked → All (HasAllMarks names told marked) lines
+all_passed names lines told place rest marked whole before = λ k d low. before.done k d (omega (arith, whole, low))
 
 -- ---- what is marked for a number
 -- one entry alone

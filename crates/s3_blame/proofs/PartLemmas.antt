@@ -1,15 +1,27 @@
 -- Entries that are marked are among those of the table.
-use Rattle.std.proofs.Common.{◌≡◌, ℕ, ◌<◌, ◌==◌, List, [], ◌∷◌, ◌++◌, Bool, true, false, refl, ◌∙◌, ap, inl, inr, length, get_or}
-use Rattle.std.specs.Prelude.{◌&&◌, ◌||◌, map, filter}
+use Rattle.std.proofs.Common.{◌≡◌, ℕ, ◌<◌, ◌==◌, List, [], ◌∷◌, ◌++◌, Bool, true, false, refl, sym, ◌∙◌, ap, inl, inr, length, get_or}
+use Rattle.std.specs.Prelude.{◌&&◌, ◌||◌, not, map, filter}
 use Rattle.std.specs.List.{list_all, list_any}
 use Rattle.std.proofs.lemmas.Bool.{cases_Bool, eq-eqb, eqb-true, and_parts}
 use Rattle.std.proofs.lemmas.List.Folds.{list_all-append, list_any_at}
+use Rattle.s3_cards.specs.declared.name.Name.{Name}
+use Rattle.s3_lines.specs.declared.sheet.CalculationLine.{CalculationLine}
+use Rattle.s3_lines.specs.declared.sheet.FileLine.{FileLine}
+use Rattle.s3_lines.specs.declared.sheet.InputLine.{InputLine}
+use Rattle.s3_lines.specs.declared.sheet.InputLine.TheVariants as input
 use Rattle.s3_lines.specs.declared.sheet.Line.{Line}
+use Rattle.s3_lines.specs.declared.sheet.OutputLine.{OutputLine}
+use Rattle.s3_lines.specs.declared.sheet.OutputLine.TheVariants as output
+use Rattle.s3_lines.specs.declared.sheet.SheetLine.TheVariants as sheet
+use Rattle.s3_sheets.specs.declared.kind.CardKind.TheVariants as kind
 use Rattle.s3_sheets.specs.declared.parts.FaultyEntry.{FaultyEntry}
 use Rattle.s3_blame.specs.declared.parts.Part.{Part}
 use Rattle.s3_blame.specs.Inner.Changes.{Entry}
-use Rattle.s3_blame.specs.Inner.Entries.{entries_on}
-use Rattle.s3_blame.specs.Inner.Marks.{span, fails, entry_of, has_columns, is_of, are_of, is_listed_on, are_listed_on, is_listed}
+use Rattle.s3_blame.specs.Inner.Entries.{entries_on, entries_tested, kind_of_input, kind_of_output}
+use Rattle.s3_blame.specs.Inner.Marks.{span, fails, entry_of, has_columns, is_of, are_of, is_listed_on}
+use Rattle.s3_blame.specs.Inner.Names.{Names}
+use Rattle.s3_blame.specs.Inner.OwnMarks.{are_marks_on, chosen, is_mark_among, is_mark_on, is_named, marks_of_calculation, marks_of_input, marks_of_output, own_marks}
+use Rattle.s3_blame.proofs.TableLemmas.{and_5, field_5, file_5, line_5, line_and_5, line_or_5, or_5, put_5, record_5}
 
 same : (n : ℕ) → (n == n) ≡ true
 same n = eq-eqb n n refl
@@ -61,11 +73,109 @@ at_fault_are_parts card number parts found e = ap (are_of card number (map span 
           | inr good ↦ rw good more
         ]
 
+-- .. and of those parts that are in error
+pub at_fault_are_chosen : (card number : ℕ) (parts : List Part) (found : List FaultyEntry)
+    → found ≡ map (entry_of card number) (filter fails parts) → are_of card number (chosen (map fails parts) (map span parts)) found ≡ true
+unfolding chosen
+at_fault_are_chosen card number parts found e = ap (are_of card number (chosen (map fails parts) (map span parts))) e ∙ those parts
+  where
+    those : (ps : List Part) → are_of card number (chosen (map fails ps) (map span ps)) (map (entry_of card number) (filter fails ps)) ≡ true
+    those [] = refl
+    those (p ∷ ps) =
+        let entries = chosen (map fails ps) (map span ps) in
+        let more : are_of card number (span p ∷ entries) (map (entry_of card number) (filter fails ps)) ≡ true =
+        wider card number (span p) entries (map (entry_of card number) (filter fails ps)) (those ps) in
+        elim (cases_Bool p.is_at_fault) [
+          | inl bad ↦ rw (bad, own_entry card number p entries) more
+          | inr good ↦ rw good (those ps)
+        ]
+
+pub chosen_at : (marks_of : ℕ → List Entry) (n card number : ℕ) (parts : List Part) (wanted : List Bool) (entries : List Entry) (found : List FaultyEntry) → number ≡ n → marks_of n ≡ chosen wanted entries → map span parts ≡ entries
+    → map fails parts ≡ wanted → are_of card number (chosen (map fails parts) (map span parts)) found ≡ true → are_of card number (marks_of number) found ≡ true
+chosen_at marks_of n card number parts wanted entries found is same spans failing of =
+    let both : chosen (map fails parts) (map span parts) ≡ chosen wanted entries = ap (λ fs. chosen fs (map span parts)) failing ∙ ap (chosen wanted) spans in
+    ap (λ m. are_of card number (marks_of m) found) is
+    ∙ ap (λ es. are_of card number es found) (same ∙ sym both)
+    ∙ of
+
+-- ---- marks for 5
+-- an entry of a number of a line's card
+named_one : (names : Names) (line : Line) (number : ℕ) (e : FaultyEntry) → is_of line.card number (entries_on line.sheet number) e ≡ true
+    → (number ≡ 5 → is_of line.card number (own_marks names line.sheet number) e ≡ true) → is_named names line e ≡ true
+named_one names line number e of own = elim (cases_Bool (e.number == 5)) [
+  | inl five ↦
+      let n : e.number ≡ number = eqb-true e.number number (and_left (e.number == number) (list_any (has_columns e) (entries_on line.sheet number))
+      (and_right (e.card == line.card) ((e.number == number) && list_any (has_columns e) (entries_on line.sheet number)) of)) in
+      let is : number ≡ 5 = sym n ∙ eqb-true e.number 5 five in
+      let own_of = own is in
+      let columns : list_any (has_columns e) (own_marks names line.sheet number) ≡ true = and_right (e.number == number) (list_any (has_columns e) (own_marks names line.sheet number))
+      (and_right (e.card == line.card) ((e.number == number) && list_any (has_columns e) (own_marks names line.sheet number)) own_of) in
+      let there : list_any (has_columns e) (own_marks names line.sheet 5) ≡ true = ap (λ m. list_any (has_columns e) (own_marks names line.sheet m)) (sym is) ∙ columns in
+      rw there (or_true (not (e.number == 5)))
+  | inr other ↦ rw other refl
+]
+
+named_all : (names : Names) (line : Line) (number : ℕ) (marked : List FaultyEntry) → are_of line.card number (entries_on line.sheet number) marked ≡ true
+    → (number ≡ 5 → are_of line.card number (own_marks names line.sheet number) marked ≡ true) → list_all (is_named names line) marked ≡ true
+named_all names line number [] of own = refl
+named_all names line number (e ∷ marked) of own =
+    rw (named_one names line number e (and_left (is_of line.card number (entries_on line.sheet number) e) (are_of line.card number (entries_on line.sheet number) marked) of)
+    (λ is. and_left (is_of line.card number (own_marks names line.sheet number) e) (are_of line.card number (own_marks names line.sheet number) marked) (own is)))
+    (named_all names line number marked (and_right (is_of line.card number (entries_on line.sheet number) e) (are_of line.card number (entries_on line.sheet number) marked) of)
+    (λ is. and_right (is_of line.card number (own_marks names line.sheet number) e) (are_of line.card number (own_marks names line.sheet number) marked) (own is)))
+
+-- on a C card
+pub named_calculation : (names : Names) (line : Line) (calculation : CalculationLine Name) (number : ℕ) (marked : List FaultyEntry) → line.sheet ≡ sheet.Calculation calculation
+    → are_of line.card number (entries_tested kind.Calculation number) marked ≡ true
+    → (number ≡ 5 → are_of line.card number (marks_of_calculation names calculation number) marked ≡ true) → list_all (is_named names line) marked ≡ true
+named_calculation names line calculation number marked is of own =
+    named_all names line number marked (ap (λ s. are_of line.card number (entries_on s number) marked) is ∙ of)
+    (λ five. ap (λ s. are_of line.card number (own_marks names s number) marked) is ∙ own five)
+
+-- on others all that the table has for 5 is marked
+by_table : (names : Names) (line : Line) (number : ℕ) (marked : List FaultyEntry) → own_marks names line.sheet 5 ≡ entries_on line.sheet 5
+    → are_of line.card number (entries_on line.sheet number) marked ≡ true → list_all (is_named names line) marked ≡ true
+by_table names line number marked same of =
+    named_all names line number marked of
+    (λ five. ap (λ m. are_of line.card number (own_marks names line.sheet m) marked) five ∙ ap (λ es. are_of line.card number es marked) same
+    ∙ ap (λ m. are_of line.card number (entries_on line.sheet m) marked) (sym five) ∙ of)
+
+pub named_file : (names : Names) (line : Line) (file : FileLine) (number : ℕ) (marked : List FaultyEntry) → line.sheet ≡ sheet.File file
+    → are_of line.card number (entries_tested kind.File number) marked ≡ true → list_all (is_named names line) marked ≡ true
+named_file names line file number marked is of =
+    by_table names line number marked (ap (λ s. own_marks names s 5) is ∙ (sym file_5 ∙ ap (λ s. entries_on s 5) (sym is)))
+    (ap (λ s. are_of line.card number (entries_on s number) marked) is ∙ of)
+
+same_input : (input : InputLine Name) → marks_of_input input 5 ≡ entries_tested (kind_of_input input) 5
+same_input (input.Record file indicator codes) = sym record_5
+same_input (input.And codes) = sym and_5
+same_input (input.Or indicator codes) = sym or_5
+same_input (input.Field field) = sym field_5
+
+pub named_input : (names : Names) (line : Line) (input : InputLine Name) (number : ℕ) (marked : List FaultyEntry) → line.sheet ≡ sheet.Input input
+    → are_of line.card number (entries_tested (kind_of_input input) number) marked ≡ true → list_all (is_named names line) marked ≡ true
+named_input names line input number marked is of =
+    by_table names line number marked (ap (λ s. own_marks names s 5) is ∙ (same_input input ∙ ap (λ s. entries_on s 5) (sym is)))
+    (ap (λ s. are_of line.card number (entries_on s number) marked) is ∙ of)
+
+same_output : (output : OutputLine Name) → marks_of_output output 5 ≡ entries_tested (kind_of_output output) 5
+same_output (output.Line card) = sym line_5
+same_output (output.And conditions) = sym line_and_5
+same_output (output.Or conditions) = sym line_or_5
+same_output (output.Field field) = sym put_5
+
+pub named_output : (names : Names) (line : Line) (output : OutputLine Name) (number : ℕ) (marked : List FaultyEntry) → line.sheet ≡ sheet.Output output
+    → are_of line.card number (entries_tested (kind_of_output output) number) marked ≡ true → list_all (is_named names line) marked ≡ true
+named_output names line output number marked is of =
+    by_table names line number marked (ap (λ s. own_marks names s 5) is ∙ (same_output output ∙ ap (λ s. entries_on s 5) (sym is)))
+    (ap (λ s. are_of line.card number (entries_on s number) marked) is ∙ of)
+
+-- ---- marks of lines
 -- those of a number of a line's card
-listed : (line : Line) (number : ℕ) (marked : List FaultyEntry) → are_of line.card number (entries_on line.sheet number) marked ≡ true
-    → are_listed_on line marked ≡ true
-listed line number [] of = refl
-listed line number (e ∷ marked) of =
+listed : (names : Names) (line : Line) (number : ℕ) (marked : List FaultyEntry) → are_of line.card number (entries_on line.sheet number) marked ≡ true
+    → list_all (is_named names line) marked ≡ true → are_marks_on names line marked ≡ true
+listed names line number [] of named = refl
+listed names line number (e ∷ marked) of named =
     let first : is_of line.card number (entries_on line.sheet number) e ≡ true =
     and_left (is_of line.card number (entries_on line.sheet number) e) (are_of line.card number (entries_on line.sheet number) marked) of in
     let rest : are_of line.card number (entries_on line.sheet number) marked ≡ true =
@@ -73,24 +183,25 @@ listed line number (e ∷ marked) of =
     let n : e.number ≡ number = eqb-true e.number number (and_left (e.number == number) (list_any (has_columns e) (entries_on line.sheet number))
     (and_right (e.card == line.card) ((e.number == number) && list_any (has_columns e) (entries_on line.sheet number)) first)) in
     let on : is_listed_on e line ≡ true = ap (λ m. is_of line.card m (entries_on line.sheet m) e) n ∙ first in
-    rw on (listed line number marked rest)
+    rw (on, and_left (is_named names line e) (list_all (is_named names line) marked) named)
+    (listed names line number marked rest (and_right (is_named names line e) (list_all (is_named names line) marked) named))
 
-pub more_on_line : (line : Line) (number : ℕ) (old more : List FaultyEntry) → are_listed_on line old ≡ true
-    → are_of line.card number (entries_on line.sheet number) more ≡ true → are_listed_on line (old ++ more) ≡ true
-more_on_line line number old more so_far of =
-    list_all-append (λ e. is_listed_on e line) old more
-    ∙ rw so_far (listed line number more of)
+pub more_on_line : (names : Names) (line : Line) (number : ℕ) (old more : List FaultyEntry) → are_marks_on names line old ≡ true
+    → are_of line.card number (entries_on line.sheet number) more ≡ true → list_all (is_named names line) more ≡ true → are_marks_on names line (old ++ more) ≡ true
+more_on_line names line number old more so_far of named =
+    list_all-append (λ e. is_mark_on names e line) old more
+    ∙ rw so_far (listed names line number more of named)
 
 -- those of a line among others
-on_lines : (lines : List Line) (i : ℕ) (d : Line) (marked : List FaultyEntry) → i < length lines
-    → are_listed_on (get_or lines i d) marked ≡ true → list_all (is_listed lines) marked ≡ true
-on_lines lines i d [] in' of = refl
-on_lines lines i d (e ∷ marked) in' of =
-    rw (list_any_at (is_listed_on e) lines i d in' (and_left (is_listed_on e (get_or lines i d)) (are_listed_on (get_or lines i d) marked) of))
-    (on_lines lines i d marked in' (and_right (is_listed_on e (get_or lines i d)) (are_listed_on (get_or lines i d) marked) of))
+on_lines : (names : Names) (lines : List Line) (i : ℕ) (d : Line) (marked : List FaultyEntry) → i < length lines
+    → are_marks_on names (get_or lines i d) marked ≡ true → list_all (is_mark_among names lines) marked ≡ true
+on_lines names lines i d [] in' of = refl
+on_lines names lines i d (e ∷ marked) in' of =
+    rw (list_any_at (is_mark_on names e) lines i d in' (and_left (is_mark_on names e (get_or lines i d)) (are_marks_on names (get_or lines i d) marked) of))
+    (on_lines names lines i d marked in' (and_right (is_mark_on names e (get_or lines i d)) (are_marks_on names (get_or lines i d) marked) of))
 
-pub more_on_lines : (lines : List Line) (i : ℕ) (d : Line) (old more : List FaultyEntry) → list_all (is_listed lines) old ≡ true → i < length lines
-    → are_listed_on (get_or lines i d) more ≡ true → list_all (is_listed lines) (old ++ more) ≡ true
-more_on_lines lines i d old more so_far in' of =
-    list_all-append (is_listed lines) old more
-    ∙ rw so_far (on_lines lines i d more in' of)
+pub more_on_lines : (names : Names) (lines : List Line) (i : ℕ) (d : Line) (old more : List FaultyEntry) → list_all (is_mark_among names lines) old ≡ true → i < length lines
+    → are_marks_on names (get_or lines i d) more ≡ true → list_all (is_mark_among names lines) (old ++ more) ≡ true
+more_on_lines names lines i d old more so_far in' of =
+    list_all-append (is_mark_among names lines) old more
+    ∙ rw so_far (on_lines names lines i d more in' of)

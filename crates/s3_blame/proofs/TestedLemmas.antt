@@ -14,7 +14,9 @@ use Rattle.s3_sheets.specs.Kinds.{kind_of}
 use Rattle.s3_sheets.specs.Lines.{sheet_line, line_at, line_of, card_at, lines_below, lines_of}
 use Rattle.s3_blame.specs.Inner.Tested.{takes_away, IsTested, IsTestedOn, AreTested}
 use Rattle.s3_blame.specs.Inner.Entries.{Row, rows_of, is_for, entry_in, entries_on, kind_of_line}
-use Rattle.s3_blame.specs.Inner.Marks.{has_columns, is_listed_on, is_listed}
+use Rattle.s3_blame.specs.Inner.Marks.{has_columns, is_listed_on}
+use Rattle.s3_blame.specs.Inner.Names.{Names}
+use Rattle.s3_blame.specs.Inner.OwnMarks.{is_mark_among, is_mark_on, is_named}
 use Rattle.s3_blame.proofs.Shown.{is_shown, all_shown}
 
 -- ---- the table
@@ -116,10 +118,11 @@ in_lines p from cards (suc n) e =
     ]
 
 -- ---- entries that are marked
-listed_is_tested : (from : ℕ) (cards : List (List ℕ)) (e : FaultyEntry) → is_listed (lines_of from cards) e ≡ true → IsTestedOn from cards e
+mark_is_tested : (names : Names) (from : ℕ) (cards : List (List ℕ)) (e : FaultyEntry) → is_mark_among names (lines_of from cards) e ≡ true → IsTestedOn from cards e
 unfolding lines_of
-listed_is_tested from cards e listed =
-    let (i, in', line, read, on) = in_lines (is_listed_on e) from cards (length cards) listed in
+mark_is_tested names from cards e among =
+    let (i, in', line, read, hit) = in_lines (is_mark_on names e) from cards (length cards) among in
+    let on : is_listed_on e line ≡ true = (and_parts (is_listed_on e line) (is_named names line e) hit).0 in
     let of = and_parts (e.card == line.card) ((e.number == e.number) && list_any (has_columns e) (entries_on line.sheet e.number)) on in
     let kind : CardKind = kind_of_line line.sheet in
     let tested : IsTested e.number kind (e.from, e.to) =
@@ -130,8 +133,8 @@ listed_is_tested from cards e listed =
       subst (λ k. IsTested e.number k (e.from, e.to)) (kind_of_its_card (from + i + 1) (card_at cards i) line read) tested,
     )
 
-pub listed_are_tested : (from : ℕ) (cards : List (List ℕ)) (lines : List Line) (marked : List FaultyEntry) → lines ≡ lines_of from cards
-    → list_all (is_listed lines) marked ≡ true → AreTested from cards marked
-listed_are_tested from cards lines marked same listed k d in' =
-    let all : list_all (is_listed (lines_of from cards)) marked ≡ true = ap (λ ls. list_all (is_listed ls) marked) (sym same) ∙ listed in
-    listed_is_tested from cards (slice_index_or marked k d) (AllPass-from_list_all (is_listed (lines_of from cards)) marked all k d in')
+pub marks_are_tested : (names : Names) (from : ℕ) (cards : List (List ℕ)) (lines : List Line) (marked : List FaultyEntry) → lines ≡ lines_of from cards
+    → list_all (is_mark_among names lines) marked ≡ true → AreTested from cards marked
+marks_are_tested names from cards lines marked same among k d in' =
+    let all : list_all (is_mark_among names (lines_of from cards)) marked ≡ true = ap (λ ls. list_all (is_mark_among names ls) marked) (sym same) ∙ among in
+    mark_is_tested names from cards (slice_index_or marked k d) (AllPass-from_list_all (is_mark_among names (lines_of from cards)) marked all k d in')

@@ -3,6 +3,7 @@ pub mod Changes
 pub mod Columns
 pub mod Entries
 pub mod Marks
+pub mod Names
 pub mod OwnMarks
 pub mod Sources
 pub mod Tested

@@ -1,11 +1,13 @@
 //! C cards: 5 to 10.
 
-ghost use Rattle.std.specs.Prelude.{◌≡◌, true, map, IfOk};
+ghost use Rattle.std.specs.Prelude.{◌≡◌, ◌&&◌, true, map, IfOk};
 ghost use Rattle.s3_program.specs.Indications.{is_overflow_entry};
 ghost use Rattle.s3_program.specs.Places.{is_late as is_late_spec};
+ghost use Rattle.s3_program.specs.Undefined.{is_target, is_used};
 ghost use Rattle.s3_sheets.specs.declared.kind.CardKind.TheVariants as kind;
 ghost use Rattle.s3_blame.specs.Inner.Entries.{entries_tested};
 ghost use Rattle.s3_blame.specs.Inner.Marks.{fails, span, are_of};
+ghost use Rattle.s3_blame.specs.Inner.Names.{is_unknown as is_unknown_spec, is_unknown_result as is_unknown_result_spec, kind_named, names_known, unknown_in};
 ghost use Rattle.s3_blame.specs.Inner.OwnMarks.{are_marked, marks_of_calculation};
 
 use crate::known::{Known, differences, is_date};
@@ -15,6 +17,7 @@ use s3_cards::Name;
 use s3_diagnose::rows::row_of;
 use s3_lines::indicator::Indicator;
 use s3_lines::sheet::{CalculationLine, CalculationTime, Factor, Operation, Shape};
+use s3_program::program::Kind;
 use s3_program::row::{Marking, Operand, Pairing, Row, Target};
 use s3_sheets::FaultyEntry;
 use std::alloc::{AllocError, Global};
@@ -31,7 +34,8 @@ pub fn calculation_entries(
     number: u8,
 ) -> Result<Vec<FaultyEntry>, AllocError>
     ensures of { IfOk result (λ found. are_of card number (entries_tested kind.Calculation number) found.items ≡ true) }
-    ensures own { IfOk result (λ found. are_marked card number (marks_of_calculation line.now number) found.items ≡ true) }
+    ensures own { IfOk result (λ found. are_marked card number (marks_of_calculation (names_known known.now) line.now number) found.items ≡ true) }
+    ensures named { IfOk result (λ found. number ≡ 5 → are_of card number (marks_of_calculation (names_known known.now) line.now number) found.items ≡ true) }
 {
     match number {
         5 => at_fault(alloc, card, number, &undefined_parts(known, line)),
@@ -44,47 +48,67 @@ pub fn calculation_entries(
     }
 }
 
-/// Whether nothing defines what an operation takes a name for.
-fn is_unknown(known: &Known, operand: Operand, factor: Option<Factor>) -> bool {
-    let Some(Factor::Named(name)) = factor else {
-        return false;
-    };
+/// What the name that an operation takes is the name of.
+fn kind_of(operand: Operand) -> Kind
+    ensures { result ≡ kind_named operand }
+{
     match operand {
-        Operand::Nothing => false,
-        Operand::Number | Operand::Text | Operand::Value => known.field(name).is_none(),
-        Operand::Tag => known.tag(name).is_none(),
-        Operand::Subroutine => known.subroutine(name).is_none(),
-        Operand::ChainedFile => known.file(name).is_none(),
+        Operand::Tag => Kind::Tag,
+        Operand::Subroutine => Kind::Subroutine,
+        Operand::ChainedFile => Kind::File,
+        Operand::Nothing | Operand::Number | Operand::Text | Operand::Value => Kind::Field,
     }
+}
+
+/// Whether nothing defines the name in a factor that an operation takes.
+fn is_unknown(known: &Known, operand: Operand, factor: Option<Factor>) -> bool
+    ensures { result ≡ (is_used operand && is_unknown_spec (names_known known.now) (kind_named operand) factor) }
+{
+    match (operand, factor) {
+        (Operand::Nothing, _) => false,
+        (_, Some(Factor::Named(name))) => !known.defines(kind_of(operand), name),
+        _ => false,
+    }
+}
+
+/// Whether nothing defines the result that an operation has.
+fn is_unknown_result(known: &Known, target: Target, field: Option<Name>) -> bool
+    ensures { result ≡ (is_target target && is_unknown_result_spec (names_known known.now) field) }
+{
+    match (target, field) {
+        (Target::Nothing, _) | (_, None) => false,
+        (_, Some(name)) => !known.defines(Kind::Field, name),
+    }
+}
+
+/// Whether nothing defines the names in factor 1, factor 2 and the result that the operation of a card takes.
+#[tactic(auto, using(crate::proofs::NameLemmas::unknown_row, crate::proofs::NameLemmas::unknown_none))]
+fn unknown_names(known: &Known, line: &CalculationLine) -> [bool; 3]
+    ensures { result ≡ unknown_in (names_known known.now) line.now }
+{
+    let Some(operation) = line.operation else {
+        return [false, false, false];
+    };
+    let row = row_of(operation);
+    [
+        is_unknown(known, row.factor1, line.factor1),
+        is_unknown(known, row.factor2, line.factor2),
+        is_unknown_result(known, row.result, line.result),
+    ]
 }
 
 /// The entries of diagnostic 5: each name without a definition, if the operation uses it.
 #[tactic(auto, using(crate::proofs::TableLemmas::calculation_5))]
 fn undefined_parts(known: &Known, line: &CalculationLine) -> [Part; 3]
-    ensures { map span result ≡ entries_tested kind.Calculation 5 }
+    ensures spans { map span result ≡ entries_tested kind.Calculation 5 }
+    ensures fails { map fails result ≡ unknown_in (names_known known.now) line.now }
 {
-    let (is_factor1, is_factor2, is_result) = match line.operation {
-        Some(operation) => undefined(known, &row_of(operation), line),
-        None => (false, false, false),
-    };
+    let [is_factor1, is_factor2, is_result] = unknown_names(known, line);
     [
         entry(18, 27, is_factor1),
         entry(33, 42, is_factor2),
         entry(43, 48, is_result),
     ]
-}
-
-/// Whether nothing defines the names in factor 1, factor 2 and result that an operation takes.
-fn undefined(known: &Known, row: &Row, line: &CalculationLine) -> (bool, bool, bool) {
-    let is_result = match (row.result, line.result) {
-        (Target::Nothing, _) | (_, None) => false,
-        (_, Some(name)) => known.field(name).is_none(),
-    };
-    (
-        is_unknown(known, row.factor1, line.factor1),
-        is_unknown(known, row.factor2, line.factor2),
-        is_result,
-    )
 }
 
 /// Whether a TAG or a BEGSR has a name that another card before it has.

@@ -1,12 +1,13 @@
 //! The entries to blame for the diagnostics of a source.
-ghost use Rattle.std.specs.Prelude.{◌≡◌, ◌≢◌, ◌≤◌, [], length, slice_range, IfOk};
-ghost use Rattle.std.specs.List.{All};
+ghost use Rattle.std.specs.Prelude.{◌≡◌, ◌≢◌, ◌≤◌, true, [], length, slice_range, IfOk};
+ghost use Rattle.std.specs.List.{All, list_all};
 ghost use Rattle.s3_sheets.specs.Inner.Parts.{faulty_entries as faulty_entries_spec};
 ghost use Rattle.s3_sheets.specs.Lines.{lines_of};
 ghost use Rattle.s3_sheets.specs.Sheets.{sheet_diagnostics};
 ghost use Rattle.s3_diagnose.specs.Inner.Order.{AreInOrder};
 ghost use Rattle.s3_blame.specs.Inner.Columns.{columns_of as columns_of_spec};
-ghost use Rattle.s3_blame.specs.Inner.OwnMarks.{HasAllMarks};
+ghost use Rattle.s3_blame.specs.Inner.Names.{names_of};
+ghost use Rattle.s3_blame.specs.Inner.OwnMarks.{HasAllMarks, is_mark_among};
 ghost use Rattle.s3_blame.specs.Inner.Tested.{AreTested};
 
 use crate::lines::later_entries;
@@ -30,7 +31,8 @@ pub fn entries_of(
     requires within { to ≤ length deck.now }
     ensures of_cards { IfOk result (λ found. sheet_diagnostics from (slice_range deck.now from to) ≢ [] → found.items ≡ faulty_entries_spec from (slice_range deck.now from to)) }
     ensures of_lines { IfOk result (λ found. sheet_diagnostics from (slice_range deck.now from to) ≡ [] → AreTested from (slice_range deck.now from to) found.items) }
-    ensures marked { IfOk result (λ found. sheet_diagnostics from (slice_range deck.now from to) ≡ [] → AreInOrder told.now → All (HasAllMarks told.now found.items) (lines_of from (slice_range deck.now from to))) }
+    ensures only { IfOk result (λ found. sheet_diagnostics from (slice_range deck.now from to) ≡ [] → list_all (is_mark_among (names_of (lines_of from (slice_range deck.now from to))) (lines_of from (slice_range deck.now from to))) found.items ≡ true) }
+    ensures marked { IfOk result (λ found. sheet_diagnostics from (slice_range deck.now from to) ≡ [] → AreInOrder told.now → All (HasAllMarks (names_of (lines_of from (slice_range deck.now from to))) told.now found.items) (lines_of from (slice_range deck.now from to))) }
 {
     match read_sheets(alloc, deck, from, to) {
         Ok(lines) => later_entries(alloc, &lines, told),

@@ -1,16 +1,25 @@
 //! What the lines of a source define: the first definition of each name counts.
 
-ghost use Rattle.std.specs.Prelude.{◌≡◌};
-ghost use Rattle.s3_program.specs.Redefined.{is_date as is_date_spec};
+ghost use Rattle.std.specs.Prelude.{◌≡◌, ◌++◌, IfOk, IsTrue, OnOk, filter_map, option_map};
+ghost use Rattle.std.specs.Option.{option_to_list};
+ghost use Rattle.s3_meaning.specs.Source.{calculation_line, input_line, reserved_shapes};
+ghost use Rattle.s3_program.specs.Inner.Given.{all_noted, firsts};
+ghost use Rattle.s3_program.specs.Redefined.{is_date as is_date_spec, shape_of_field as shape_of_field_spec};
+ghost use Rattle.s3_lines.specs.Inner.Ranges.{are_read, in_range};
+ghost use Rattle.s3_diagnose.specs.Inner.Ranged.{is_ranged_field};
+ghost use Rattle.s3_diagnose.specs.Lookups.{fields_given, input_given, result_given};
+ghost use Rattle.s3_compile.specs.Inner.Noted.{field_on, result_on};
+ghost use Rattle.s3_blame.specs.Inner.Names.{subroutine_on, tag_on};
 
 use indexmap::IndexMap;
 use s3_cards::Name;
 use s3_lines::is_reserved;
-use s3_lines::reserved::{PAGE, UDATE};
+use s3_lines::reserved::{PAGE, UDATE, UDAY, UMONTH, UYEAR};
 use s3_lines::sheet::{
-    CalculationLine, Factor, FieldForm, FieldLine, FileLine, InputLine, Line, Operation, Shape,
-    SheetLine,
+    Factor, FieldForm, FieldLine, FileLine, InputLine, Line, Operation, Shape, SheetLine,
 };
+use s3_program::defining::{files_defined, note};
+use s3_program::program::Kind;
 use std::alloc::{AllocError, Global};
 
 /// What the lines of a source define.
@@ -25,7 +34,9 @@ pub struct Known {
 }
 
 /// The shape of a field of a record.
-pub fn shape_of_field(field: &FieldLine) -> Shape {
+pub fn shape_of_field(field: &FieldLine) -> Shape
+    ensures { IsTrue (is_ranged_field field.now) → result ≡ shape_of_field_spec field.now }
+{
     let positions = field.to.saturating_sub(field.from).saturating_add(1);
     match field.form {
         FieldForm::Alphanumeric | FieldForm::PackedText => Shape::Alphanumeric(positions),
@@ -62,107 +73,207 @@ pub fn is_date(name: Name) -> bool
     is_reserved(&name) && name != PAGE
 }
 
-/// The shape of a field that the language has itself.
-fn reserved_shape(name: Name) -> Option<Shape> {
-    if !is_reserved(&name) {
-        None
-    } else if name == UDATE {
-        Some(Shape::Numeric(6, 0))
-    } else if name == PAGE {
-        Some(Shape::Numeric(4, 0))
-    } else {
-        Some(Shape::Numeric(2, 0))
+/// The name of a TAG line.
+fn tag_of(line: &Line) -> Option<Name>
+    ensures { option_map (λ name. (name, line.now.card)) result ≡ tag_on line.now }
+{
+    let SheetLine::Calculation(line) = &line.sheet else {
+        return None;
+    };
+    match (line.operation, line.factor1) {
+        (Some(Operation::Tag), Some(Factor::Named(name))) => Some(name),
+        _ => None,
     }
 }
 
-fn note<X: Copy + Drop>(
-    table: &mut IndexMap<Name, X>,
-    name: Name,
-    value: X,
-) -> Result<(), AllocError> {
-    if table.get(&name).is_none() {
-        table.insert(name, value)?;
+/// The name of a BEGSR line.
+fn subroutine_of(line: &Line) -> Option<Name>
+    ensures { option_map (λ name. (name, line.now.card)) result ≡ subroutine_on line.now }
+{
+    let SheetLine::Calculation(line) = &line.sheet else {
+        return None;
+    };
+    match (line.operation, line.factor1) {
+        (Some(Operation::BeginSubroutine), Some(Factor::Named(name))) => Some(name),
+        _ => None,
+    }
+}
+
+/// Adds the card of a line under the name that the line defines.
+#[tactic(auto, unfolding(s3_program::specs::Inner::Given::all_noted))]
+fn note_card(
+    table: &mut IndexMap<Name, u16>,
+    name: Option<Name>,
+    card: u16,
+) -> Result<(), AllocError>
+    ensures { OnOk result (table.new.entries ≡ all_noted table.old.entries (option_to_list (option_map (λ name. (name, card)) name))) }
+{
+    if let Some(name) = name {
+        note(table, name, card)?;
     }
     Ok(())
 }
 
+/// The tags, each with the card of its first TAG line.
+fn tags_defined(alloc: Global, lines: &[Line]) -> Result<IndexMap<Name, u16>, AllocError>
+    ensures { IfOk result (λ table. table.entries ≡ firsts (filter_map tag_on lines.now)) }
+{
+    let mut table = IndexMap::new(alloc);
+    for line in lines {
+        note_card(&mut table, tag_of(line), line.card)?;
+    }
+    Ok(table)
+}
+
+/// The subroutines, each with the card of its first BEGSR line.
+fn subroutines_defined(alloc: Global, lines: &[Line]) -> Result<IndexMap<Name, u16>, AllocError>
+    ensures { IfOk result (λ table. table.entries ≡ firsts (filter_map subroutine_on lines.now)) }
+{
+    let mut table = IndexMap::new(alloc);
+    for line in lines {
+        note_card(&mut table, subroutine_of(line), line.card)?;
+    }
+    Ok(table)
+}
+
+/// Adds the fields that the language has itself.
+#[tactic(auto, unfolding(s3_program::specs::Inner::Given::all_noted))]
+fn note_reserved(table: &mut IndexMap<Name, Shape>) -> Result<(), AllocError>
+    ensures { OnOk result (table.new.entries ≡ all_noted table.old.entries reserved_shapes) }
+{
+    note(table, PAGE, Shape::Numeric(4, 0))?;
+    note(table, UDATE, Shape::Numeric(6, 0))?;
+    note(table, UMONTH, Shape::Numeric(2, 0))?;
+    note(table, UDAY, Shape::Numeric(2, 0))?;
+    note(table, UYEAR, Shape::Numeric(2, 0))?;
+    Ok(())
+}
+
+/// Adds the field of a line in a record.
+#[tactic(auto, using(crate::proofs::NameLemmas::read_field), unfolding(s3_program::specs::Inner::Given::all_noted))]
+fn note_field(table: &mut IndexMap<Name, Shape>, line: &Line) -> Result<(), AllocError>
+    ensures { OnOk result (IsTrue (in_range line.now.sheet) → table.new.entries ≡ all_noted table.old.entries (field_on line.now)) }
+{
+    if let SheetLine::Input(InputLine::Field(field)) = &line.sheet {
+        note(table, field.name, shape_of_field(field))?;
+    }
+    Ok(())
+}
+
+/// Adds the result of a C line that has an operation and a length.
+#[tactic(auto, unfolding(s3_program::specs::Inner::Given::all_noted))]
+fn note_result(table: &mut IndexMap<Name, Shape>, line: &Line) -> Result<(), AllocError>
+    ensures { OnOk result (table.new.entries ≡ all_noted table.old.entries (result_on line.now)) }
+{
+    if let SheetLine::Calculation(line) = &line.sheet {
+        if let (Some(_), Some(name), Some(shape)) = (line.operation, line.result, line.definition) {
+            note(table, name, shape)?;
+        }
+    }
+    Ok(())
+}
+
+/// Adds the fields of records.
+#[tactic(auto, unfolding(s3_program::specs::Inner::Given::all_noted))]
+fn note_fields(table: &mut IndexMap<Name, Shape>, lines: &[Line]) -> Result<(), AllocError>
+    ensures { OnOk result (IsTrue (are_read lines.now) → table.new.entries ≡ all_noted table.old.entries (filter_map input_given (filter_map input_line lines.now))) }
+{
+    for line in lines {
+        note_field(table, line)?;
+    }
+    Ok(())
+}
+
+/// Adds the results that C lines define.
+#[tactic(auto, unfolding(s3_program::specs::Inner::Given::all_noted))]
+fn note_results(table: &mut IndexMap<Name, Shape>, lines: &[Line]) -> Result<(), AllocError>
+    ensures { OnOk result (table.new.entries ≡ all_noted table.old.entries (filter_map result_given (filter_map calculation_line lines.now))) }
+{
+    for line in lines {
+        note_result(table, line)?;
+    }
+    Ok(())
+}
+
+/// The fields, each with the shape of its first definition. Fields of records take precedence over results, and those of the language
+/// over both.
+fn fields_defined(alloc: Global, lines: &[Line]) -> Result<IndexMap<Name, Shape>, AllocError>
+    ensures { IfOk result (λ table. IsTrue (are_read lines.now) → table.entries ≡ firsts (reserved_shapes ++ fields_given lines.now)) }
+{
+    let mut table = IndexMap::new(alloc);
+    note_reserved(&mut table)?;
+    note_fields(&mut table, lines)?;
+    note_results(&mut table, lines)?;
+    Ok(table)
+}
+
 impl Known {
+    ghost use Rattle.std.specs.Prelude.{◌≡◌, IfOk, OnOk};
+    ghost use Rattle.s3_program.specs.Tables.{found_in};
+    ghost use Rattle.s3_blame.specs.Inner.Names.{Knows, names_known};
+
     /// What some lines define. It is refused only if memory runs out.
-    pub fn of(alloc: Global, lines: &[Line]) -> Result<Known, AllocError> {
+    pub fn of(alloc: Global, lines: &[Line]) -> Result<Known, AllocError>
+        ensures { IfOk result (λ known. Knows lines.now known) }
+    {
         let mut known = Known {
             files: IndexMap::new(alloc),
             fields: IndexMap::new(alloc),
             tags: IndexMap::new(alloc),
             subroutines: IndexMap::new(alloc),
         };
-        known.add_all(lines)?;
+        known.define(alloc, lines)?;
         Ok(known)
     }
 
-    /// Adds what lines define. Fields of records take precedence over results.
-    fn add_all(&mut self, lines: &[Line]) -> Result<(), AllocError> {
-        for line in lines {
-            self.add(line)?;
-        }
-        for line in lines {
-            self.add_result(line)?;
-        }
+    /// Takes what lines define in place of what it knew.
+    fn define(&mut self, alloc: Global, lines: &[Line]) -> Result<(), AllocError>
+        ensures { OnOk result (Knows lines.now self.new) }
+    {
+        self.files = files_defined(alloc, lines)?;
+        self.fields = fields_defined(alloc, lines)?;
+        self.tags = tags_defined(alloc, lines)?;
+        self.subroutines = subroutines_defined(alloc, lines)?;
         Ok(())
     }
 
-    fn add(&mut self, line: &Line) -> Result<(), AllocError> {
-        match &line.sheet {
-            SheetLine::File(file) => note(&mut self.files, file.name, *file),
-            SheetLine::Input(InputLine::Field(field)) => {
-                note(&mut self.fields, field.name, shape_of_field(field))
-            }
-            SheetLine::Calculation(calculation) => self.add_label(line.card, calculation),
-            _ => Ok(()),
-        }
-    }
-
-    /// Adds the tag or the subroutine of a C line.
-    fn add_label(&mut self, card: u16, line: &CalculationLine) -> Result<(), AllocError> {
-        match (line.operation, line.factor1) {
-            (Some(Operation::Tag), Some(Factor::Named(name))) => note(&mut self.tags, name, card),
-            (Some(Operation::BeginSubroutine), Some(Factor::Named(name))) => {
-                note(&mut self.subroutines, name, card)
-            }
-            _ => Ok(()),
-        }
-    }
-
-    /// Adds the result of a C line that has an operation and a length.
-    fn add_result(&mut self, line: &Line) -> Result<(), AllocError> {
-        match &line.sheet {
-            SheetLine::Calculation(line) => match (line.operation, line.result, line.definition) {
-                (Some(_), Some(name), Some(shape)) => note(&mut self.fields, name, shape),
-                _ => Ok(()),
-            },
-            _ => Ok(()),
+    /// Whether a name is defined as that of a file, a field, a tag or a subroutine.
+    pub(crate) fn defines(&self, kind: Kind, name: Name) -> bool
+        ensures { result ≡ names_known self.now kind name }
+    {
+        match kind {
+            Kind::File => self.files.contains_key(&name),
+            Kind::Field => self.fields.contains_key(&name),
+            Kind::Tag => self.tags.contains_key(&name),
+            Kind::Subroutine => self.subroutines.contains_key(&name),
         }
     }
 
     /// The first F line of a name.
-    pub fn file(&self, name: Name) -> Option<FileLine> {
+    pub fn file(&self, name: Name) -> Option<FileLine>
+        ensures { result ≡ found_in self.now.files.entries name }
+    {
         self.files.get(&name).copied()
     }
 
-    /// The shape of a field: a reserved field's own, or that of its first definition.
-    pub fn field(&self, name: Name) -> Option<Shape> {
-        match reserved_shape(name) {
-            Some(shape) => Some(shape),
-            None => self.fields.get(&name).copied(),
-        }
+    /// The shape of a field, by its first definition.
+    pub fn field(&self, name: Name) -> Option<Shape>
+        ensures { result ≡ found_in self.now.fields.entries name }
+    {
+        self.fields.get(&name).copied()
     }
 
     /// The card of the first TAG of a name.
-    pub fn tag(&self, name: Name) -> Option<u16> {
+    pub fn tag(&self, name: Name) -> Option<u16>
+        ensures { result ≡ found_in self.now.tags.entries name }
+    {
         self.tags.get(&name).copied()
     }
 
     /// The card of the first BEGSR of a name.
-    pub fn subroutine(&self, name: Name) -> Option<u16> {
+    pub fn subroutine(&self, name: Name) -> Option<u16>
+        ensures { result ≡ found_in self.now.subroutines.entries name }
+    {
         self.subroutines.get(&name).copied()
     }
 }

@@ -1,11 +1,13 @@
 //! The entries to blame for 5 to 12.
-ghost use Rattle.std.specs.Prelude.{◌≡◌, ℕ, true, IfOk, OnOk};
+ghost use Rattle.std.specs.Prelude.{◌≡◌, ℕ, true, IfOk, IsTrue, OnOk};
 ghost use Rattle.std.specs.List.{All, list_all};
 ghost use Rattle.s3_lines.specs.Inner.Ascending.{cards_ascend};
 ghost use Rattle.s3_diagnose.specs.Inner.Order.{AreInOrder};
+ghost use Rattle.s3_lines.specs.Inner.Ranges.{are_read};
 ghost use Rattle.s3_blame.specs.Inner.Entries.{entries_on};
-ghost use Rattle.s3_blame.specs.Inner.Marks.{are_of, are_listed_on, is_listed};
-ghost use Rattle.s3_blame.specs.Inner.OwnMarks.{BeginsAt, HasAllMarks, HasMarks, MarksFirst, PassesLine};
+ghost use Rattle.s3_blame.specs.Inner.Marks.{are_of};
+ghost use Rattle.s3_blame.specs.Inner.Names.{names_known, names_of};
+ghost use Rattle.s3_blame.specs.Inner.OwnMarks.{BeginsAt, HasAllMarks, HasMarks, MarksFirst, PassesLine, are_marks_on, is_mark_among, is_named};
 
 use crate::calculations::calculation_entries;
 use crate::files::file_entries;
@@ -29,7 +31,8 @@ fn line_entries(
     number: u8,
 ) -> Result<Vec<FaultyEntry>, AllocError>
     ensures of { IfOk result (λ found. are_of line.now.card number (entries_on line.now.sheet number) found.items ≡ true) }
-    ensures own { IfOk result (λ found. HasMarks line.now found.items number) }
+    ensures own { IfOk result (λ found. HasMarks (names_known known.now) line.now found.items number) }
+    ensures named { IfOk result (λ found. list_all (is_named (names_known known.now) line.now) found.items ≡ true) }
 {
     match &line.sheet {
         SheetLine::Header(_) => Ok(Vec::new(alloc)),
@@ -75,8 +78,8 @@ fn entries_of_card(
     later: &[Line],
     told: &[Diagnostic],
 ) -> Result<Vec<FaultyEntry>, AllocError>
-    ensures listed { IfOk result (λ found. are_listed_on line.now found.items ≡ true) }
-    ensures first { IfOk result (λ found. MarksFirst line.now told.now found.items) }
+    ensures only { IfOk result (λ found. are_marks_on (names_known known.now) line.now found.items ≡ true) }
+    ensures first { IfOk result (λ found. MarksFirst (names_known known.now) line.now told.now found.items) }
 {
     let mut found = Vec::new(alloc);
     for diagnostic in told {
@@ -90,7 +93,6 @@ fn entries_of_card(
 }
 
 /// Appends the entries to blame for the diagnostics of one line's card, and passes that line.
-#[tactic(auto, using(crate::proofs::PartLemmas::more_on_lines))]
 fn pass_line(
     alloc: Global,
     known: &Known,
@@ -100,8 +102,8 @@ fn pass_line(
     told: &[Diagnostic],
     found: &mut Vec<FaultyEntry>,
 ) -> Result<(), AllocError>
-    ensures listed { OnOk result (list_all (is_listed lines.now) found.old.items ≡ true → list_all (is_listed lines.now) found.new.items ≡ true) }
-    ensures passes { OnOk result (PassesLine lines.now place told.now found.old.items found.new.items) }
+    ensures only { OnOk result (list_all (is_mark_among (names_known known.now) lines.now) found.old.items ≡ true → list_all (is_mark_among (names_known known.now) lines.now) found.new.items ≡ true) }
+    ensures passes { OnOk result (PassesLine (names_known known.now) lines.now place told.now found.old.items found.new.items) }
 {
     let Some(line) = lines.get(place) else {
         return Ok(());
@@ -113,15 +115,15 @@ fn pass_line(
 }
 
 /// The entries to blame for diagnostics of lines, given what the lines define.
-#[tactic(auto, using(crate::proofs::OwnLemmas::none_passed, crate::proofs::OwnLemmas::one_more_passed, crate::proofs::OwnLemmas::all_passed))]
+#[tactic(auto, using(crate::proofs::OwnLemmas::none_passed, crate::proofs::OwnLemmas::one_more_passed))]
 fn entries_of_lines(
     alloc: Global,
     known: &Known,
     lines: &[Line],
     told: &[Diagnostic],
 ) -> Result<Vec<FaultyEntry>, AllocError>
-    ensures listed { IfOk result (λ found. list_all (is_listed lines.now) found.items ≡ true) }
-    ensures marked { IfOk result (λ found. AreInOrder told.now → (from : ℕ) → cards_ascend from lines.now ≡ true → All (HasAllMarks told.now found.items) lines.now) }
+    ensures only { IfOk result (λ found. list_all (is_mark_among (names_known known.now) lines.now) found.items ≡ true) }
+    ensures marked { IfOk result (λ found. AreInOrder told.now → (from : ℕ) → cards_ascend from lines.now ≡ true → All (HasAllMarks (names_known known.now) told.now found.items) lines.now) }
 {
     let mut walk = Walk::new(alloc);
     let mut found = Vec::new(alloc);
@@ -139,8 +141,8 @@ pub fn later_entries(
     lines: &[Line],
     told: &[Diagnostic],
 ) -> Result<Vec<FaultyEntry>, AllocError>
-    ensures listed { IfOk result (λ found. list_all (is_listed lines.now) found.items ≡ true) }
-    ensures marked { IfOk result (λ found. AreInOrder told.now → (from : ℕ) → cards_ascend from lines.now ≡ true → All (HasAllMarks told.now found.items) lines.now) }
+    ensures only { IfOk result (λ found. IsTrue (are_read lines.now) → list_all (is_mark_among (names_of lines.now) lines.now) found.items ≡ true) }
+    ensures marked { IfOk result (λ found. IsTrue (are_read lines.now) → AreInOrder told.now → (from : ℕ) → cards_ascend from lines.now ≡ true → All (HasAllMarks (names_of lines.now) told.now found.items) lines.now) }
 {
     let known = Known::of(alloc, lines)?;
     entries_of_lines(alloc, &known, lines, told)

@@ -61,7 +61,7 @@ fn entries_of_parts(
 
 /// The entries to blame for a number of a card: those that its condition tests and that are in error. Refused only if memory runs
 /// out.
-#[tactic(auto, using(crate::proofs::PartLemmas::at_fault_are_parts, crate::proofs::OwnLemmas::at_fault_are_marked))]
+#[tactic(auto, using(crate::proofs::PartLemmas::at_fault_are_parts, crate::proofs::PartLemmas::at_fault_are_chosen, crate::proofs::OwnLemmas::at_fault_are_marked))]
 pub fn at_fault(
     alloc: Global,
     card: u16,
@@ -70,6 +70,7 @@ pub fn at_fault(
 ) -> Result<Vec<FaultyEntry>, AllocError>
     ensures value { IfOk result (λ found. found.items ≡ map (entry_of card number) (filter fails parts.now)) }
     ensures among { IfOk result (λ found. are_of card number (map span parts.now) found.items ≡ true) }
+    ensures only { IfOk result (λ found. are_of card number (chosen (map fails parts.now) (map span parts.now)) found.items ≡ true) }
     ensures marked { IfOk result (λ found. are_marked card number (chosen (map fails parts.now) (map span parts.now)) found.items ≡ true) }
 {
     let found = entries_of_parts(alloc, card, number, parts)?;

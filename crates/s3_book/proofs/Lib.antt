@@ -1,3 +1,4 @@
+pub mod BarLemmas
 pub mod PartLemmas
 pub mod ReadingLemmas
 pub mod ScaleLemmas

@@ -32,6 +32,12 @@ pub struct Halt<'a> {
     pub level: LevelId,
     /// The number of its job.
     pub job: u64,
+    /// Its two letters.
+    pub letters: &'a [u8],
+    /// How many turns both levels had taken when it came.
+    pub turn: u64,
+    /// How many turns both levels had taken when the reply was given, if it has one.
+    pub replied: Option<u64>,
     /// What was shown of it.
     pub words: &'a [u8],
     /// The reply, and who gave it.
@@ -69,6 +75,8 @@ pub struct Extent<'a> {
 pub struct Region<'a> {
     /// Its name.
     pub name: &'a [u8],
+    /// The level that has it; none for the masters.
+    pub level: Option<LevelId>,
     /// How many tracks it has.
     pub tracks: u64,
     /// How many of them are free.

@@ -1,14 +1,21 @@
 //! The page of a day.
 ghost use Rattle.std.specs.Prelude.{◌≡◌, ◌++◌, IfOk, OnOk, length, option_map};
 ghost use Rattle.std.specs.List.{flat_map};
-ghost use Rattle.s3_book.specs.Inner.Index.{bar, count_piece, events, extent_bar, extent_row, extents_head, file_row, files_head, files_table, halt_row, halts_head, halts_table, head, index_page, job_row, job_text, jobs_head, jobs_table, largest as largest_spec, line_foot, line_head, link_of, map_head, pack_map, region_drawn, region_head, region_table, region_text, report_link, row_foot, table_foot, time_line};
+ghost use Rattle.s3_book.specs.Inner.Index.{area_piece, bar, bars, count_piece, events, extent_bar, extent_row, extents_head, file_row, files_head, files_table, halt_row, halts_head, halts_table, head, index_page, job_row, job_text, jobs_head, jobs_table, largest as largest_spec, line_foot, line_head, line_middle, link_of, map_head, mark, pack_map, region_drawn, region_head, region_table, region_text, reply_piece, report_link, row_foot, shown_piece, start_of, table_foot, time_line, until};
 ghost use Rattle.s3_book.specs.Inner.Parts.{page_of, piece_of};
 
 use crate::day::{ChangedFile, Day, Extent, Halt, Job, Region};
 use crate::part::{Part, put};
 use crate::report::{put_closing, put_opening};
-use crate::scale::{lane, scaled, width};
+use crate::scale::{begin, end, fits, lane, scaled, span, width};
+use s3_cards::LevelId;
 use std::alloc::{AllocError, Global};
+
+/// How much of a job's bar its number, the blank after it and both edges take.
+const JOB_TAKEN: u64 = 48;
+
+/// How much of a file's bar both edges take.
+const FILE_TAKEN: u64 = 8;
 
 /// The page of a day, `index.html`.
 pub fn day_page(alloc: Global, day: &Day<'_>) -> Result<Vec<u8>, AllocError>
@@ -27,28 +34,92 @@ pub fn day_page(alloc: Global, day: &Day<'_>) -> Result<Vec<u8>, AllocError>
 fn put_events(text: &mut Vec<u8>, day: &Day<'_>) -> Result<(), AllocError>
     ensures { OnOk result (text.new.items ≡ text.old.items ++ events day.now) }
 {
-    put_line(text, day.turns, day.jobs)?;
+    put_line(text, day.turns, day.jobs, day.halts)?;
     put_jobs(text, day.jobs)?;
     put_halts(text, day.halts)?;
     put_files(text, day.files)
 }
 
-/// Appends the jobs on a line of time.
-fn put_line(text: &mut Vec<u8>, turns: u64, jobs: &[Job<'_>]) -> Result<(), AllocError>
-    ensures { OnOk result (text.new.items ≡ text.old.items ++ time_line turns jobs.now) }
+/// Appends the jobs on a line of time, with their halts.
+fn put_line(
+    text: &mut Vec<u8>,
+    turns: u64,
+    jobs: &[Job<'_>],
+    halts: &[Halt<'_>],
+) -> Result<(), AllocError>
+    ensures { OnOk result (text.new.items ≡ text.old.items ++ time_line turns jobs.now halts.now) }
 {
     put_line_head(text)?;
     put_bars(text, turns, jobs)?;
+    put_line_middle(text)?;
+    put_marks(text, turns, halts)?;
     put_line_foot(text, turns)
 }
 
 fn put_bars(text: &mut Vec<u8>, turns: u64, jobs: &[Job<'_>]) -> Result<(), AllocError>
-    ensures { OnOk result (text.new.items ≡ text.old.items ++ flat_map (λ j. page_of (bar turns j)) jobs.now) }
+    ensures { OnOk result (text.new.items ≡ text.old.items ++ bars turns 0 jobs.now) }
 {
+    let mut edge: u64 = 0;
     for job in jobs {
-        put_bar(text, turns, job)?;
+        let start = start_after(edge, job);
+        put_bar(text, turns, start, job)?;
+        edge = end(turns, start, job.first, job.last);
     }
     Ok(())
+}
+
+/// Where the bar of a job may begin, given the end of the bar before it: the first job of a level has no job before it.
+fn start_after(edge: u64, job: &Job<'_>) -> u64
+    ensures { result ≡ start_of edge job.now }
+{
+    if job.number == 1 { 0 } else { edge }
+}
+
+fn put_marks(text: &mut Vec<u8>, turns: u64, halts: &[Halt<'_>]) -> Result<(), AllocError>
+    ensures { OnOk result (text.new.items ≡ text.old.items ++ flat_map (λ h. page_of (mark turns h)) halts.now) }
+{
+    for halt in halts {
+        put_mark(text, turns, halt)?;
+    }
+    Ok(())
+}
+
+/// When a halt has its reply, or else the day's last turn.
+fn until_reply(turns: u64, replied: Option<u64>) -> u64
+    ensures { result ≡ until turns replied }
+{
+    match replied {
+        Some(turn) => turn,
+        None => turns,
+    }
+}
+
+/// What comes between the turn of a halt and the turn of its reply.
+fn reply_part(replied: Option<u64>) -> Part<'static>
+    ensures { piece_of result ≡ reply_piece replied }
+{
+    match replied {
+        Some(_) => Part::Markup(b", waits until its reply at turn "),
+        None => Part::Markup(b", waits at the end of the day, turn "),
+    }
+}
+
+/// The class of the files of a region.
+fn area_part(level: Option<LevelId>) -> Part<'static>
+    ensures { piece_of result ≡ area_piece level }
+{
+    match level {
+        Some(LevelId::One) => Part::Markup(b"level1"),
+        Some(LevelId::Two) => Part::Markup(b"level2"),
+        None => Part::Markup(b"masters"),
+    }
+}
+
+/// A part of a label, if the label fits.
+fn shown<'x>(is_shown: bool, part: Part<'x>) -> Part<'x>
+    ensures { piece_of result ≡ shown_piece is_shown (piece_of part.entry) }
+{
+    if is_shown { part } else { Part::Markup(b"") }
 }
 
 /// Appends the jobs in a table.
@@ -232,24 +303,27 @@ fn put_line_head(text: &mut Vec<u8>) -> Result<(), AllocError>
     put(
         text,
         &[Part::Markup(
-            b"<h2>Jobs by turn</h2>\n<svg class=\"chart\" viewBox=\"0 0 1000 64\" role=\"img\" aria-label=\"Jobs by turn\">\n<rect class=\"lane\" width=\"1000\" height=\"30\"/>\n<rect class=\"lane\" y=\"34\" width=\"1000\" height=\"30\"/>\n",
+            b"<h2>Jobs by turn</h2>\n<svg class=\"chart\" viewBox=\"0 0 1000 64\" role=\"img\" aria-label=\"Jobs by turn\">\n<defs><pattern id=\"waits\" width=\"6\" height=\"6\" patternUnits=\"userSpaceOnUse\" patternTransform=\"rotate(45)\"><rect class=\"stripe\" width=\"3\" height=\"6\"/></pattern></defs>\n<rect class=\"lane\" width=\"1000\" height=\"30\"/>\n<rect class=\"lane\" y=\"34\" width=\"1000\" height=\"30\"/>\n",
         )],
     )
 }
 
-/// Appends a job on the line of time.
-fn put_bar(text: &mut Vec<u8>, turns: u64, job: &Job<'_>) -> Result<(), AllocError>
-    ensures { OnOk result (text.new.items ≡ text.old.items ++ page_of (bar turns job.now)) }
+/// Appends a job on the line of time, given where its bar may begin.
+fn put_bar(text: &mut Vec<u8>, turns: u64, start: u64, job: &Job<'_>) -> Result<(), AllocError>
+    ensures { OnOk result (text.new.items ≡ text.old.items ++ page_of (bar turns start job.now)) }
 {
+    let left = begin(turns, start, job.first);
+    let wide = span(turns, left, job.last);
+    let is_shown = fits(wide, JOB_TAKEN, job.program.len() as u64);
     put(
         text,
         &[
             Part::Markup(b"<svg x=\""),
-            Part::Number(scaled(turns, job.first)),
+            Part::Number(left),
             Part::Markup(b"\" y=\""),
             Part::Number(lane(job.level)),
             Part::Markup(b"\" width=\""),
-            Part::Number(width(turns, job.last.saturating_sub(job.first))),
+            Part::Number(wide),
             Part::Markup(b"\" height=\"30\"><title>level "),
             Part::Number(u64::from(job.level.number())),
             Part::Markup(b", job "),
@@ -262,13 +336,50 @@ fn put_bar(text: &mut Vec<u8>, turns: u64, job: &Job<'_>) -> Result<(), AllocErr
             Part::Number(job.first),
             Part::Markup(b" to "),
             Part::Number(job.last),
+            Part::Markup(b", "),
+            Part::Value(job.ending),
             Part::Markup(b"</title><rect class=\"level"),
             Part::Number(u64::from(job.level.number())),
             Part::Markup(b"\" width=\"1000\" height=\"30\"/><text x=\"4\" y=\"20\">"),
-            Part::Number(job.number),
+            shown(is_shown, Part::Number(job.number)),
             Part::Markup(b" "),
-            Part::Value(job.program),
+            shown(is_shown, Part::Value(job.program)),
             Part::Markup(b"</text></svg>\n"),
+        ],
+    )
+}
+
+/// Appends what comes between the jobs and the halts on the line of time.
+fn put_line_middle(text: &mut Vec<u8>) -> Result<(), AllocError>
+    ensures { OnOk result (text.new.items ≡ text.old.items ++ page_of line_middle) }
+{
+    put(text, &[Part::Markup(b"<g>\n")])
+}
+
+/// Appends a halt on the line of time, and how long it waits.
+fn put_mark(text: &mut Vec<u8>, turns: u64, halt: &Halt<'_>) -> Result<(), AllocError>
+    ensures { OnOk result (text.new.items ≡ text.old.items ++ page_of (mark turns halt.now)) }
+{
+    let left = begin(turns, 0, halt.turn);
+    let last = until_reply(turns, halt.replied);
+    put(
+        text,
+        &[
+            Part::Markup(b"<svg x=\""),
+            Part::Number(left),
+            Part::Markup(b"\" y=\""),
+            Part::Number(lane(halt.level)),
+            Part::Markup(b"\" width=\""),
+            Part::Number(span(turns, left, last)),
+            Part::Markup(b"\" height=\"30\"><title>"),
+            Part::Value(halt.letters),
+            Part::Markup(b" at turn "),
+            Part::Number(halt.turn),
+            reply_part(halt.replied),
+            Part::Number(last),
+            Part::Markup(
+                b"</title><rect fill=\"url(#waits)\" width=\"1000\" height=\"30\"/><rect class=\"mark\" width=\"6\" height=\"30\"/></svg>\n",
+            ),
         ],
     )
 }
@@ -280,9 +391,11 @@ fn put_line_foot(text: &mut Vec<u8>, turns: u64) -> Result<(), AllocError>
     put(
         text,
         &[
-            Part::Markup(b"</svg>\n<p>Level 1 is above level 2. The whole line is "),
+            Part::Markup(b"</g>\n</svg>\n<p>Level 1 is above level 2. The whole line is "),
             Part::Number(turns),
-            Part::Markup(b" turns of both levels.</p>\n"),
+            Part::Markup(
+                b" turns of both levels. A turn is numbered by the turns that both levels together had taken. A bar begins where the job before it was over; a job of few turns has a wider bar, which moves the next one.</p>\n<p><svg class=\"key\" width=\"6\" height=\"14\"><rect class=\"mark\" width=\"6\" height=\"14\"/></svg> A halt. <svg class=\"key\" width=\"30\" height=\"14\"><rect class=\"level1\" width=\"30\" height=\"14\"/><rect fill=\"url(#waits)\" width=\"30\" height=\"14\"/></svg> The job waits for the reply.</p>\n",
+            ),
         ],
     )
 }
@@ -360,7 +473,7 @@ fn put_halts_head(text: &mut Vec<u8>, count: u64) -> Result<(), AllocError>
             Part::Markup(b"<h2>Halts: "),
             Part::Number(count),
             Part::Markup(
-                b"</h2>\n<table>\n<tr><th>Level</th><th>Job</th><th>Halt</th><th>Reply</th></tr>\n",
+                b"</h2>\n<table>\n<tr><th>Level</th><th>Job</th><th>Turn</th><th>Halt</th><th>Reply</th></tr>\n",
             ),
         ],
     )
@@ -377,6 +490,8 @@ fn put_halt_row(text: &mut Vec<u8>, halt: &Halt<'_>) -> Result<(), AllocError>
             Part::Number(u64::from(halt.level.number())),
             Part::Markup(b"</td><td>"),
             Part::Number(halt.job),
+            Part::Markup(b"</td><td>"),
+            Part::Number(halt.turn),
             Part::Markup(b"</td><td><pre>"),
             Part::Value(halt.words),
             Part::Markup(b"</pre></td><td>"),
@@ -442,8 +557,10 @@ fn put_region_head(text: &mut Vec<u8>, whole: u64, region: &Region<'_>) -> Resul
             Part::Number(region.tracks),
             Part::Markup(b" tracks, "),
             Part::Number(region.free),
+            Part::Markup(b" free</p>\n<svg class=\"chart "),
+            area_part(region.level),
             Part::Markup(
-                b" free</p>\n<svg class=\"chart\" viewBox=\"0 0 1000 30\" role=\"img\" aria-label=\"Files by track\">\n<rect class=\"lane\" width=\"",
+                b"\" viewBox=\"0 0 1000 30\" role=\"img\" aria-label=\"Files by track\">\n<rect class=\"lane\" width=\"",
             ),
             Part::Number(width(whole, region.tracks)),
             Part::Markup(b"\" height=\"30\"/>\n"),
@@ -455,19 +572,21 @@ fn put_region_head(text: &mut Vec<u8>, whole: u64, region: &Region<'_>) -> Resul
 fn put_extent_bar(text: &mut Vec<u8>, whole: u64, extent: &Extent<'_>) -> Result<(), AllocError>
     ensures { OnOk result (text.new.items ≡ text.old.items ++ page_of (extent_bar whole extent.now)) }
 {
+    let wide = width(whole, extent.tracks);
+    let is_shown = fits(wide, FILE_TAKEN, extent.name.len() as u64);
     put(
         text,
         &[
             Part::Markup(b"<svg x=\""),
             Part::Number(scaled(whole, extent.before)),
             Part::Markup(b"\" width=\""),
-            Part::Number(width(whole, extent.tracks)),
+            Part::Number(wide),
             Part::Markup(b"\" height=\"30\"><title>"),
             Part::Value(extent.name),
             Part::Markup(
                 b"</title><rect class=\"file\" width=\"1000\" height=\"30\"/><text x=\"4\" y=\"20\">",
             ),
-            Part::Value(extent.name),
+            shown(is_shown, Part::Value(extent.name)),
             Part::Markup(b"</text></svg>\n"),
         ],
     )

@@ -58,11 +58,11 @@ fn put_style(text: &mut Vec<u8>) -> Result<(), AllocError>
         text,
         &[
             Part::Markup(
-                b":root{color-scheme:light dark;--ink:#111;--paper:#fff;--bar:#e1f2e1;--edge:#999;--one:#b9d4f0;--two:#f0d2ae}\n",
+                b":root{color-scheme:light dark;--ink:#111;--paper:#fff;--bar:#e1f2e1;--edge:#999;--one:#b9d4f0;--two:#f0d2ae;--own:#d9c6e8;--halt:#b00}\n",
             ),
             Part::Markup(b"@media screen and (prefers-color-scheme:dark){\n"),
             Part::Markup(
-                b":root{--ink:#eee;--paper:#151515;--bar:#1c331c;--edge:#777;--one:#24486e;--two:#6e4b1c}}\n",
+                b":root{--ink:#eee;--paper:#151515;--bar:#1c331c;--edge:#777;--one:#24486e;--two:#6e4b1c;--own:#523a68;--halt:#f66}}\n",
             ),
             Part::Markup(
                 b"body{color:var(--ink);background:var(--paper);font:1rem/1.4 sans-serif;margin:1rem}\n",
@@ -73,14 +73,20 @@ fn put_style(text: &mut Vec<u8>) -> Result<(), AllocError>
             Part::Markup(
                 b"td,th{border-bottom:1px solid var(--edge);padding:.2rem .7rem;text-align:left;vertical-align:top}\n",
             ),
-            Part::Markup(b"pre{margin:0;white-space:pre-wrap}\n"),
+            Part::Markup(
+                b"pre{margin:0;white-space:pre-wrap}\ntd:has(pre){width:100%;max-width:0}\ntd pre{white-space:pre;overflow-x:auto}\n@media (max-width:40rem){td,th{padding:.2rem .3rem}}\n",
+            ),
             Part::Markup(
                 b".chart{display:block;max-width:70rem;margin:.5rem 0;overflow:visible}\n",
             ),
             Part::Markup(b".lane{fill:none;stroke:var(--edge)}\n"),
-            Part::Markup(b".level1,.file{fill:var(--one)}\n"),
-            Part::Markup(b".level2{fill:var(--two)}\n"),
-            Part::Markup(b".chart svg:nth-of-type(even) rect{opacity:.7}\n"),
+            Part::Markup(b".level1{fill:var(--one)}\n"),
+            Part::Markup(
+                b".level2{fill:var(--two)}\n.masters{fill:var(--own)}\n.mark{fill:var(--halt)}\n.stripe{fill:var(--paper);opacity:.75}\n",
+            ),
+            Part::Markup(
+                b".chart>svg:nth-of-type(even)>rect{opacity:.7}\n.key{vertical-align:text-bottom}\n",
+            ),
             Part::Markup(b"text{fill:var(--ink);font:14px sans-serif}\n"),
             Part::Markup(
                 b"section{position:relative;width:132ch;height:792pt;padding:0 4ch;margin:1rem 0;border:1px solid var(--edge);\n",
@@ -93,7 +99,7 @@ fn put_style(text: &mut Vec<u8>) -> Result<(), AllocError>
             Part::Markup(b"section p{margin:-12pt 0 0}\n"),
             Part::Markup(b"@page form{size:14.875in 11in;margin:0}\n"),
             Part::Markup(
-                b"@media print{body{margin:0}nav{display:none}tr,svg{break-inside:avoid}\n",
+                b"@media print{body{margin:0}nav{display:none}tr,svg{break-inside:avoid}h2,h3,h3+p{break-after:avoid}td,th{padding:.2rem .3rem}td pre{font-size:6pt;overflow:visible}\n",
             ),
             Part::Markup(
                 b"section{font-size:12pt;height:791pt;margin:0;padding:0 calc((1071pt - 132ch)/2);border:0;overflow:hidden;\n",

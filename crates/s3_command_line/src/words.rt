@@ -304,6 +304,11 @@ const OPERATE: CommandWords = CommandWords {
             help: "The deck of level 2; several files are one deck, as for level 1",
         },
         Word {
+            name: "plain-text",
+            takes: Takes::Nothing,
+            help: "Standard input, the file - of a deck, is plain text",
+        },
+        Word {
             name: "replies",
             takes: Takes::Files,
             help: "Rules that answer halts, a line each: LEVEL LETTERS DIGIT [PROGRAM]; with - the replies come from standard input",
@@ -364,8 +369,13 @@ const OPERATE: CommandWords = CommandWords {
             help: "How pages are written; text by default; needs --paper",
         },
         Word {
+            name: "held",
+            takes: Takes::UnlistedFile,
+            help: "An empty file that gets level 2's report as long as standard output waits for level 1",
+        },
+        Word {
             name: "plain",
-            takes: Takes::Nothing,
+            takes: Takes::Unlisted,
             help: "As --form-look plain",
         },
         Word {

@@ -1,10 +1,12 @@
 -- A run begins: nothing is read yet, and no file has a current record.
-use Rattle.std.proofs.Common.{◌≡◌, ℕ, ◌<◌, length, get_or, map, replicate, List, [], ◌∷◌, Bool, true, false, not, ◌||◌, refl, sym, ◌∙◌, ap, subst, zero, suc, arith}
+use Rattle.std.proofs.Common.{◌≡◌, ℕ, ◌<◌, ◌++◌, ◌∙◌, Vec, length, take, get_or, map, replicate, List, [], ◌∷◌, Bool, true, false, not, ◌||◌, refl, sym, ap, subst, zero, suc, arith}
 use Rattle.std.specs.Prelude.{Option, None, is_some, slice_get, filter, if◌then◌else◌}
 use Rattle.std.specs.Option.{option_and_then}
 use Rattle.std.specs.List.{All, list_all, list_any}
 use Rattle.std.proofs.Math.Path.{fun_ext}
-use Rattle.std.proofs.lemmas.List.{length-replicate}
+use Rattle.std.proofs.lemmas.List.{append-nil, drop_all, length-replicate, length-take-le, with_items_is}
+use Rattle.std.specs.Vec.{with_items}
+use borrow.Rule.Slice.PartMut.{put_mid}
 use Rattle.s3_cards.specs.declared.name.Name.{Name}
 use Rattle.s3_lines.specs.declared.sheet.FileLine.{FileLine}
 use Rattle.s3_meaning.specs.declared.current.Current.{Current}
@@ -61,6 +63,16 @@ begins_progress program switches progress sound first = record {
     inputs = ap (λ (r : meaning.Reading). r.files) (first e (record { on = λ indicator. refl }))
 
 -- ---- no file has a current record
+pub all_forgotten : {Z : Type 0} (current : Vec (Option Current) Z) (seen given : List (Option Current)) (size : ℕ) → size ≡ length current.items → seen ≡ current.items → given ≡ replicate (length (take size seen)) None
+    → (with_items current (put_mid 0 size seen given)).items ≡ replicate (length current.items) None
+all_forgotten current seen given size same whole is =
+    let none : Option Current = None in
+    let long : length seen ≡ length current.items = ap length whole in
+    let taken : length (take size seen) ≡ length current.items = length-take-le size seen (omega (arith, long, same)) ∙ same in
+    let put : put_mid 0 size seen given ≡ replicate (length current.items) None =
+    (λ i. (is ∙ ap (λ n. replicate n None) taken) i ++ drop_all size seen (omega (arith, long, same)) i) ∙ append-nil (replicate (length current.items) None) in
+    with_items_is current (put_mid 0 size seen given) (ap length put ∙ omega (arith, current.ok, length-replicate (length current.items) none)) ∙ put
+
 none_there : (files k : ℕ) → option_and_then (λ (entry : Option Current). entry) (slice_get (replicate files None) k) ≡ None
 none_there zero k = refl
 none_there (suc files) zero = refl

@@ -64,18 +64,13 @@ impl Cycle {
     }
 
     /// The next job of the same program at its first request, with its switches and its date. What the program was decoded into
-    /// is kept.
-    pub fn restart(
-        mut self,
-        alloc: Global,
-        switches: u8,
-        date: [u8; 6],
-    ) -> Result<Cycle, AllocError>
+    /// is kept, and so is the memory of the run before.
+    pub fn restart(mut self, switches: u8, date: [u8; 6]) -> Cycle
         requires { IsDate date }
-        ensures { IfOk result (λ c. (source : Source) → StandsFor self source → StandsFor c source × ((answers : List MeantAnswer) → rest source c answers ≡ Req source switches date answers)) }
+        ensures { (source : Source) → StandsFor self source → StandsFor result source × ((answers : List MeantAnswer) → rest source result answers ≡ Req source switches date answers) }
     {
-        self.stepper.restart(alloc, switches, date)?;
-        Ok(self)
+        self.stepper.restart(switches, date);
+        self
     }
 
     /// The F lines of the program, by slot.

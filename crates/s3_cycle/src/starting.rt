@@ -2,7 +2,8 @@
 ghost use Rattle.std.specs.Prelude.{◌≡◌, ◌+◌, ◌*◌, ◌^◌, ◌<◌, None, length, replicate, IfOk, OnOk};
 ghost use Rattle.s3_operations.specs.Inner.Beginning.{IsDate};
 ghost use Rattle.s3_operations.specs.Inner.Held.{HasTexts};
-ghost use Rattle.s3_cycle.specs.Inner.Going.{IsRunning};
+ghost use Rattle.s3_match.specs.Inner.Reading.{IsReading};
+ghost use Rattle.s3_cycle.specs.Inner.Going.{AreSound, IsRunning};
 ghost use Rattle.s3_cycle.specs.Inner.Starting.{AreInstructions, BeginsProgress, BeginsRun, BeginsState, IsBegun, Starts};
 
 use crate::found::FoundRecord;
@@ -38,6 +39,13 @@ fn no_records(alloc: Global, files: usize) -> Result<Vec<Option<Current>>, Alloc
     Ok(current)
 }
 
+/// Becomes none, record by record.
+fn forget(current: &mut [Option<Current>])
+    ensures { current.new ≡ replicate (length current.old) None }
+{
+    current.fill(None);
+}
+
 impl Progress {
     /// Nothing is read yet.
     fn first(alloc: Global, program: &Program, switches: u8) -> Result<Progress, AllocError>
@@ -49,6 +57,16 @@ impl Progress {
             course: Course::new(Spot::detail(program)),
             record: FoundRecord::none(alloc)?,
         })
+    }
+
+    /// Nothing of another job of the same program is read yet. It takes no memory.
+    fn begin_again(&mut self, program: &Program, switches: u8)
+        requires { IsReading program.now self.old.reading }
+        ensures { BeginsProgress program.now switches self.new }
+    {
+        self.reading.begin_again(program, switches);
+        self.time = Time::Last;
+        self.course.restart(Spot::detail(program));
     }
 }
 
@@ -72,6 +90,28 @@ impl State {
             is_totals_due: false,
             carriage: Carriage { page: 1, line: 1 },
         })
+    }
+
+    /// Nothing of the job before is held any more. It takes no memory.
+    fn begin_again(&mut self, program: &Program, switches: u8, date: [u8; 6])
+        requires sound { AreSound program.now self.old }
+        requires date { IsDate date }
+        ensures { BeginsState program.now switches date self.new }
+    {
+        self.values.begin_again(program, switches, date);
+        self.forget_records();
+        self.controls.forget();
+        self.is_totals_due = false;
+        self.carriage = Carriage { page: 1, line: 1 };
+    }
+
+    /// No file has a current record any more.
+    fn forget_records(&mut self)
+        ensures records { self.new.current.items ≡ replicate (length self.old.current.items) None }
+        ensures alone { self.new ≡ record self.old { current = self.new.current } }
+    {
+        let count = self.current.len();
+        forget(&mut self.current[0..count]);
     }
 }
 
@@ -187,17 +227,14 @@ impl Stepper {
         }
     }
 
-    /// The next job of the same program at its first request. The program and its instructions stay.
-    pub fn restart(&mut self, alloc: Global, switches: u8, date: [u8; 6]) -> Result<(), AllocError>
+    /// The next job of the same program at its first request. The program and its instructions stay. It takes no memory.
+    pub fn restart(&mut self, switches: u8, date: [u8; 6])
         requires running { IsRunning self.old }
         requires date { IsDate date }
-        ensures { OnOk result (Starts self.old.program switches date self.new) }
+        ensures { Starts self.old.program switches date self.new }
     {
-        let state = State::first(alloc, &self.program, switches, date)?;
-        let progress = Progress::first(alloc, &self.program, switches)?;
-        self.state = state;
-        self.progress = progress;
+        self.state.begin_again(&self.program, switches, date);
+        self.progress.begin_again(&self.program, switches);
         self.put_headings(0);
-        Ok(())
     }
 }

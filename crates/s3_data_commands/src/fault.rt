@@ -107,22 +107,27 @@ fn push_call(
         Use::Reads => " can't be read: ",
         Use::Saves => " can't be saved: ",
     })?;
-    let reason = Reason(*error);
-    write!(text, "{reason}")?;
-    if call_words(error.kind()).is_empty() {
-        text.push_str(cure_of(used, error.kind()))?;
+    if let (Use::Reads, ErrorKind::FileTooLarge) = (used, error.kind()) {
+        return text.push_str(TOO_LARGE);
     }
-    Ok(())
+    let words = call_words(error.kind());
+    if words.is_empty() {
+        write!(text, "{error}")?;
+        text.push_str(cure_of(used))
+    } else {
+        text.push_str(words)
+    }
 }
 
+/// Why a file isn't read that has more bytes than a deck.
+const TOO_LARGE: &'static str =
+    "file too large; a deck has at most 4,194,304 bytes: take the source alone";
+
 /// The cure of a failed call, if the system has the reason.
-fn cure_of(used: Use, kind: ErrorKind) -> &'static str {
-    match (used, kind) {
-        (Use::Reads, ErrorKind::FileTooLarge) => {
-            "; a deck has at most 4,194,304 bytes: take the source alone"
-        }
-        (Use::Reads, _) => "; see whether its disk is at work, or take a copy",
-        (Use::Saves, _) => "; see whether its disk is at work, or save elsewhere",
+fn cure_of(used: Use) -> &'static str {
+    match used {
+        Use::Reads => "; see whether its disk is at work, or take a copy",
+        Use::Saves => "; see whether its disk is at work, or save elsewhere",
     }
 }
 

@@ -3,13 +3,13 @@
 
 use s3_cards::{Name, host_byte, word_len};
 use s3_host_files::shown_name;
-use s3_refusals::Shown;
+use s3_refusals::{Quoted, Shown};
 use std::alloc::{AllocError, Global};
 
 /// The values that a sentence can name.
 #[derive(Clone, Copy)]
 pub struct Words<'a> {
-    /// `{path}`: the file of a pack, or of the deck that has a layout; `-` is standard input. `{given}`: the same as it was given.
+    /// `{path}`: the file of a pack, or of the deck that has a layout; `-` is standard input. `{given}`: the same as a shell takes it.
     path: &'a str,
     /// `{area}`: 0 for the masters, 1 or 2 for a level.
     area: u16,
@@ -80,7 +80,7 @@ impl<'a> Words<'a> {
     fn push_value(self, text: &mut String, name: &str) -> Result<(), AllocError> {
         match name {
             "path" => push_shown_name(text, shown_name(self.path)),
-            "given" => push_shown_name(text, self.path),
+            "given" => push_quoted(text, self.path),
             "area" => push_number(text, u64::from(self.area)),
             "label" => push_shown_name(text, self.label),
             "number" => push_number(text, self.number),
@@ -94,6 +94,12 @@ impl<'a> Words<'a> {
 pub fn push_shown_name(text: &mut String, name: &str) -> Result<(), AllocError> {
     let shown = Shown(name);
     write!(text, "{shown}")
+}
+
+/// Appends a name as a shell takes it.
+fn push_quoted(text: &mut String, name: &str) -> Result<(), AllocError> {
+    let quoted = Quoted(name);
+    write!(text, "{quoted}")
 }
 
 fn push_number(text: &mut String, number: u64) -> Result<(), AllocError> {

@@ -13,7 +13,7 @@ use s3_decks::{CardRange, DeckText, Statements, jobs_of};
 use s3_host_files::{keep_apart, path_of, read_within, shown_name};
 use s3_layout::{Choice, LayoutFault, SourceLayout, read_layout, read_types, read_whole};
 use s3_lines::indicator::Indicator;
-use s3_paper_commands::{deck_encoding_words, is_plain_text, tell_punched};
+use s3_paper_commands::{PLAIN_INPUT, deck_encoding_words, is_plain_text, tell_punched};
 use s3_punch::{Begun, Part, Punched, punch};
 use s3_refusals::Shown;
 use s3_sheets::{SheetFault, read_sheets};
@@ -35,6 +35,23 @@ pub fn delimiter_of(rt: &HostRuntime, matches: &ArgMatches<'_>) -> Result<u8, Fa
     }
 }
 
+/// Refuses `--plain-text` if no layout is standard input.
+pub fn test_plain_text(
+    rt: &HostRuntime,
+    matches: &ArgMatches<'_>,
+    reads_layout: bool,
+) -> Result<(), Fault> {
+    if is_input_plain(matches) && !reads_layout {
+        return Err(wrong_words(rt.alloc(), PLAIN_INPUT));
+    }
+    Ok(())
+}
+
+/// Whether standard input is plain text.
+fn is_input_plain(matches: &ArgMatches<'_>) -> bool {
+    matches.get_flag("plain-text")
+}
+
 /// The layout that the options name: of the source in the deck at a path, the file and the type of records that they choose.
 pub fn layout_of(
     rt: &HostRuntime,
@@ -51,7 +68,7 @@ pub fn typed_layout_of(
     path: &str,
 ) -> Result<SourceLayout, Fault> {
     let choice = choice_of(rt, matches)?;
-    let text = text_at(rt, path)?;
+    let text = text_at(rt, matches, path)?;
     let deck = deck_of(rt, &text)?;
     let source = source_in(rt, path, &deck)?;
     match typed_layout_in(rt, &deck, source, choice) {
@@ -107,7 +124,7 @@ fn source_layout(
     is_whole: bool,
 ) -> Result<SourceLayout, Fault> {
     let choice = choice_of(rt, matches)?;
-    let text = text_at(rt, path)?;
+    let text = text_at(rt, matches, path)?;
     let deck = deck_of(rt, &text)?;
     let source = source_in(rt, path, &deck)?;
     match layout_in(rt, &deck, source, choice, is_whole) {
@@ -138,11 +155,12 @@ fn layout_in(
 /// that has the file's label as its name, or else the only one.
 pub fn layouts_of(
     rt: &HostRuntime,
+    matches: &ArgMatches<'_>,
     path: &str,
     label: &str,
     name: Name,
 ) -> Result<Vec<SourceLayout>, Fault> {
-    let text = text_at(rt, path)?;
+    let text = text_at(rt, matches, path)?;
     let deck = deck_of(rt, &text)?;
     let source = source_in(rt, path, &deck)?;
     match layouts_in(rt, &deck, source, name) {
@@ -278,7 +296,11 @@ fn source_file_of(rt: &HostRuntime, text: &str) -> Result<Name, Fault> {
 }
 
 /// The cards of the file at a path, each with its line there. A file of plain text is punched; what is wrong with it is reported.
-fn text_at<'a>(rt: &HostRuntime, path: &'a str) -> Result<DeckText<'a>, Fault> {
+fn text_at<'a>(
+    rt: &HostRuntime,
+    matches: &ArgMatches<'_>,
+    path: &'a str,
+) -> Result<DeckText<'a>, Fault> {
     if let Err(fault) = keep_apart(rt, path_of(path)) {
         return Err(of_pack(rt, Use::Reads, &fault, path));
     }
@@ -297,8 +319,9 @@ fn text_at<'a>(rt: &HostRuntime, path: &'a str) -> Result<DeckText<'a>, Fault> {
         return Err(refused(format!(in rt.alloc(); "{path} {words}")));
     }
     let mut text = DeckText::new(rt.alloc());
-    if is_plain_text(path) {
-        add_punched(&mut text, path, sound_punched(rt, path, &bytes)?)?;
+    if is_plain_text(path, is_input_plain(matches)) {
+        let punched = sound_punched(rt, path, &bytes)?;
+        add_punched(&mut text, shown_name(path), punched)?;
     } else {
         text.add(shown_name(path), bytes)?;
     }
@@ -311,7 +334,7 @@ fn sound_punched(rt: &HostRuntime, path: &str, text: &[u8]) -> Result<Punched, F
     if punched.faults.is_empty() {
         return Ok(punched);
     }
-    tell_punched(rt, path, &punched);
+    tell_punched(rt, shown_name(path), &punched);
     Err(refused(Words::of_path(path).fill(
         rt.alloc(),
         "the text {path} can't be punched; correct what is reported above",
@@ -333,10 +356,10 @@ fn punched_of(rt: &HostRuntime, text: &[u8]) -> Result<Punched, AllocError> {
     punch(rt.alloc(), text, &begun)
 }
 
-/// Puts the cards that were punched of a file into a text.
+/// Puts the cards that were punched of a file of this name into a text.
 fn add_punched<'a>(
     text: &mut DeckText<'a>,
-    path: &'a str,
+    name: &'a str,
     punched: Punched,
 ) -> Result<(), AllocError> {
     let Punched {
@@ -346,7 +369,7 @@ fn add_punched<'a>(
         faults: _faults,
         part: _part,
     } = punched;
-    text.add_punched(path, cards, &origins)
+    text.add_punched(name, cards, &origins)
 }
 
 /// The cards of a text.

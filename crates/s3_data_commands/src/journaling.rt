@@ -39,7 +39,9 @@ pub fn journal_for<'a>(
         Err(refusal) => return Err(of_journal(rt, &refusal)),
     };
     let journal = OpenJournal { file, before };
-    if !matches.get_flag("again") {
+    if matches.get_flag("again") {
+        journal.report_again(rt, path, posting);
+    } else {
         journal.test_start(rt, path, posting)?;
     }
     Ok(Some(journal))
@@ -101,19 +103,35 @@ impl<'a> OpenJournal<'a> {
         }
     }
 
+    /// Reports that what the command posts by `--again` is posted, if it is.
+    fn report_again(&self, rt: &HostRuntime, path: &str, posting: Posting<'_>) {
+        let pack = GivenPack {
+            name: path,
+            sum: self.before.as_str(),
+        };
+        self.file.report_again(rt, pack, posting);
+    }
+
     /// Ends the save of the pack: its line is removed again if the pack wasn't saved.
     pub fn end_save(&self, rt: &HostRuntime, done: &Result<(), FileFault>) {
         self.file.end_save(rt, done);
     }
 
-    /// Appends the line of what the command did, given the pack that it leaves, and brings the line to the disk. A journal that got no
+    /// Appends the line of what the command did, given the file and the pack that it leaves, and brings the line to the disk. A journal that got no
     /// line and was made by the command is removed again.
-    pub fn append(&mut self, rt: &HostRuntime, pack: &[u8], work: Work) -> Result<(), Fault> {
+    pub fn append(
+        &mut self,
+        rt: &HostRuntime,
+        save: &str,
+        pack: &[u8],
+        work: Work,
+    ) -> Result<(), Fault> {
         let after = checksum_of(rt.alloc(), pack)?;
         let line = NewLine {
             before: self.before.as_str(),
             after: after.as_str(),
             status: 0,
+            save: Some(save),
         };
         match self.file.append(rt, line, work) {
             Ok(()) => Ok(()),

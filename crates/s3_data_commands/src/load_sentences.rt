@@ -253,7 +253,8 @@ fn push_reason(text: &mut String, reason: &Reason, has_comma: bool) -> Result<()
     match reason {
         Reason::Cell(fault, cell) => {
             push_quoted(text, cell)?;
-            text.push_str(words_of(*fault, has_comma))
+            text.push_str(words_of(*fault, has_comma))?;
+            text.push_str(hint_of(*fault, has_comma, cell))
         }
         Reason::OverLines(cell) => {
             text.push_str("the cell ")?;
@@ -345,6 +346,15 @@ fn push_type(text: &mut String, indicator: Indicator) -> Result<(), AllocError> 
         Indicator::Halt(number) => write!(text, "H{number}"),
         Indicator::Level(number) => write!(text, "L{number}"),
         _ => text.push_str("LR"),
+    }
+}
+
+/// What further mends a cell with a comma that is no number, if numbers have a point before their decimals: other marks may be named.
+pub fn hint_of(fault: CellFault, has_comma: bool, cell: &[u8]) -> &'static str {
+    if matches!(fault, CellFault::NoNumber) && !has_comma && cell.contains(&b',') {
+        ", or name its marks by --decimal and --thousands"
+    } else {
+        ""
     }
 }
 

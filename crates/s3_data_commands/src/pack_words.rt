@@ -344,7 +344,7 @@ pub fn saved<'a>(
     } = save;
     let limit = limit_of(rt, matches)?;
     if let Some(journal) = &mut journal {
-        journal.append(rt, pack, work)?;
+        journal.append(rt, path, pack, work)?;
     }
     // a pack that can't be read isn't replaced: the save fails with the reason
     let is_pack = matches!(is_pack_at(rt, Path::new(path)), Ok(true));

@@ -6,7 +6,7 @@ use s3_cells::{Field, ShowFault};
 use s3_labels::LabelFault;
 use s3_layout::LayoutFault;
 use s3_paper_commands::OutputReason;
-use s3_refusals::{Reason, call_words};
+use s3_refusals::call_words;
 use s3_unload::{HiddenValue, UnloadFault};
 use std::alloc::{AllocError, Global};
 use std::io;
@@ -138,12 +138,14 @@ pub fn output_sentence(alloc: Global, failure: Option<io::Error>) -> Result<Stri
 
 /// That standard input can't be read, and why; what a command takes from it is named for the cure.
 pub fn unread_sentence(alloc: Global, error: io::Error, taken: &str) -> Result<String, AllocError> {
-    let reason = Reason(error);
-    let mut text = format!(in alloc; "standard input can't be read: {reason}")?;
-    if call_words(error.kind()).is_empty() {
-        write!(text, "; give it the {taken} by < FILE or by a pipe")?;
+    let words = call_words(error.kind());
+    if words.is_empty() {
+        format!(in alloc;
+            "standard input can't be read: {error}; give it the {taken} by < FILE or by a pipe"
+        )
+    } else {
+        format!(in alloc; "standard input can't be read: {words}")
     }
-    Ok(text)
 }
 
 /// Why the value of a field in a record can't be shown.

@@ -6,7 +6,7 @@ use crate::fault::Fault;
 use crate::fixed::{
     AS_ASCII, AS_EBCDIC, LINE_FEEDS, fixed_form, hidden_place, hidden_sentence, refuse_cells,
 };
-use crate::inputs::{delimiter_of, layout_of, whole_records_of};
+use crate::inputs::{delimiter_of, layout_of, test_plain_text, whole_records_of};
 use crate::load::{MOST_TOLD, tell_others};
 use crate::pack_words::{area_number, label_of, output_beside, pack_of, tell, wrong_words};
 use crate::sentences::{
@@ -14,12 +14,12 @@ use crate::sentences::{
     unload_sentence, value_sentence,
 };
 use crate::words::{
-    AREA, DATE_FIELDS, DECIMAL, DELIMITER, LABEL, LAYOUT, LAYOUT_FILE, LAYOUT_TYPE, PACK,
-    SAFE_CELLS,
+    AREA, DATE_FIELDS, DECIMAL, DELIMITER, LABEL, LAYOUT, LAYOUT_FILE, LAYOUT_PLAIN, LAYOUT_TYPE,
+    PACK, SAFE_CELLS,
 };
 use clap::ArgMatches;
 use s3_cards::{LevelId, Name};
-use s3_host_files::StandardOutput;
+use s3_host_files::{StandardOutput, is_input};
 use s3_layout::SourceLayout;
 use s3_paper_commands::status::{DONE, FILE_WRONG, OPTIONS_WRONG, PERSON_NEEDED, REFUSED};
 use s3_paper_commands::words::{Choice, CommandWords, Example, Status, Takes, Word, value_of};
@@ -86,6 +86,7 @@ pub const UNLOAD: CommandWords = CommandWords {
         AREA,
         LABEL,
         LAYOUT,
+        LAYOUT_PLAIN,
         LAYOUT_FILE,
         LAYOUT_TYPE,
         Word {
@@ -118,6 +119,10 @@ fn unload_file(rt: &HostRuntime, matches: &ArgMatches<'_>) -> Result<(), Fault> 
     let label = value_of(matches, "label");
     let name = label_of(rt, label)?;
     let path = value_of(matches, "pack");
+    let reads_layout = matches
+        .get_str("layout")
+        .is_some_and(|source| is_input(source));
+    test_plain_text(rt, matches, reads_layout)?;
     if let Some(form) = fixed_form(rt, matches)? {
         refuse_cells(rt, matches)?;
         test_choice(rt, matches)?;

@@ -92,6 +92,13 @@ pub const LAYOUT: Word = Word {
     help: "A deck with the RPG source whose I sheet has the fields; one in .rpg or .punch is plain text",
 };
 
+/// Standard input has a layout as plain text.
+pub const LAYOUT_PLAIN: Word = Word {
+    name: "plain-text",
+    takes: Takes::Nothing,
+    help: "Standard input, the layout -, is plain text",
+};
+
 /// The file of a layout that is meant.
 pub const LAYOUT_FILE: Word = Word {
     name: "file",

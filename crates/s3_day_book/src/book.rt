@@ -175,9 +175,21 @@ fn page_of_files(
     files: Files<'_>,
 ) -> Result<Vec<u8>, AllocError> {
     let regions = [
-        region(MASTERS, header.masters, free[0], files.masters),
-        region(LEVEL_ONE, header.level_one, free[1], files.one),
-        region(LEVEL_TWO, header.level_two, free[2], files.two),
+        region(MASTERS, None, header.masters, free[0], files.masters),
+        region(
+            LEVEL_ONE,
+            Some(LevelId::One),
+            header.level_one,
+            free[1],
+            files.one,
+        ),
+        region(
+            LEVEL_TWO,
+            Some(LevelId::Two),
+            header.level_two,
+            free[2],
+            files.two,
+        ),
     ];
     page_over(alloc, book, changes, &regions)
 }
@@ -218,9 +230,16 @@ fn page_of<'x>(
     day_page(alloc, &day)
 }
 
-fn region<'a>(name: &'a str, place: Stretch, free: u64, files: &'a [Extent<'a>]) -> Region<'a> {
+fn region<'a>(
+    name: &'a str,
+    level: Option<LevelId>,
+    place: Stretch,
+    free: u64,
+    files: &'a [Extent<'a>],
+) -> Region<'a> {
     Region {
         name: name.as_bytes(),
+        level,
         tracks: u64::from(place.sectors / TRACK),
         free,
         files,
@@ -272,6 +291,9 @@ fn halts_of(alloc: Global, owned: &[BookHalt]) -> Result<Vec<Halt<'_>>, AllocErr
         halts.push(Halt {
             level: halt.level,
             job: halt.job,
+            letters: &halt.letters,
+            turn: halt.turn,
+            replied: halt.replied,
             words: halt.words.as_bytes(),
             reply: halt.reply.as_bytes(),
         })?;

@@ -32,6 +32,12 @@ pub struct BookHalt {
     pub level: LevelId,
     /// The number of its job.
     pub job: u64,
+    /// Its two letters, in ASCII.
+    pub letters: [u8; 2],
+    /// How many turns both levels had taken when it came.
+    pub turn: u64,
+    /// How many turns both levels had taken when the reply was given, if it has one.
+    pub replied: Option<u64>,
     /// What was shown of it.
     pub words: String,
     /// The reply, and who gave it.

@@ -7,7 +7,7 @@ use std::alloc::{AllocError, Global};
 use std::io::Write;
 
 /// The options that name outputs, or the log of another day, which no log has.
-const OUTPUTS: [&str; 9] = [
+const OUTPUTS: [&str; 10] = [
     "--save",
     "--keep",
     "--script",
@@ -17,6 +17,7 @@ const OUTPUTS: [&str; 9] = [
     "--deck-out2",
     "--paper",
     "--journal",
+    "--held",
 ];
 
 /// A log whose day is done again.

@@ -1,5 +1,6 @@
 //! Why a day isn't operated, or not to its end.
-ghost use Rattle.std.specs.Prelude.{◌≤◌};
+ghost use Rattle.std.specs.Prelude.{◌≡◌, ◌≤◌};
+ghost use Rattle.s3_day_files.specs.Inner.Statuses.{status_of};
 
 use crate::kind::Kind;
 use s3_cards::LevelId;
@@ -184,7 +185,8 @@ impl<'a> DayFault<'a> {
 
     /// The exit status of the refusal.
     pub fn status(&self) -> u8
-        ensures { result ≤ 3 }
+        ensures status { result ≡ status_of self.now }
+        ensures most { result ≤ 3 }
     {
         match self {
             DayFault::Usage(_) => WRONG_WORDS,
@@ -206,7 +208,8 @@ impl<'a> DayFault<'a> {
 
     /// Writes the line of a refusal, and gives its exit status.
     pub fn tell<W: Write>(&self, writer: &mut W) -> u8
-        ensures { result ≤ 3 }
+        ensures status { result ≡ status_of self.now }
+        ensures most { result ≤ 3 }
     {
         match self {
             DayFault::Cli(fault) => tell(writer, fault),

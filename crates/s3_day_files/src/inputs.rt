@@ -116,6 +116,7 @@ impl<'a> Decks<'a> {
         let how = HowRead {
             is_logged,
             is_quiet: order.is_quiet,
+            is_input_plain: order.is_input_plain,
         };
         let one = LevelDeck::read(rt, LevelId::One, &order.deck1, how)?;
         let two = LevelDeck::read(rt, LevelId::Two, &order.deck2, how)?;

@@ -93,6 +93,7 @@ pub fn begin_day<'a>(
     let file = JournalFile::open(rt, name, limit)?;
     let journal = DayJournal { file, given };
     if order.does_again {
+        journal.report_again(rt, order);
         return Ok(Begin::Day(Some(journal)));
     }
     match journal.test_start(rt, order) {
@@ -108,14 +109,19 @@ pub fn begin_day<'a>(
 impl<'a> DayJournal<'a> {
     fn test_start(&self, rt: &HostRuntime, order: &Order<'a>) -> Result<(), JournalRefusal<'a>> {
         let pack = GivenPack {
-            name: order
-                .pack
-                .map(|name| shown_name(name))
-                .unwrap_or("the new pack"),
+            name: pack_name(order),
             sum: self.given.pack.as_str(),
         };
         let cure = if order.is_once { ONCE } else { AGAIN };
         self.file.test_start(rt, pack, self.given.posting(), cure)
+    }
+
+    fn report_again(&self, rt: &HostRuntime, order: &Order<'a>) {
+        let pack = GivenPack {
+            name: pack_name(order),
+            sum: self.given.pack.as_str(),
+        };
+        self.file.report_again(rt, pack, self.given.posting());
     }
 
     /// A second handle of the journal, if this day made it.
@@ -147,13 +153,27 @@ impl<'a> DayJournal<'a> {
             one,
             two,
         });
-        let line = NewLine {
-            before: given.pack.as_str(),
-            after,
-            status,
-        };
+        let line = new_line(given.pack.as_str(), after, status);
         Ok(self.file.append(rt, line, work)?)
     }
+}
+
+/// The line of a day that began with a pack and leaves another one. If it can't be written, the day reports that the pack isn't saved.
+fn new_line<'b>(before: &'b str, after: &'b str, status: u8) -> NewLine<'b> {
+    NewLine {
+        before,
+        after,
+        status,
+        save: None,
+    }
+}
+
+/// The name of the pack, for messages.
+fn pack_name<'a>(order: &Order<'a>) -> &'a str {
+    order
+        .pack
+        .map(|name| shown_name(name))
+        .unwrap_or("the new pack")
 }
 
 /// A copy of the checksum of the rules.

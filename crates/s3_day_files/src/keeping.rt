@@ -6,15 +6,17 @@
 //!    first.
 //! 2. The line of the journal is brought to the disk.
 //! 3. The new pack gets the name `P`, which is brought to the disk.
-//! 4. The packs before the first free number move to the next number, the highest first and `P.0` last. If no number is free, the last
-//!    pack is replaced, which is the one that isn't kept any longer.
+//! 4. The packs before the first free number move to the next number, the highest first and `P.0` last. If something else is there
+//!    before a free number, the last pack before it is replaced.
+//! 5. Packs with the highest numbers are removed, until one fewer is kept than before the save, or as many as are wanted.
 //!
 //! So a pack that is to be kept has a name at each moment: between two steps, and between two moves of step 4. After a power cut this
 //! is so if the file system brings the renames of a folder to the disk in their order.
 
 use crate::fault::DayFault;
+use crate::numbering::{AtName, end_of_moves, ends_with_gap, kept_numbers, surplus};
 use crate::order::Order;
-use s3_host_files::{FileFault, LockedPack, is_pack_at};
+use s3_host_files::{FileFault, LockedPack, is_pack_at, is_saved};
 use s3_refusals::{Reason, Shown};
 use std::alloc::{AllocError, Global};
 use std::fs::{File, Metadata};
@@ -24,7 +26,7 @@ use std::path::{Path, PathBuf};
 use std::{fs, io};
 
 /// The most packs that are kept.
-pub const MOST_KEPT: u16 = 999;
+pub const MOST_KEPT: usize = 999;
 
 /// How many links are followed one after another.
 const LINK_LIMIT: u32 = 40;
@@ -35,22 +37,11 @@ pub struct SetAside {
     /// The file of the pack, with no link at its end.
     place: PathBuf,
     /// How many packs are kept.
-    count: u16,
-}
-
-/// What has a name.
-#[derive(Clone, Copy, PartialEq, Eq)]
-enum AtName {
-    /// Nothing.
-    Nothing,
-    /// A pack.
-    Pack,
-    /// Anything else.
-    Other,
+    count: usize,
 }
 
 /// The name under which a pack is kept, given the file of the pack; 0 is the number of a pack that a save is about to replace.
-pub fn kept_name(alloc: Global, place: Path<'_>, number: u16) -> Result<String, AllocError> {
+pub fn kept_name(alloc: Global, place: Path<'_>, number: usize) -> Result<String, AllocError> {
     format!(in alloc; "{}.{number}", place.as_str())
 }
 
@@ -79,7 +70,7 @@ fn test_names<'a>(
     rt: &HostRuntime,
     name: &'a str,
     place: Path<'_>,
-    count: u16,
+    count: usize,
 ) -> Result<(), DayFault<'a>> {
     for number in 0..count.saturating_add(1) {
         let kept = kept_name(rt.alloc(), place, number)?;
@@ -97,7 +88,7 @@ fn occupied<'a>(rt: &HostRuntime, name: &'a str, kept: &str) -> DayFault<'a> {
     let kept = Shown(kept);
     let _ = writeln!(
         rt.stderr(),
-        "{kept} is there and isn't a pack, so no pack can be kept under this name; give that file another name, or leave --keep out"
+        "{kept} is there and isn't a pack's own file, so no pack can be kept under this name; give that file another name, or leave --keep out"
     );
     DayFault::Keep(name)
 }
@@ -145,7 +136,7 @@ impl SetAside {
         rt: &HostRuntime,
         name: &'a str,
         locked: &LockedPack,
-        count: u16,
+        count: usize,
     ) -> Result<Option<SetAside>, DayFault<'a>> {
         let aside = SetAside {
             place: locked.place().to_path_buf(rt.alloc())?,
@@ -167,10 +158,10 @@ impl SetAside {
         let Some(locked) = locked else {
             return Ok(None);
         };
-        match free_number(rt, locked.place(), MOST_KEPT) {
-            Ok(free) => {
+        match last_number(rt, locked.place()) {
+            Ok(last) => {
                 // a killed save may have left a pack that takes the free number
-                test_names(rt, name, locked.place(), free.saturating_add(1))?;
+                test_names(rt, name, locked.place(), last.saturating_add(1))?;
                 SetAside::of_pack(rt, name, locked, MOST_KEPT)
             }
             Err(error) => Err(not_kept(rt, name, &error)),
@@ -200,20 +191,65 @@ impl SetAside {
         Ok(true)
     }
 
-    /// Moves the packs that are kept to the next number, once the new pack has its name. If that fails, it is reported: the next save
-    /// does it.
+    /// Moves the packs that are kept to the next number, once the new pack has its name, and removes the oldest ones if they are too
+    /// many. If that fails, it is reported: the next save does it.
     pub fn finish(&self, rt: &HostRuntime) {
-        let done = match self.move_up(rt) {
-            Ok(()) => self.sync(rt),
-            Err(error) => Err(error),
+        let place = Shown(self.place.as_path().as_str());
+        let before = match self.renumber(rt) {
+            Ok(before) => before,
+            Err(error) => {
+                let reason = Reason(error);
+                let _ = writeln!(
+                    rt.stderr(),
+                    "the packs that are kept beside {place} can't be renumbered: {reason}; the newest one is {place}.0, and the next save with --keep renumbers them"
+                );
+                return;
+            }
         };
-        if let Err(error) = done {
-            let (place, reason) = (Shown(self.place.as_path().as_str()), Reason(error));
+        if let Err(error) = self.remove_surplus(rt, before) {
+            let reason = Reason(error);
             let _ = writeln!(
                 rt.stderr(),
-                "the packs that are kept beside {place} can't be renumbered: {reason}; the newest one is {place}.0, and the next save with --keep renumbers them"
+                "the oldest pack that is kept beside {place} can't be removed: {reason}; the next save with --keep removes it"
             );
         }
+        if let Err(error) = self.sync(rt) {
+            let reason = Reason(error);
+            let _ = writeln!(
+                rt.stderr(),
+                "the new names of the packs that are kept beside {place} may not survive a power cut: {reason}"
+            );
+        }
+    }
+
+    /// Moves the packs that are kept to the next number. It returns how many were kept before.
+    fn renumber(&self, rt: &HostRuntime) -> io::Result<usize> {
+        let before = self.numbers(rt)?;
+        self.move_up(rt)?;
+        Ok(before.len())
+    }
+
+    /// Removes the packs that are too many, given how many were kept before the save.
+    fn remove_surplus(&self, rt: &HostRuntime, before: usize) -> io::Result<()> {
+        let numbers = self.numbers(rt)?;
+        for number in surplus(&numbers, before, self.count) {
+            let kept = kept_name(rt.alloc(), self.place.as_path(), *number)?;
+            fs::remove_file(rt, kept.as_str())?;
+        }
+        Ok(())
+    }
+
+    /// The numbers of the packs that are kept, ascending. A file that can't be read counts as something else than a pack.
+    fn numbers(&self, rt: &HostRuntime) -> io::Result<Vec<usize>> {
+        let mut names = Vec::new(rt.alloc());
+        for number in 1..MOST_KEPT + 1 {
+            let kept = kept_name(rt.alloc(), self.place.as_path(), number)?;
+            names.push(at_name(rt, kept.as_str()).unwrap_or(AtName::Other))?;
+            if ends_with_gap(&names) {
+                break;
+            }
+        }
+        Ok(kept_numbers(rt.alloc(), &names)?)
     }
 
     /// Takes the second name away, if no new pack has the first one.
@@ -226,11 +262,10 @@ impl SetAside {
         }
     }
 
-    /// Moves each pack before the first free number to the next number, the highest one first. If as many are kept as are wanted, or
-    /// more, the oldest one is replaced.
+    /// Moves each pack before the first free number to the next number, the highest one first. The last one before something else is
+    /// replaced.
     fn move_up(&self, rt: &HostRuntime) -> io::Result<()> {
-        let free = free_number(rt, self.place.as_path(), self.count)?;
-        let last = oldest_number(rt, self.place.as_path(), free)?;
+        let last = last_number(rt, self.place.as_path())?;
         for step in 0..last {
             self.move_one(rt, last - 1 - step)?;
         }
@@ -238,7 +273,7 @@ impl SetAside {
     }
 
     /// Moves a pack to the next number.
-    fn move_one(&self, rt: &HostRuntime, number: u16) -> io::Result<()> {
+    fn move_one(&self, rt: &HostRuntime, number: usize) -> io::Result<()> {
         let place = self.place.as_path();
         let from = kept_name(rt.alloc(), place, number)?;
         let to = kept_name(rt.alloc(), place, number.saturating_add(1))?;
@@ -259,34 +294,24 @@ impl SetAside {
     }
 }
 
-/// The first number from 1 on under which no pack is kept, or the last number if there is none.
-fn free_number(rt: &HostRuntime, place: Path<'_>, last: u16) -> io::Result<u16> {
-    for number in 1..last {
+/// The number that the last pack gets in the moves.
+fn last_number(rt: &HostRuntime, place: Path<'_>) -> io::Result<usize> {
+    let mut names = Vec::new(rt.alloc());
+    for number in 1..MOST_KEPT + 1 {
         let kept = kept_name(rt.alloc(), place, number)?;
-        if at_name(rt, kept.as_str())? == AtName::Nothing {
-            return Ok(number);
-        }
-    }
-    Ok(last)
-}
-
-/// The number of the oldest of the packs that are kept from a number on, without a gap; that number if none is.
-fn oldest_number(rt: &HostRuntime, place: Path<'_>, first: u16) -> io::Result<u16> {
-    let mut oldest = first;
-    for number in first..MOST_KEPT + 1 {
-        let kept = kept_name(rt.alloc(), place, number)?;
-        if at_name(rt, kept.as_str())? != AtName::Pack {
+        let at_name = at_name(rt, kept.as_str())?;
+        names.push(at_name)?;
+        if at_name != AtName::Pack {
             break;
         }
-        oldest = number;
     }
-    Ok(oldest)
+    Ok(end_of_moves(&names))
 }
 
 /// Renumbers the packs that are kept, if the new pack has its name; else the pack that was set aside loses its second name.
 pub fn end_aside(rt: &HostRuntime, aside: &Option<SetAside>, done: &Result<(), FileFault>) {
-    match (aside, done) {
-        (Some(aside), Ok(()) | Err(FileFault::Unsynced(_))) => aside.finish(rt),
+    match aside {
+        Some(aside) if is_saved(done) => aside.finish(rt),
         _ => take_back(rt, aside),
     }
 }

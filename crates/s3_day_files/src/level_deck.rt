@@ -36,6 +36,8 @@ pub struct HowRead {
     pub is_logged: bool,
     /// Whether changed lines of plain text aren't counted for the reader.
     pub is_quiet: bool,
+    /// Whether standard input is plain text.
+    pub is_input_plain: bool,
 }
 
 /// The part of a deck that is read.
@@ -107,7 +109,9 @@ impl<'a> Reading<'a> {
                 files: Vec::new(alloc),
             },
             begun: Begun::new(false),
-            is_punched: paths.iter().any(|path| is_plain_text(*path)),
+            is_punched: paths
+                .iter()
+                .any(|path| is_plain_text(*path, how.is_input_plain)),
             how,
             is_faulty: false,
         }
@@ -119,14 +123,14 @@ impl<'a> Reading<'a> {
             let file = named_file(rt.alloc(), name, &bytes)?;
             self.deck.files.push(file)?;
         }
-        let name = shown_name(name);
-        if is_plain_text(name) {
-            return self.add_text(rt, name, &bytes);
+        let shown = shown_name(name);
+        if is_plain_text(name, self.how.is_input_plain) {
+            return self.add_text(rt, shown, &bytes);
         }
         if self.is_punched {
             self.begun = self.begun.behind_deck(&bytes);
         }
-        self.deck.joined.add(name, bytes)
+        self.deck.joined.add(shown, bytes)
     }
 
     /// Puts the cards that are punched of a file after those that are read.

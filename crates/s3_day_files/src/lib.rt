@@ -1,8 +1,10 @@
 //! What `bureau operate` is asked, and the files around its day: what is read before the first turn, and the outputs, each of which is
 //! tried before the first turn and may overwrite nothing that it wasn't asked to.
 //!
-//! What is proved: each call is safe and returns, the status that `--exit-zero` gives (`ExitZero::status_for`), and which files are of the
-//! kind of an output, by their first bytes (`Kind::is_begun_as`). Which file is refused for what, in which order, and the sentences are
+//! What is proved: each call is safe and returns, the status that `--exit-zero` gives (`ExitZero::status_for`) and that
+//! of a refusal (`DayFault::status`), which files are of the
+//! kind of an output, by their first bytes (`Kind::is_begun_as`), which numbers kept packs have (`kept_numbers`), which number the last of
+//! them moves to (`end_of_moves`), and which of them a save removes (`surplus`). Which file is refused for what, in which order, and the sentences are
 //! tested, by rows and by failed calls. That a kill loses no kept pack is tested by `tools/search/test-keep`. What files, the terminal
 //! and the clock give isn't claimed: they are used as the toolchain offers them.
 
@@ -22,6 +24,7 @@ mod kind;
 mod level_deck;
 mod log_line;
 mod named_output;
+mod numbering;
 mod order;
 mod outputs;
 mod paper;

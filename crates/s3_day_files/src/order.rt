@@ -31,13 +31,15 @@ pub struct Order<'a> {
     /// Where the pack is saved.
     pub save: Option<&'a str>,
     /// How many packs that the save replaces are kept.
-    pub keep: u16,
+    pub keep: usize,
     /// The files of level 1's deck.
     pub deck1: Vec<&'a str>,
     /// The files of level 2's deck.
     pub deck2: Vec<&'a str>,
     /// The rules.
     pub rules: Option<&'a str>,
+    /// Whether the file `-` of a deck is plain text.
+    pub is_input_plain: bool,
     /// Who is asked if no rule answers.
     pub questioned: Questioned,
     /// How far each level goes at most.
@@ -58,6 +60,8 @@ pub struct Order<'a> {
     pub deck_out2: Option<&'a str>,
     /// Where each job's pages are written, and how.
     pub paper: Option<Paper<'a>>,
+    /// The launcher's file for level 2's report, as long as standard output waits for level 1.
+    pub held: Option<&'a str>,
     /// The pack is saved also if a level isn't done.
     pub saves_unfinished: bool,
     /// The journal of the pack.
@@ -92,10 +96,11 @@ impl<'a> Order<'a> {
         Ok(Order {
             pack: words.get_str("pack"),
             save: words.get_str("save"),
-            keep: words.get_one::<u16>("keep").unwrap_or(0),
+            keep: usize::from(words.get_one::<u16>("keep").unwrap_or(0)),
             deck1,
             deck2,
             rules,
+            is_input_plain: words.get_flag("plain-text"),
             questioned: questioned(rt, words, has_lines),
             bounds: Bounds {
                 turns: words.get_one::<u32>("turns").unwrap_or(TURNS),
@@ -109,6 +114,7 @@ impl<'a> Order<'a> {
             deck_out1: words.get_str("deck-out1"),
             deck_out2: words.get_str("deck-out2"),
             paper,
+            held: words.get_str("held"),
             saves_unfinished: words.get_flag("save-unfinished"),
             journal: words.get_str("journal"),
             does_again: words.get_flag("again"),

@@ -13,7 +13,7 @@ use s3_host_files::{
     StandardStream, Target, WRITTEN, beginning_of, is_empty_at, is_input, is_pack_at, path_of,
     prepare_save, stream_at,
 };
-use s3_refusals::{Shown, is_closed};
+use s3_refusals::{Shown, holder_of, is_closed};
 use std::alloc::Global;
 use std::fs::Metadata;
 use std::io::{ErrorKind, Write};
@@ -263,7 +263,7 @@ impl<'a> Files<'a> {
         rt: &HostRuntime,
         name: &'a str,
         place: Path<'_>,
-        count: u16,
+        count: usize,
     ) -> Result<(), DayFault<'a>> {
         for number in 0..count.saturating_add(1) {
             let kept = kept_name(rt.alloc(), place, number)?;
@@ -374,7 +374,7 @@ impl<'a> Files<'a> {
             return Err(DayFault::Same(name));
         }
         if !overwrites && output.target.is_there() {
-            return Err(DayFault::Exists(name));
+            return Err(taken(rt, name));
         }
         if let Some(kind) = kind {
             test_kind(rt, name, kind)?;
@@ -405,6 +405,14 @@ impl<'a> Files<'a> {
             Some(pack) if pack.target.is_in(folder) => Some(pack.name),
             _ => first_within(&self.written, folder),
         }
+    }
+}
+
+/// Why an output isn't written over a file: another command writes that, or it may not be replaced.
+fn taken<'a>(rt: &HostRuntime, name: &'a str) -> DayFault<'a> {
+    match holder_of(rt, name) {
+        Some(_process) => DayFault::InUse(name),
+        None => DayFault::Exists(name),
     }
 }
 

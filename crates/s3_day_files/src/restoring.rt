@@ -10,7 +10,7 @@ use s3_host_files::{
 use s3_journal::{PostedDay, Work};
 use s3_journal_files::{JournalFile, NewLine, keep_journal_apart, read_journal};
 use s3_paper_commands::status::DONE;
-use s3_refusals::Shown;
+use s3_refusals::{Quoted, Shown};
 use std::fs;
 use std::io::{ErrorKind, Write};
 
@@ -154,7 +154,7 @@ fn note<'a>(
     sum: &str,
 ) -> Result<(), DayFault<'a>> {
     let mut journal = journal;
-    let line = line_of(replaced.sum.as_str(), sum);
+    let line = line_of(replaced.sum.as_str(), sum, asked.save);
     match journal.append(rt, line, Work::Restore) {
         Ok(()) => {
             report_restored(rt, asked);
@@ -164,12 +164,13 @@ fn note<'a>(
     }
 }
 
-/// The line of a pack that is put back, given the checksums of the pack before and of that one.
-fn line_of<'b>(before: &'b str, after: &'b str) -> NewLine<'b> {
+/// The line of a pack that is put back in a file, given the checksums of the pack before and of that one.
+fn line_of<'b>(before: &'b str, after: &'b str, save: &'b str) -> NewLine<'b> {
     NewLine {
         before,
         after,
         status: DONE,
+        save: Some(save),
     }
 }
 
@@ -188,7 +189,7 @@ fn put_back<'a>(
     } = replaced;
     let aside = SetAside::of_all(rt, asked.save, &locked)?;
     let mut journal = journal;
-    let line = line_of(before.as_str(), sum);
+    let line = line_of(before.as_str(), sum, asked.save);
     if let Err(refusal) = journal.append(rt, line, Work::Restore) {
         take_back(rt, &aside);
         return Err(DayFault::from(refusal));
@@ -220,22 +221,22 @@ fn save_kept(
 
 /// Reports that a journal has no such day.
 fn report_no_day(rt: &HostRuntime, asked: Restoring<'_>, lines: usize) {
-    let (journal, day) = (Shown(asked.journal), asked.day);
+    let (journal, quoted, day) = (Shown(asked.journal), Quoted(asked.journal), asked.day);
     let _ = writeln!(
         rt.stderr(),
-        "{journal} has no day {day}, and its last one is {lines}; `bureau journal {journal}` lists them"
+        "{journal} has no day {day}, and its last one is {lines}; `bureau journal {quoted}` lists them"
     );
 }
 
 /// Reports that no kept pack is the pack of the day.
 fn report_not_kept(rt: &HostRuntime, asked: Restoring<'_>) {
-    let (journal, save) = (Shown(asked.journal), Shown(asked.save));
-    let _ = write!(rt.stderr(), "no pack that is kept beside {save} is ");
+    let (shown, journal, save) = (Shown(asked.save), Quoted(asked.journal), Quoted(asked.save));
+    let _ = write!(rt.stderr(), "no pack that is kept beside {shown} is ");
     write_day(rt, asked.day);
     let _ = if is_missing(rt, asked.save) {
         writeln!(
             rt.stderr(),
-            ", and no file {save} is there; name the pack after --save whose saves kept it"
+            ", and no file {shown} is there; name the pack after --save whose saves kept it"
         )
     } else {
         writeln!(

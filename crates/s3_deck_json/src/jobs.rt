@@ -2,7 +2,7 @@
 ghost use Rattle.std.specs.Prelude.{◌≡◌, IfOk, [], map};
 ghost use Rattle.json.specs.Json.{null, string};
 ghost use Rattle.s3_decks.specs.Inner.Decks.{line_of};
-ghost use Rattle.s3_deck_json.specs.Inner.Objects.{job_head, job_json, kind_word, name_text, statement_json, used_file_json};
+ghost use Rattle.s3_deck_json.specs.Inner.Objects.{faulty_word, job_head, job_json, kind_word, name_text, statement_json, used_file_json};
 ghost use Rattle.s3_ocl.specs.Jobs.{is_compile as compiles};
 ghost use Rattle.s3_json_lines.specs.Inner.Values.{array_of, cell_json, json_of, members_named, members_view};
 
@@ -151,11 +151,11 @@ fn faulty_value(
     job: JobSpan,
     error: Value,
 ) -> Result<Value, AllocError>
-    ensures { IfOk result (λ value. json_of value ≡ job_json files.now level job null null (array_of []) (json_of error)) }
+    ensures { IfOk result (λ value. json_of value ≡ job_json files.now level job null (string faulty_word) (array_of []) (json_of error)) }
 {
     let loaded = Loaded {
         program: Cell::Nothing,
-        kind: Cell::Nothing,
+        kind: Cell::Text("faulty"),
     };
     let used = Value::List(Vec::new(alloc));
     job_object(alloc, files, level, job, loaded, used, error)

@@ -2,7 +2,7 @@
 
 use crate::job_list::JobEntry;
 use crate::listing::push_lines;
-use crate::names::is_shown;
+use crate::names::{Quoted, is_shown};
 use crate::{DeckText, FilePlace, Position};
 use s3_cards::LevelId;
 use std::alloc::AllocError;
@@ -52,7 +52,7 @@ fn push_option(
     write!(text, "--from{number} ")?;
     match deck.place_of(card).place {
         Some(place) if names_card(deck, place, card) => {
-            let (file, line) = (place.file, place.line);
+            let (file, line) = (Quoted(place.file), place.line);
             write!(text, "{file}:{line}")
         }
         _ => write!(text, "{card}"),

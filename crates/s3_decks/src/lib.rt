@@ -52,7 +52,7 @@ pub use job_list::{JobEntry, Statements, jobs_of};
 pub use keyword::keyword_columns;
 pub use last_job::job_before;
 pub use listing::{push_inherited, push_jobs};
-pub use names::{Shown, is_shown};
+pub use names::{Quoted, Shown, is_shown};
 pub use place::{CardPlace, FilePlace};
 pub use position::Position;
 pub use program::program_of;

@@ -1,5 +1,5 @@
 -- A day over a pack: what comes of a bureau that was opened, operated and finished.
-use Rattle.std.proofs.Common.{◌≡◌, ℕ, List, [], true, false, inl, Option, Some, None, Result, Ok, refl, sym, ap, ◌∙◌, subst}
+use Rattle.std.proofs.Common.{◌≡◌, ℕ, List, [], true, false, inl, Option, Some, None, Result, Ok, refl, sym, ◌∙◌, subst}
 use Rattle.s3_cards.specs.declared.levels.LevelId.{LevelId}
 use Rattle.s3_cards.specs.declared.levels.LevelId.TheVariants.{One, Two}
 use Rattle.s3_operator.specs.Halts.{ShownHalt}
@@ -23,7 +23,7 @@ use Rattle.s3_bureau.specs.Inner.Underway.{LeavesSectors, Performs}
 use Rattle.s3_desk.specs.declared.ends.Bounds.{Bounds}
 use Rattle.s3_desk.specs.declared.ends.Ends.{Ends}
 use Rattle.s3_desk.specs.Inner.Days.{EndSo, HasPrinted, IsAnswered, LeavesLines, starts_in}
-use Rattle.s3_desk.specs.Inner.Desk.{EndsAs, HasReached}
+use Rattle.s3_desk.specs.Inner.Desk.{EndsAs, HasReached, IsPastReply}
 use Rattle.s3_desk.specs.Inner.Events.{Event}
 use Rattle.s3_desk.specs.Inner.Rounds.{Shows, Sits, SitsFrom}
 use Rattle.s3_desk.specs.Inner.Operated.{IsAfter, KeepsCommon}
@@ -96,11 +96,11 @@ nothing_shown halts none = subst (λ (hs : List ShownHalt). Shows hs [] false) (
 
 pub answered_in : {O : Type 0} (meets : O → Event → O → Type 0) (header : Header) (contents cards1 cards2 : List (List ℕ)) (bounds : Bounds) (entries : List Entry) (bureau : State) (ends : Ends) (from to : O)
     → HoldsStarts bureau header contents cards1 cards2
-    → SitsFrom (λ (b : State) (level : LevelId) (w : World). HoldsFor level b w) meets (λ level es. HasReached level [] es bounds) [] entries bureau from to false false false false (Some ends)
+    → SitsFrom (λ (b : State) (level : LevelId) (w : World). HoldsFor level b w) meets (λ level es. IsPastReply level [] es) (λ level es. HasReached level [] es bounds) [] entries bureau from to false false false false (Some ends)
     → IsAnswered meets (starts_in header contents cards1 cards2) bounds entries ends from to
 answered_in meets header contents cards1 cards2 bounds entries bureau ends from to held sits =
     let starts : LevelId → World = starts_in header contents cards1 cards2 in
-    let is : Sits meets starts (λ level es. HasReached level [] es bounds) [] entries from to false false (Some ends) =
+    let is : Sits meets starts (λ level es. IsPastReply level [] es) (λ level es. HasReached level [] es bounds) [] entries from to false false (Some ends) =
     sits bureau starts [] (record { held = held; performed = λ level w is. is; whole = refl; followed = refl }) (nothing_shown (starts One).halts (no_halts One header contents cards1 cards2)) (nothing_shown (starts Two).halts (no_halts Two header contents cards1 cards2)) in
     record { day = is.day; whole = is.passes.whole; met = is.passes.met; fits = is.passes.fits; shown = is.left.0; followed = is.followed; one_halted = is.left.1.0; two_halted = is.left.1.1 }
 

@@ -24,7 +24,7 @@ use Rattle.s3_desk.proofs.Halts.{Grows, is_last, last_more, last_waits, replied_
 use Rattle.s3_desk.proofs.Sittings.{met_joined, own-append}
 
 -- ---- one part after another
-performed_joined : (xs ys : List Moment) → performed_in (xs ++ ys) ≡ performed_in xs ++ performed_in ys
+pub performed_joined : (xs ys : List Moment) → performed_in (xs ++ ys) ≡ performed_in xs ++ performed_in ys
 performed_joined xs ys = flat_map-append performed_at xs ys
 
 shown_joined : (level : LevelId) (xs ys : List Moment) → shown_in level (xs ++ ys) ≡ shown_in level xs ++ shown_in level ys
@@ -134,9 +134,9 @@ shown_work level (entry ∷ work) = ap₂ (λ (xs ys : List ShownHalt). xs ++ ys
     one from Drain = refl
     one from (Reply digit) = refl
 
-pub passes_work : {O : Type 0} (meets : O → Event → O → Type 0) (starts : LevelId → World) (IsCut : LevelId → List Entry → Type 0) (before : List Moment) (work was is : List Entry) (operator : O)
-    → replies_in work ≡ [] → was ≡ performed_in before → is ≡ was ++ work → EachFits (InTime starts IsCut) before (moments_of work) → Passes meets (InTime starts IsCut) before (moments_of work) is operator operator
-passes_work meets starts IsCut before work was is operator none whole more fits = record {
+pub passes_work : {O : Type 0} (meets : O → Event → O → Type 0) (starts : LevelId → World) (IsPast IsCut : LevelId → List Entry → Type 0) (before : List Moment) (work was is : List Entry) (operator : O)
+    → replies_in work ≡ [] → was ≡ performed_in before → is ≡ was ++ work → EachFits (InTime starts IsPast IsCut) before (moments_of work) → Passes meets (InTime starts IsPast IsCut) before (moments_of work) is operator operator
+passes_work meets starts IsPast IsCut before work was is operator none whole more fits = record {
   whole = more ∙ (ap₂ (λ (xs ys : List Entry). xs ++ ys) whole (sym (performed_work work none)) ∙ sym (performed_joined before (moments_of work)));
   met = subst (λ (events : List Event). AreMet meets operator events operator) (sym (events_work work)) refl;
   fits = fits;

@@ -16,7 +16,7 @@ use Rattle.s3_bureau.specs.Texts.{halt_text_of}
 use Rattle.s3_desk.specs.declared.day.Day.{Day}
 use Rattle.s3_desk.specs.declared.ends.Bounds.{Bounds}
 use Rattle.s3_desk.specs.Inner.Days.{HasPrinted, IsAnswered, starts_in}
-use Rattle.s3_desk.specs.Inner.Desk.{AreMet, HasReached}
+use Rattle.s3_desk.specs.Inner.Desk.{AreMet, HasReached, IsPastReply}
 use Rattle.s3_desk.specs.Inner.Events.{Asked, Event, Followed, Shown}
 use Rattle.s3_desk.specs.Inner.Moments.{Drained, EachFits, FollowedInTime, InTime, Met, MetInTime, Moment, Turned, events_in, performed_in, world_after}
 use Rattle.s3_reports.specs.Inner.Reports.{IsOneWritten, IsTwoWritten}
@@ -41,7 +41,7 @@ printed_on is_read is_one_over both level one two entries old new passes whole g
   level_two = λ is_over was_read. level_two (whole is_over was_read);
 }
 
-module _ {P : Type 0} (sheet : P → Sheet) (is_read : P → Bool) (Base : P → Event → P → Type 0) (starts : LevelId → World) (IsCut : LevelId → List Entry → Type 0) (one two : List Printed) (halts : List ℕ) where
+module _ {P : Type 0} (sheet : P → Sheet) (is_read : P → Bool) (Base : P → Event → P → Type 0) (starts : LevelId → World) (IsPast IsCut : LevelId → List Entry → Type 0) (one two : List Printed) (halts : List ℕ) where
   -- what comes after a place of a day, in a level's world
   rest_of : (before more : List Moment) (level : LevelId) → (later : List Printed) × (drained_lines (closed (world_after starts (before ++ more) level)).lines ≡ drained_lines (world_after starts before level).lines ++ later)
   rest_of before more level =
@@ -65,12 +65,12 @@ module _ {P : Type 0} (sheet : P → Sheet) (is_read : P → Bool) (Base : P →
         whole.halts was_read (ap (λ (v : World). (closed v).halts) (after_more starts before more One) ∙ over_shows_none w (fits.one_over is_over) (own One (performed_in more))),
       ))))
 
-  met_goes : (read : Bool) (before more : List Moment) (event : Event) (old new : Sheet) → IsWhole starts (before ++ more) read one two halts → MetInTime starts IsCut before event → Prints read event old new → Goes old new one two halts
+  met_goes : (read : Bool) (before more : List Moment) (event : Event) (old new : Sheet) → IsWhole starts (before ++ more) read one two halts → MetInTime starts IsPast IsCut before event → Prints read event old new → Goes old new one two halts
   met_goes read before more (Followed level one_now two_now is_one_over entries) old new whole fits prints = followed read before more one_now two_now is_one_over entries level old new whole fits prints
   met_goes read before more (Shown level halt) old new whole fits prints = goes_same old new one two halts prints
   met_goes read before more (Asked level halt reply) old new whole fits prints = goes_same old new one two halts prints
 
-  pub day_goes : (read : Bool) (before day : List Moment) (from to : P) → is_read from ≡ read → IsWhole starts (before ++ day) read one two halts → AreMet (λ old event new. MeetsPrinting (Base old event new) (is_read old) (is_read new) event (sheet old) (sheet new)) from (events_in day) to → EachFits (InTime starts IsCut) before day
+  pub day_goes : (read : Bool) (before day : List Moment) (from to : P) → is_read from ≡ read → IsWhole starts (before ++ day) read one two halts → AreMet (λ old event new. MeetsPrinting (Base old event new) (is_read old) (is_read new) event (sheet old) (sheet new)) from (events_in day) to → EachFits (InTime starts IsPast IsCut) before day
       → Goes (sheet from) (sheet to) one two halts
   day_goes read before [] from to reads whole met fits = goes_same (sheet from) (sheet to) one two halts (ap sheet met)
   day_goes read before (Turned level ∷ day) from to reads whole met fits =
@@ -102,6 +102,6 @@ pub day_written : {P : Type 0} (from to : P) (sheet : P → Sheet) (is_read : P 
 day_written from to sheet is_read Base contents cards1 cards2 refusal bounds entries (Ok day) printed answered = λ header mount read.
     let starts : LevelId → World = starts_in header contents cards1 cards2 in
     let moments = answered header mount in
-    day_goes sheet is_read Base starts (λ level es. HasReached level [] es bounds) day.run.one.lines.items day.run.two.lines.items day.run.one.halts.items (is_read from) [] moments.day from to refl
+    day_goes sheet is_read Base starts (λ level es. IsPastReply level [] es) (λ level es. HasReached level [] es bounds) day.run.one.lines.items day.run.two.lines.items day.run.one.halts.items (is_read from) [] moments.day from to refl
     (entries_whole starts refusal moments.day entries (is_read from) day.run moments.whole read (printed header mount)) moments.met moments.fits
 day_written from to sheet is_read Base contents cards1 cards2 refusal bounds entries (Err fault) printed answered = tt

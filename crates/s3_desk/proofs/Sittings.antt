@@ -1,7 +1,7 @@
 -- Entries that are noted at a desk, and those that aren't since they did nothing.
-use Rattle.std.proofs.Common.{◌≡◌, ◌≢◌, ◌⊎◌, inl, inr, ◌<◌, ◌≤◌, ◌+◌, ◌*◌, ℕ, zero, suc, Bool, true, false, List, [], ◌∷◌, ◌++◌, replicate, append_assoc, if◌then◌else◌, Result, Ok, Err, IfOk, OnOk, refl, sym, ap, ap₂, subst, ◌∙◌, arith}
+use Rattle.std.proofs.Common.{◌≡◌, ◌≢◌, ◌⊎◌, inl, inr, ◌<◌, ◌≤◌, ◌+◌, ◌*◌, ℕ, zero, suc, Bool, true, false, true≢false, List, [], ◌∷◌, ◌++◌, replicate, append_assoc, if◌then◌else◌, Result, Ok, Err, IfOk, OnOk, refl, sym, ap, ap₂, subst, ◌∙◌, arith}
 use Rattle.std.specs.Prelude.{cond, filter, length}
-use Rattle.std.proofs.lemmas.List.{append-nil, length-append}
+use Rattle.std.proofs.lemmas.List.{append-nil, append_cancel_left, append_cancel_right, length-append}
 use Rattle.std.proofs.lemmas.List.Elements.{filter-append}
 use Rattle.std.proofs.lemmas.List.Folds.{list_all-append}
 use Rattle.s3_cards.specs.Inner.Levels.{other}
@@ -29,7 +29,7 @@ use Rattle.s3_desk.specs.declared.desk.Went.{Went}
 use Rattle.s3_desk.specs.declared.desk.Went.TheVariants.{On, Rests, Cut}
 use Rattle.s3_bureau.specs.Entries.{own, with_action}
 use Rattle.s3_bureau.specs.Inner.Underway.{Performs}
-use Rattle.s3_desk.specs.Inner.Desk.{AreMet, AsksLevel, BothEnd, Counts, DidNothing, DrainsQueue, DrainsSoFar, EndsAs, Follows, FollowsAll, GivesReply, GoesOn, HasReached, HasReplied, IsLeft, IsLeftAt, IsQuiet, IsSpent, Keeps, LevelGoes, LevelGoesOn, RepliesLast, RestsAt, Spends, StepsAlike, TakesLines, Uses, is_drain, is_reply, is_turn, lines_in, replies_in, replies_left, room, turns_in}
+use Rattle.s3_desk.specs.Inner.Desk.{AreMet, AsksLevel, BothEnd, Counts, DidNothing, DrainsQueue, DrainsSoFar, EndsAs, Follows, FollowsAll, GivesReply, GoesOn, HasReached, HasReplied, IsLeft, IsLeftAt, IsPastReply, IsQuiet, IsSpent, Keeps, LevelGoes, LevelGoesOn, RepliesLast, RestsAt, Spends, StepsAlike, TakesLines, Uses, is_drain, is_reply, is_turn, lines_in, replies_in, replies_left, room, stride_of, turns_in}
 use Rattle.s3_desk.specs.Inner.Calls.{GoesAfter}
 use Rattle.s3_desk.specs.Inner.Events.{Event}
 use Rattle.s3_bureau.proofs.Performing.{performs_then, times_more}
@@ -276,9 +276,9 @@ idle_then was between is first (Err stop) rests before idle = tt
 pub no_lines : (level : LevelId) (was : List Entry) → TakesLines level was was
 no_lines level was = record { times = 0; whole = sym (append-nil was) }
 
-once_more : (n : ℕ) (entry : Entry) → replicate n entry ++ replicate 1 entry ≡ replicate (suc n) entry
-once_more zero entry = refl
-once_more (suc n) entry = ap (λ (es : List Entry). entry ∷ es) (once_more n entry)
+once_more : {A : Type 0} (n : ℕ) (x : A) → replicate n x ++ replicate 1 x ≡ replicate (suc n) x
+once_more zero x = refl
+once_more {A} (suc n) x = ap (λ (xs : List A). x ∷ xs) (once_more n x)
 
 pub line_more : (level : LevelId) (was between is : List Entry) → TakesLines level was between → is ≡ between ++ replicate 1 (record { level = level; action = Drain }) → TakesLines level was is
 line_more level was between is so_far whole =
@@ -296,47 +296,98 @@ pub counts_then : (level : LevelId) (was between is : List Entry) (old middle ne
 counts_then level was between is old middle new ahead next = λ first last. next first (ahead first last)
 
 pub counts_same : (level : LevelId) (was is : List Entry) (answers : ℕ) → own level is ≡ own level was → Counts level was is answers answers
-counts_same level was is answers same = λ first last. record { before = last.before; replies = last.replies; whole = same ∙ last.whole; are_replies = last.are_replies; many = last.many }
+counts_same level was is answers same = λ first last. record { before = last.before; replies = last.replies; whole = same ∙ last.whole; are_replies = last.are_replies; many = last.many; no_more = last.no_more }
 
 pub counts_none : (level : LevelId) (was : List Entry) (new : ℕ) → new ≡ 0 → Counts level was was 0 new
 counts_none level was new none = subst (λ (n : ℕ). Counts level was was 0 n) (sym none) (counts_same level was was 0 refl)
 
+-- ---- the last action of some
+not_none : (xs : List Action) (x : Action) → [] ≢ xs ++ x ∷ []
+not_none [] x same = cc
+not_none (y ∷ xs) x same = cc
+
+tails_same : (x y : Action) (xs ys : List Action) → x ∷ xs ≡ y ∷ ys → xs ≡ ys
+tails_same x y xs ys same = cc
+
+last_same : (xs ys : List Action) (x y : Action) → xs ++ x ∷ [] ≡ ys ++ y ∷ [] → x ≡ y
+last_same [] [] x y same = cc
+last_same [] (b ∷ ys) x y same = absurd (not_none ys y (tails_same x b [] (ys ++ y ∷ []) same))
+last_same (a ∷ xs) [] x y same = absurd (not_none xs x (tails_same y a [] (xs ++ x ∷ []) (sym same)))
+last_same (a ∷ xs) (b ∷ ys) x y same = last_same xs ys x y (tails_same a b (xs ++ x ∷ []) (ys ++ y ∷ []) same)
+
+-- after turns, or after drains, it isn't a reply
+others_last : (xs : List Action) (n : ℕ) (action : Action) → is_reply action ≡ false → (actions : List Action) (digit : ℕ) → xs ++ replicate (suc n) action ≢ actions ++ Reply digit ∷ []
+others_last xs n action none actions digit same =
+    let ends : (xs ++ replicate n action) ++ action ∷ [] ≡ actions ++ Reply digit ∷ [] =
+    append_assoc xs (replicate n action) (action ∷ []) ∙ (ap (λ (ys : List Action). xs ++ ys) (once_more n action) ∙ same) in
+    true≢false (sym (ap is_reply (last_same (xs ++ replicate n action) actions action (Reply digit) ends)) ∙ none)
+
+nothing_long : (xs : List Action) → length xs ≡ 0 → xs ≡ []
+nothing_long [] none = refl
+nothing_long (x ∷ xs) none = absurd (omega (arith, none))
+
+-- a turn of a stride that isn't its first one is no first turn after a reply
+pub past_turns : (level : LevelId) (earlier was : List Entry) (answers n : ℕ) → own level was ≡ own level earlier → 1 ≤ n → n < stride_of answers
+    → (first : List Entry) → RepliesLast level first earlier answers → IsPastReply level first (was ++ replicate n (record { level = level; action = Turn }))
+past_turns level earlier was (suc answers) n same some less first last = let few : n < 1 = less in absurd (omega (arith, some, few))
+past_turns level earlier was zero zero same some less first last = absurd (omega (arith, some))
+past_turns level earlier was zero (suc n) same some less first last = λ actions digit is.
+    let turn : Entry = record { level = level; action = Turn } in
+    let before : List Action = last.before in
+    let until : own level was ≡ own level first ++ before =
+    same ∙ (last.whole ∙ ap (λ (actions : List Action). own level first ++ actions) (ap (λ (replies : List Action). before ++ replies) (nothing_long last.replies last.many) ∙ append-nil before)) in
+    let now : own level (was ++ replicate (suc n) turn) ≡ own level first ++ (before ++ replicate (suc n) Turn) =
+    own-append level was (replicate (suc n) turn)
+    ∙ (ap₂ (λ (xs ys : List Action). xs ++ ys) until (own-replicate (suc n) turn)
+    ∙ append_assoc (own level first) before (replicate (suc n) Turn)) in
+    let rest : before ++ replicate (suc n) Turn ≡ actions ++ Reply digit ∷ Turn ∷ [] =
+    append_cancel_left (own level first) (before ++ replicate (suc n) Turn) (actions ++ Reply digit ∷ Turn ∷ []) (sym now ∙ is) in
+    let ends : (before ++ replicate n Turn) ++ Turn ∷ [] ≡ (actions ++ Reply digit ∷ []) ++ Turn ∷ [] =
+    append_assoc before (replicate n Turn) (Turn ∷ []) ∙ (ap (λ (xs : List Action). before ++ xs) (once_more n Turn) ∙ (rest ∙ sym (append_assoc actions (Reply digit ∷ []) (Turn ∷ [])))) in
+    by n actions digit (append_cancel_right (before ++ replicate n Turn) (actions ++ Reply digit ∷ []) (Turn ∷ []) ends)
+  where
+    by : (n : ℕ) (actions : List Action) (digit : ℕ) → last.before ++ replicate n Turn ≢ actions ++ Reply digit ∷ []
+    by zero actions digit is = last.no_more actions digit (sym (append-nil last.before) ∙ is)
+    by (suc n) actions digit is = others_last last.before n Turn refl actions digit is
+
 -- before a level has gone on no reply is counted
-none_last : (level : LevelId) (first : List Entry) → RepliesLast level first first 0
-none_last level first = record { before = []; replies = []; whole = sym (append-nil (own level first)); are_replies = refl; many = omega arith }
+pub none_last : (level : LevelId) (first : List Entry) → RepliesLast level first first 0
+none_last level first = record { before = []; replies = []; whole = sym (append-nil (own level first)); are_replies = refl; many = refl; no_more = λ actions digit. not_none actions (Reply digit) }
 
 pub has_replied : (level : LevelId) (was between is : List Entry) (old new : ℕ) → Counts level was between 0 old → Counts level between is old new → new ≡ 65535 → HasReplied level was is
 has_replied level was between is old new ahead next most = subst (λ (count : ℕ). RepliesLast level was is count) most (next was (ahead was (none_last level was)))
 
--- entries more, and no reply is counted
-counts_on : (level : LevelId) (was is more : List Entry) (old new : ℕ) → is ≡ was ++ more → new ≡ 0 → Counts level was is old new
-counts_on level was is more old new whole none = λ first last. record {
-  before = (last.before ++ last.replies) ++ own level more;
-  replies = [];
-  whole =
-      ap (own level) whole
-      ∙ (own-append level was more
-      ∙ (ap (λ (actions : List Action). actions ++ own level more) last.whole
-      ∙ (append_assoc (own level first) (last.before ++ last.replies) (own level more)
-      ∙ ap (λ (actions : List Action). own level first ++ actions) (sym (append-nil ((last.before ++ last.replies) ++ own level more))))));
-  are_replies = refl;
-  many = omega (arith, none);
-}
+-- turns more, or drains, and no reply is counted
+counts_on : (action : Action) → is_reply action ≡ false → (level : LevelId) (times : ℕ) (was is : List Entry) (old new : ℕ) → is ≡ was ++ replicate times (record { level = level; action = action }) → is ≢ was → new ≡ 0
+    → Counts level was is old new
+counts_on action none level zero was is old new whole some zero_now = absurd (some (whole ∙ append-nil was))
+counts_on action none level (suc n) was is old new whole some zero_now = λ first last.
+    let entry : Entry = record { level = level; action = action } in
+    let work : List Action = replicate (suc n) action in
+    record {
+      before = (last.before ++ last.replies) ++ work;
+      replies = [];
+      whole =
+          ap (own level) whole
+          ∙ (own-append level was (replicate (suc n) entry)
+          ∙ (ap₂ (λ (xs ys : List Action). xs ++ ys) last.whole (own-replicate (suc n) entry)
+          ∙ (append_assoc (own level first) (last.before ++ last.replies) work
+          ∙ ap (λ (actions : List Action). own level first ++ actions) (sym (append-nil ((last.before ++ last.replies) ++ work))))));
+      are_replies = refl;
+      many = sym zero_now;
+      no_more = others_last (last.before ++ last.replies) n action none;
+    }
 
-counts_less : (level : LevelId) (was is : List Entry) (old new : ℕ) → is ≡ was → new ≤ old → Counts level was is old new
-counts_less level was is old new same fewer = λ first last. record {
-  before = last.before;
-  replies = last.replies;
-  whole = ap (own level) same ∙ last.whole;
-  are_replies = last.are_replies;
-  many = omega (arith, last.many, fewer);
-}
+counts_still : (level : LevelId) (was is : List Entry) (old new : ℕ) → is ≡ was → new ≡ old → Counts level was is old new
+counts_still level was is old new same as_many = subst (λ (n : ℕ). Counts level was is old n) (sym as_many) (counts_same level was is old (ap (own level) same))
 
--- a level has gone on, or it hasn't
-pub counts_went : (level : LevelId) (was is more : List Entry) (old new : ℕ) (went : Went) → is ≡ was ++ more → (went ≡ On → new ≡ 0) → (went ≢ On → is ≡ was) → new ≤ old → Counts level was is old new
-counts_went level was is more old new On whole none same fewer = counts_on level was is more old new whole (none refl)
-counts_went level was is more old new Rests whole none same fewer = counts_less level was is old new (same (λ e. cc)) fewer
-counts_went level was is more old new Cut whole none same fewer = counts_less level was is old new (same (λ e. cc)) fewer
+-- a level that has gone on has taken something
+not_still : (level : LevelId) (was is : List Entry) (old new : Bounds) → Uses level was is old new On → is ≢ was
+not_still level was is old new uses same =
+    let turns : turns_in level is ≡ turns_in level was = ap (turns_in level) same in
+    let lines : lines_in level is ≡ lines_in level was = ap (lines_in level) same in
+    let less : room new < room old = uses.some refl in
+    absurd (omega (arith, turns, lines, less, uses.spends.turns, uses.spends.lines))
 
 -- a reply is taken
 pub counts_reply : (level : LevelId) (digit answers : ℕ) (was is : List Entry) → is ≡ was ++ record { level = level; action = Reply digit } ∷ [] → Counts level was is answers (answers + 1)
@@ -351,6 +402,7 @@ counts_reply level digit answers was is whole = λ first last. record {
       ∙ ap (λ (actions : List Action). own level first ++ actions) (append_assoc last.before last.replies (Reply digit ∷ [])))));
   are_replies = list_all-append is_reply last.replies (Reply digit ∷ []) ∙ rw last.are_replies refl;
   many = omega (arith, last.many, length-append last.replies (Reply digit ∷ []));
+  no_more = last.no_more;
 }
 
 -- ---- what is left to do
@@ -413,17 +465,29 @@ module _ {M : Type 0} (holds : M → LevelId → World → Type 0) where
   }
 
   -- ---- turns alone, or lines alone
-  pub alike_turns : (level : LevelId) (times noted : ℕ) (was is : List Entry) (old : M) → StopsAtEnd Turn times (holds old level) → noted ≡ times → is ≡ was ++ replicate noted (record { level = level; action = Turn }) → StepsAlike holds level was is old
-  alike_turns level times noted was is old at_work count whole =
-      inl (record { times = times; whole = whole ∙ ap (λ (n : ℕ). was ++ replicate n (record { level = level; action = Turn })) count; at_work = at_work })
+  pub alike_turns : (stride : ℕ) (level : LevelId) (times noted : ℕ) (was is : List Entry) (old : M) → times ≤ stride → StopsAtEnd Turn times (holds old level) → noted ≡ times
+      → is ≡ was ++ replicate noted (record { level = level; action = Turn }) → StepsAlike holds stride level was is old
+  alike_turns stride level times noted was is old few at_work count whole =
+      inl (record { times = times; few = few; whole = whole ∙ ap (λ (n : ℕ). was ++ replicate n (record { level = level; action = Turn })) count; at_work = at_work })
 
-  pub alike_none : (level : LevelId) (was : List Entry) (old : M) → StepsAlike holds level was was old
-  alike_none level was old = inr (no_lines level was)
+  pub alike_none : (stride : ℕ) (level : LevelId) (was : List Entry) (old : M) → StepsAlike holds stride level was was old
+  alike_none stride level was old = inr (no_lines level was)
 
-  pub alike_lines : (level : LevelId) (was between is : List Entry) (old : M) (first : Went) (result : Result Went Stop) → first ≡ Rests → (first ≢ On → between ≡ was) → OnOk result (TakesLines level between is)
-      → OnOk result (StepsAlike holds level was is old)
-  alike_lines level was between is old first (Ok went) rests before lines = inr (subst (λ (es : List Entry). TakesLines level es is) (before (λ on. cc)) lines)
-  alike_lines level was between is old first (Err stop) rests before lines = tt
+  pub alike_lines : (stride : ℕ) (level : LevelId) (was between is : List Entry) (old : M) (first : Went) (result : Result Went Stop) → first ≡ Rests → (first ≢ On → between ≡ was) → OnOk result (TakesLines level between is)
+      → OnOk result (StepsAlike holds stride level was is old)
+  alike_lines stride level was between is old first (Ok went) rests before lines = inr (subst (λ (es : List Entry). TakesLines level es is) (before (λ on. cc)) lines)
+  alike_lines stride level was between is old first (Err stop) rests before lines = tt
+
+  -- the replies of a level that has gone on count no more, and those of another one still do
+  counts_alike : (stride : ℕ) (level : LevelId) (was is : List Entry) (m : M) (old new : ℕ) → StepsAlike holds stride level was is m → is ≢ was → new ≡ 0 → Counts level was is old new
+  counts_alike stride level was is m old new (inl turns) some none = counts_on Turn refl level turns.times was is old new turns.whole some none
+  counts_alike stride level was is m old new (inr lines) some none = counts_on Drain refl level lines.times was is old new lines.whole some none
+
+  pub counts_went : (stride : ℕ) (level : LevelId) (was is : List Entry) (m : M) (a b : Bounds) (old new : ℕ) (went : Went) → StepsAlike holds stride level was is m → Uses level was is a b went → (went ≡ On → new ≡ 0) → (went ≢ On → is ≡ was)
+      → (went ≢ On → new ≡ old) → Counts level was is old new
+  counts_went stride level was is m a b old new On alike uses none same as_many = counts_alike stride level was is m old new alike (not_still level was is a b uses) (none refl)
+  counts_went stride level was is m a b old new Rests alike uses none same as_many = counts_still level was is old new (same (λ e. cc)) (as_many (λ e. cc))
+  counts_went stride level was is m a b old new Cut alike uses none same as_many = counts_still level was is old new (same (λ e. cc)) (as_many (λ e. cc))
 
   -- and so the operator follows them
   pub follows_all : {O : Type 0} (meets : O → Event → O → Type 0) (level : LevelId) (went : Went) (was is : List Entry) (now : M) (from to : O) → (went ≢ Rests → Follows holds meets level is now from to) → (went ≡ Rests → to ≡ from)

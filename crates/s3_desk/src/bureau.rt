@@ -1,8 +1,6 @@
 //! A bureau is operated.
-ghost use Rattle.std.specs.Prelude.{◌≡◌, true};
-ghost use Rattle.s3_solo.specs.World.{World};
 ghost use Rattle.s3_bureau.specs.Inner.Held.{HoldsFor};
-ghost use Rattle.s3_desk.specs.Inner.Desk.{IsOver};
+ghost use Rattle.s3_desk.specs.Inner.Desk.{TellsOver};
 
 use crate::machine::Machine;
 use s3_bureau::{Bureau, Did, Entry, Halt, Stop, Taken};
@@ -14,7 +12,7 @@ use std::num::NonZeroU16;
 
 /// Whether a level of a bureau has no job left and no line queued, and has shown no halt.
 fn is_over<S: PackStore>(bureau: &Bureau<S>, level: LevelId) -> bool
-    ensures { result ≡ true → (w : World) → HoldsFor level bureau.now w → IsOver w }
+    ensures { TellsOver (λ bureau level w. HoldsFor level bureau w) level bureau.now result }
 {
     if bureau.level(level).has_work() {
         return false;
@@ -27,6 +25,7 @@ fn is_over<S: PackStore>(bureau: &Bureau<S>, level: LevelId) -> bool
 
 impl<S: PackStore> Machine for Bureau<S> {
     ghost use Rattle.s3_bureau.specs.Inner.Held.{HoldsFor};
+    ghost use Rattle.s3_evidence.specs.Inner.About.{IsAbout};
     ghost use Rattle.s3_desk.specs.Inner.Operated.{IsAfter, KeepsCommon};
 
     type Evidence = Evidence;
@@ -36,6 +35,8 @@ impl<S: PackStore> Machine for Bureau<S> {
     ghost after = { λ first entries bureau. IsAfter first entries bureau };
 
     ghost keeps = { λ first bureau. KeepsCommon first bureau };
+
+    ghost about = { λ bureau level evidence. IsAbout level bureau evidence };
 
     ghost failures = { λ bureau. bureau.beside.state.failures };
 

@@ -17,7 +17,7 @@ ghost use Rattle.s3_bureau.specs.Inner.Underway.{HasTexts, HaveFiles, HaveSlots,
 ghost use Rattle.s3_bureau.specs.Inner.Unwritten.{LinesOver, RunsLines, texts_at};
 ghost use Rattle.s3_desk.specs.declared.ends.End.TheVariants.{Cut, OutOfReplies};
 ghost use Rattle.s3_desk.specs.Inner.Days.{EndSo, HasPrinted, IsAnswered, LeavesLines, run_of, starts_in};
-ghost use Rattle.s3_desk.specs.Inner.Desk.{EndsAs, HasReached, HasReplied};
+ghost use Rattle.s3_desk.specs.Inner.Desk.{EndsAs, HasReached, HasReplied, IsPastReply};
 ghost use Rattle.s3_desk.specs.Inner.Printing.{Goes, MeetsPrinting};
 ghost use Rattle.s3_desk.specs.Inner.Rounds.{SitsFrom};
 
@@ -93,7 +93,8 @@ pub fn operate_day<O: Operator<Bureau<MemoryStore>>>(
     ensures two_out { IfOk result (λ day. day.ends.two ≡ OutOfReplies → HasReplied LevelId.Two [] performed.new) }
 
     // The day is a list of moments: each halt is shown as it comes, and asked about at rest; what is performed are turns, drains, and
-    // each reply at its own question. The operator follows after turns up to the end of a job, and after lines, before anything else.
+    // each reply at its own question. The operator follows after turns up to the end of a job, after a level's first turn after a reply,
+    // and after lines, before anything else.
     ensures answered { IfOk result (λ day. (header : Header) → mounted (contents_of pack.items) ≡ Ok header → IsAnswered O.meets (starts_in header (contents_of pack.items) one.cards two.cards) bounds performed.new day.ends operator.old operator.new) }
 {
     let store = MemoryStore::from_bytes(pack);
@@ -221,7 +222,7 @@ fn operate_to_end<S: PackStore, O: Operator<Bureau<S>>>(
     ensures two_cut { IfOk result (λ day. day.0.two ≡ Cut → HasReached LevelId.Two [] performed.new bounds) }
     ensures one_out { IfOk result (λ day. day.0.one ≡ OutOfReplies → HasReplied LevelId.One [] performed.new) }
     ensures two_out { IfOk result (λ day. day.0.two ≡ OutOfReplies → HasReplied LevelId.Two [] performed.new) }
-    ensures sits { IfOk result (λ day. SitsFrom (λ (b : State) (level : LevelId) (w : World). HoldsFor level b w) O.meets (λ level entries. HasReached level [] entries bounds) [] performed.new bureau.old operator.old operator.new false false false false (Some day.0)) }
+    ensures sits { IfOk result (λ day. SitsFrom (λ (b : State) (level : LevelId) (w : World). HoldsFor level b w) O.meets (λ level entries. IsPastReply level [] entries) (λ level entries. HasReached level [] entries bounds) [] performed.new bureau.old operator.old operator.new false false false false (Some day.0)) }
     ensures failures { bureau.new.beside.state.failures ≡ bureau.old.beside.state.failures + failed_stop result }
     ensures not_stopped { result ≢ Err Stopped }
 {

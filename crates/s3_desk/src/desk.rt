@@ -1,5 +1,6 @@
 //! A day at the desk, over two levels that take turns.
 ghost use Rattle.std.specs.Prelude.{◌≡◌, ◌≢◌, ◌⊎◌, ◌+◌, ◌<◌, ◌≤◌, ℕ, List, None, Some, Err, true, false, is_some, IfOk, IfSome, OnOk};
+ghost use Rattle.std.specs.Int.NonZero.{non_zero_u16_get};
 ghost use Rattle.s3_operator.specs.Inner.Halts.{halt_of};
 ghost use Rattle.s3_operator.specs.Halts.{is_waiting, last_halt, waiting as waiting_spec};
 ghost use Rattle.s3_operator.specs.Replies.{is_allowed};
@@ -13,7 +14,7 @@ ghost use Rattle.s3_desk.specs.declared.desk.Went.TheVariants.{Cut, On, Rests};
 ghost use Rattle.s3_desk.specs.declared.ends.Bounds.{Bounds};
 ghost use Rattle.s3_desk.specs.declared.ends.End.TheVariants.{Cut as CutOff, Halted, OutOfReplies};
 ghost use Rattle.s3_desk.specs.Inner.Calls.{GoesAfter, KeepsFrom, NeverStopped};
-ghost use Rattle.s3_desk.specs.Inner.Desk.{AsksLevel, Counts, DayEnds, DrainsQueue, EndsAs, Follows, GivesReply, HasReached, HasReplied, IsLeft, IsSpent, Keeps, LevelGoesOn, RoundEnds, Spends, StepsAlike, TakesLines, TakesTurns, Uses, replies_left, with_reply, work_left};
+ghost use Rattle.s3_desk.specs.Inner.Desk.{AsksLevel, Counts, DayEnds, DrainsQueue, EndsAs, Follows, GivesReply, HasReached, HasReplied, IsLeft, IsPastReply, IsSpent, Keeps, LevelGoesOn, RepliesLast, RoundEnds, Spends, StepsAlike, TakesLines, TakesTurns, Uses, replies_left, with_reply, work_left};
 ghost use Rattle.s3_desk.specs.Inner.Rounds.{Asks, Serves, ShowsHalt, SitsFrom, at_level};
 
 use crate::ends::{Bounds, End, Ends};
@@ -56,6 +57,8 @@ struct Seat {
 
 impl Seat {
     ghost use Rattle.std.specs.Prelude.{◌≡◌, false};
+    ghost use Rattle.std.specs.Int.NonZero.{non_zero_u16_get};
+    ghost use Rattle.s3_desk.specs.Inner.Desk.{stride_of};
 
     /// A level before its first turn.
     fn new(bounds: Bounds) -> Seat
@@ -72,7 +75,9 @@ impl Seat {
 
     /// How many turns the level takes at most before the other one has its own, and before it is followed. After a reply it is one:
     /// that may have ended a job, and the next one prints nothing in its first turn. Else turns end with a job by themselves.
-    fn stride(&self) -> NonZeroU16 {
+    fn stride(&self) -> NonZeroU16
+        ensures { non_zero_u16_get result ≡ stride_of self.now.answers }
+    {
         if self.answers == 0 {
             NonZeroU16::new(STRIDE).unwrap_or(NonZeroU16::MIN)
         } else {
@@ -91,7 +96,7 @@ fn take_turns<M: Machine>(
     performed: &mut Performed,
 ) -> Result<Went, Stop>
     ensures goes { TakesTurns M.holds level performed.old performed.new bureau.old bureau.new result }
-    ensures alike { OnOk result (StepsAlike M.holds level performed.old performed.new bureau.old) }
+    ensures alike { OnOk result (StepsAlike M.holds (non_zero_u16_get stride) level performed.old performed.new bureau.old) }
     ensures idle { IfOk result (λ went. went ≢ On → performed.new ≡ performed.old) }
     ensures uses { IfOk result (λ went. Uses level performed.old performed.new left.old left.new went) }
     ensures after { OnOk result (GoesAfter M.after performed.old performed.new bureau.old bureau.new) }
@@ -177,7 +182,7 @@ fn go_on<M: Machine>(
     performed: &mut Performed,
 ) -> Result<Went, Stop>
     ensures goes { LevelGoesOn M.holds level performed.old performed.new bureau.old bureau.new result }
-    ensures alike { OnOk result (StepsAlike M.holds level performed.old performed.new bureau.old) }
+    ensures alike { OnOk result (StepsAlike M.holds (non_zero_u16_get stride) level performed.old performed.new bureau.old) }
     ensures idle { IfOk result (λ went. went ≢ On → performed.new ≡ performed.old) }
     ensures uses { IfOk result (λ went. Uses level performed.old performed.new left.old left.new went) }
     ensures after { OnOk result (GoesAfter M.after performed.old performed.new bureau.old bureau.new) }
@@ -278,7 +283,7 @@ fn follow<M: Machine, O: Operator<M>>(
     ensures rests { went ≡ Rests → operator.new ≡ operator.old }
     ensures same_left { seat.new.left ≡ seat.old.left }
     ensures same_shown { seat.new.is_shown ≡ seat.old.is_shown }
-    ensures fewer { seat.new.answers ≤ seat.old.answers }
+    ensures same_answers { went ≢ On → seat.new.answers ≡ seat.old.answers }
     ensures none { went ≡ On → seat.new.answers ≡ 0 }
     ensures answers { went ≢ On → replies_left seat.new ≡ replies_left seat.old }
     ensures no_device { failed_stop result ≡ 0 }
@@ -308,7 +313,7 @@ fn serve<M: Machine, O: Operator<M>>(
     performed: &mut Performed,
 ) -> Result<Went, Stop>
     ensures goes { LevelGoesOn M.holds level performed.old performed.new bureau.old bureau.new result }
-    ensures serves { OnOk result (Serves M.holds O.meets level performed.old performed.new bureau.old bureau.new operator.old operator.new seat.old.is_shown seat.new.is_shown) }
+    ensures serves { OnOk result (Serves M.holds O.meets level seat.old.answers performed.old performed.new bureau.old bureau.new operator.old operator.new seat.old.is_shown seat.new.is_shown) }
     ensures uses { IfOk result (λ went. Uses level performed.old performed.new seat.old.left seat.new.left went) }
     ensures counts { OnOk result (Counts level performed.old performed.new seat.old.answers seat.new.answers) }
     ensures answers { IfOk result (λ went. went ≢ On → replies_left seat.new ≡ replies_left seat.old) }
@@ -479,7 +484,9 @@ fn round<M: Machine, O: Operator<M>>(
     performed: &mut Performed,
 ) -> Result<Option<Ends>, Stop>
     ensures ends { RoundEnds M.holds performed.old performed.new bureau.old bureau.new result }
-    ensures sits { IfOk result (λ ends. SitsFrom M.holds O.meets (λ level entries. HasReached level performed.old entries (at_level seat_one.old.left seat_two.old.left level)) performed.old performed.new bureau.old operator.old operator.new seat_one.old.is_shown seat_two.old.is_shown seat_one.new.is_shown seat_two.new.is_shown ends) }
+    ensures sits { IfOk result (λ ends. SitsFrom M.holds O.meets
+        (λ level entries. (first : List Entry) → RepliesLast level first performed.old (at_level seat_one.old.answers seat_two.old.answers level) → IsPastReply level first entries)
+        (λ level entries. HasReached level performed.old entries (at_level seat_one.old.left seat_two.old.left level)) performed.old performed.new bureau.old operator.old operator.new seat_one.old.is_shown seat_two.old.is_shown seat_one.new.is_shown seat_two.new.is_shown ends) }
     ensures one_spends { OnOk result (Spends LevelId.One performed.old performed.new seat_one.old.left seat_one.new.left) }
     ensures two_spends { OnOk result (Spends LevelId.Two performed.old performed.new seat_two.old.left seat_two.new.left) }
     ensures one_cut { IfOk result (λ ends. IfSome ends (λ ends. ends.one ≡ CutOff → IsSpent seat_one.new.left)) }
@@ -524,11 +531,11 @@ pub fn operate<M: Machine, O: Operator<M>>(
     // Each world has taken what was performed of its level, and each level was left so.
     ensures ends { DayEnds M.holds performed.old performed.new bureau.old bureau.new result }
     // Whatever the day was before, what happened since is a list of moments: each in its time, and each reply at its own question.
-    ensures sits { IfOk result (λ ends. SitsFrom M.holds O.meets (λ level entries. HasReached level performed.old entries bounds) performed.old performed.new bureau.old operator.old operator.new false false false false (Some ends)) }
+    ensures sits { IfOk result (λ ends. SitsFrom M.holds O.meets (λ level entries. IsPastReply level performed.old entries) (λ level entries. HasReached level performed.old entries bounds) performed.old performed.new bureau.old operator.old operator.new false false false false (Some ends)) }
     // One that was cut has taken as many turns as it may, or as many lines were drained.
     ensures one_cut { IfOk result (λ ends. ends.one ≡ CutOff → HasReached LevelId.One performed.old performed.new bounds) }
     ensures two_cut { IfOk result (λ ends. ends.two ≡ CutOff → HasReached LevelId.Two performed.old performed.new bounds) }
-    // One that is out of replies has taken 65,535 of them at least, with no turn and no line between them.
+    // The last entries of one that is out of replies are 65,535 of them, with no turn and no line between them.
     ensures one_out { IfOk result (λ ends. ends.one ≡ OutOfReplies → HasReplied LevelId.One performed.old performed.new) }
     ensures two_out { IfOk result (λ ends. ends.two ≡ OutOfReplies → HasReplied LevelId.Two performed.old performed.new) }
     // What the machine's own relations say.

@@ -8,8 +8,9 @@
 //!   drains, and each reply that a halt allows, at that halt's own question. Each halt was shown once, as it came. A question was put
 //!   only for a halt that waits and was shown, with its level at rest and the other level at rest or at a limit. A level that ends
 //!   halted was asked after all entries, in vain;
-//! - the operator follows in time (`answered`): after turns of one level up to the end of a job, and after lines of one level, before
-//!   anything else is performed, shown or asked, and before the day ends.
+//! - the operator follows in time (`answered`): after turns of one level up to the end of a job, after a level's first turn after a
+//!   reply, and after lines of one level, before anything else is performed, shown or asked, and before the day ends. Level 1 is
+//!   reported as over exactly if it is (`Papers::is_one_over`).
 //!
 //! Proved of `operate_printing`: each time that the operator follows, all lines that level 1 has printed are written, and those of
 //! level 2 if level 1 is over and its deck was read (`answered`), and nothing else is (`written`).

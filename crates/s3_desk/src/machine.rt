@@ -31,6 +31,9 @@ pub trait Machine {
     /// What calls keep of a first state, whatever they answer.
     ghost keeps: { Self → Self → Type 0 };
 
+    /// What a halt of a level may be shown with.
+    ghost about: { Self → LevelId → Self.Evidence → Type 0 };
+
     /// How many transfers have failed.
     ghost failures: { Self → ℕ };
 
@@ -70,6 +73,7 @@ pub trait Machine {
 
     /// What the pack has about the halt that waits in a level. Each world that is held still is.
     fn look(&mut self, alloc: Global, level: LevelId) -> Result<Self::Evidence, Stop>
+        ensures about { IfOk result (λ evidence. about self.new level evidence) }
         ensures held { OnOk result ((level : LevelId) (w : World) → holds self.old level w → holds self.new level w) }
         ensures quiet { OnOk result ((was : List Entry) → GoesAfter after was was self.old self.new) }
         ensures not_stopped { (was : List Entry) → NeverStopped after was self.old result }

@@ -26,8 +26,9 @@ pub trait Operator<M: Machine> {
     ghost meets: { Self → Event → Self → Type 0 };
 
     /// A level has gone on, by turns or by drained lines. The operator gets all lines that both levels have printed by then, and all
-    /// entries that were performed by then: those of the calls before, and more after them. Each job that ended is followed before the
-    /// next one of its level takes more than its first turn.
+    /// entries that were performed by then: those of the calls before, and more after them. It follows before anything else is
+    /// performed, shown or asked. A turn that ends a job is followed before the level takes another one, and so is the level's first
+    /// turn after a reply.
     fn follow(
         &mut self,
         machine: &M,
@@ -37,7 +38,7 @@ pub trait Operator<M: Machine> {
     ) -> Result<(), AllocError>
         ensures { OnOk result (meets self.old (Followed level papers.entry.one.now papers.entry.two.now papers.entry.is_one_over performed.now) self.new) };
 
-    /// A halt now waits in a level: it is shown once, as it comes.
+    /// A halt now waits in a level: it is shown once, as it comes, with what the pack has about that level.
     fn show(
         &mut self,
         machine: &M,
@@ -45,6 +46,7 @@ pub trait Operator<M: Machine> {
         halt: &Halt,
         evidence: &M::Evidence,
     ) -> Result<(), AllocError>
+        requires { M.about machine.now level evidence.now }
         ensures { meets self.old (Shown level (halt_of halt.now)) self.new };
 
     /// The reply to a halt that waits in a level; without one the halt is left waiting. It is asked for only if no level can continue.

@@ -1,1 +1,2 @@
+pub mod Abouts
 pub mod Looks

@@ -49,6 +49,8 @@ pub enum Found {
 }
 
 impl<'a> Asked<'a> {
+    ghost use Rattle.s3_evidence.specs.Inner.About.{IsFound};
+
     /// The files on the pack that a program uses, in the order of its F lines.
     pub fn files(&self, alloc: Global, lines: &[Line]) -> Result<Vec<JobFile>, AllocError> {
         let mut files = Vec::new(alloc);
@@ -140,7 +142,9 @@ impl<'a> Asked<'a> {
     }
 
     /// What a job that opens a label finds: a file of the level itself before one of the masters.
-    pub fn found(&self, label: Name) -> Found {
+    pub fn found(&self, label: Name) -> Found
+        ensures { IsFound self.now.level self.now.areas.now label result }
+    {
         match standing_of(label, self.areas.slots(self.level)) {
             Standing::Present(file) => Found::File(file, area_of(self.level)),
             Standing::Blocked => Found::Damage(area_of(self.level)),

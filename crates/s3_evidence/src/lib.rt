@@ -1,7 +1,10 @@
 //! What a halt is about: which job it is of, the source of its program, the file at which it halts, and what the pack has about
 //! it. docs/OPERATING.md says what is shown of it.
 //!
-//! What is proved: `look`, which reads the pack, keeps each world that is held. What is found is only tested.
+//! Proved of `look`, which reads the pack for a halt: it keeps each world that is held, and what it gives is of the asked level
+//! (`about`). Its records are bytes of sectors of a file that the level's job has in use; its slots are of the level's own area or of the
+//! masters, and so are the files of its indexes. Only tested: which of these records, slots and indexes it gives, and the flaw of an
+//! index.
 
 #![tactic(auto)]
 

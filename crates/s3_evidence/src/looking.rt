@@ -1,10 +1,14 @@
 //! The look at the pack.
-ghost use Rattle.std.specs.Prelude.{◌≡◌, ◌≢◌, ◌+◌, true, false, Err, OnOk};
+ghost use Rattle.std.specs.Prelude.{◌≡◌, ◌≢◌, ◌+◌, ◌++◌, [], ◌∷◌, true, false, Err, IfOk, OnOk};
+ghost use Rattle.std.specs.List.{All};
 ghost use Rattle.s3_cards.specs.declared.levels.LevelId.{LevelId};
 ghost use Rattle.s3_store.specs.Inner.State.{KeepsContents};
 ghost use Rattle.s3_solo.specs.World.{World};
 ghost use Rattle.s3_bureau.specs.Inner.Held.{HoldsFor, is_open, level_of};
 ghost use Rattle.s3_bureau.specs.Inner.Stops.{failed_stop};
+ghost use Rattle.s3_labels.specs.Inner.Areas.{Areas};
+ghost use Rattle.s3_slots.specs.declared.label.FileLabel.{FileLabel};
+ghost use Rattle.s3_evidence.specs.Inner.About.{HasIndex, IsAbout, IsOwnArea, IsRecordOf};
 ghost use Rattle.s3_evidence.specs.Inner.Looks.{Looks, stop_in};
 
 use crate::evidence::{BlockingSlot, CheckedIndex, Evidence, IndexFlaw};
@@ -30,12 +34,15 @@ const SLOT_BYTES: u16 = 64;
 ///
 /// If memory runs out it answers `Stop::NoMemory`, and if a transfer of the store fails `Stop::Device`. After either the bureau
 /// may have stopped.
-#[tactic(auto, using(crate::proofs::Looks::looks_held, crate::proofs::Looks::looks_back, crate::proofs::Looks::count_of, crate::proofs::Looks::not_stopped))]
+#[tactic(auto, using(crate::proofs::Looks::looks_held, crate::proofs::Looks::looks_back, crate::proofs::Looks::count_of, crate::proofs::Looks::not_stopped, crate::proofs::Abouts::about_after))]
 pub fn look<S: PackStore>(
     alloc: Global,
     bureau: &mut Bureau<S>,
     level: LevelId,
 ) -> Result<Evidence, Stop>
+    // It is of the level's own: of files that its job has in use, of its area and of the masters.
+    ensures about { IfOk result (λ evidence. IsAbout level bureau.new evidence) }
+
     ensures held { OnOk result ((one_or_two : LevelId) (w : World) → HoldsFor one_or_two bureau.old w → HoldsFor one_or_two bureau.new w) }
     ensures held_before { (one_or_two : LevelId) (w : World) → HoldsFor one_or_two bureau.new w → HoldsFor one_or_two bureau.old w }
 
@@ -60,7 +67,8 @@ fn read_evidence<S: PackStore>(
     bureau: &mut Bureau<S>,
     level: LevelId,
 ) -> Result<Evidence, Stop>
-    ensures { Looks (stop_in result) bureau.old bureau.new }
+    ensures looks { Looks (stop_in result) bureau.old bureau.new }
+    ensures about { IfOk result (λ evidence. IsAbout level bureau.old evidence) }
 {
     match find_wanted(alloc, bureau, level)? {
         Wanted::Nothing => Ok(Evidence::Nothing),
@@ -90,7 +98,8 @@ fn read_record<S: PackStore>(
     label: &FileLabel,
     place: Option<RecordPlace>,
 ) -> Result<Option<Vec<u8>>, Stop>
-    ensures { Looks (stop_in result) bureau.old bureau.new }
+    ensures looks { Looks (stop_in result) bureau.old bureau.new }
+    ensures from { IfOk result (λ read. IsRecordOf label.now bureau.old.beside.state.contents read) }
 {
     let Some(place) = place else {
         return Ok(None);
@@ -145,7 +154,8 @@ fn read_slots<S: PackStore>(
     bureau: &mut Bureau<S>,
     places: &[SlotPlace],
 ) -> Result<Vec<BlockingSlot>, Stop>
-    ensures { Looks (stop_in result) bureau.old bureau.new }
+    ensures looks { Looks (stop_in result) bureau.old bureau.new }
+    ensures own { IfOk result (λ slots. (level : LevelId) → All (λ place. IsOwnArea level place.area) places.now → All (λ slot. IsOwnArea level slot.area) slots.items) }
 {
     let mut slots = Vec::new(alloc);
     for place in places {
@@ -189,7 +199,8 @@ fn check_indexes<S: PackStore>(
     bureau: &mut Bureau<S>,
     files: &[(Name, FileLabel)],
 ) -> Result<Vec<CheckedIndex>, Stop>
-    ensures { Looks (stop_in result) bureau.old bureau.new }
+    ensures looks { Looks (stop_in result) bureau.old bureau.new }
+    ensures own { IfOk result (λ indexes. (level : LevelId) (areas : Areas) → All (λ file. HasIndex level areas file.0 file.1) files.now → All (λ index. (label : FileLabel) × HasIndex level areas index.label label) indexes.items) }
 {
     let mut indexes = Vec::new(alloc);
     for file in files {
@@ -204,7 +215,9 @@ fn check_indexes<S: PackStore>(
 }
 
 /// Adds an item to a list.
-fn add<T: Drop>(list: &mut Vec<T>, item: T) -> Result<(), AllocError> {
+fn add<T: Drop>(list: &mut Vec<T>, item: T) -> Result<(), AllocError>
+    ensures { OnOk result (list.new.items ≡ list.old.items ++ item ∷ []) }
+{
     Ok(list.push(item)?)
 }
 

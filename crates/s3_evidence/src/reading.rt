@@ -1,4 +1,9 @@
 //! Bytes of a file, read through a bureau.
+ghost use Rattle.std.specs.Prelude.{◌≡◌, true, nat_eq, slice_get, IfOk, IfSome};
+ghost use Rattle.std.specs.List.{list_any};
+ghost use Rattle.s3_store.specs.Stretches.{sectors_in};
+ghost use Rattle.s3_bureau.specs.Inner.Queries.{IsFound};
+ghost use Rattle.s3_evidence.specs.Inner.About.{AreOfSectors, IsPartOf};
 ghost use Rattle.s3_evidence.specs.Inner.Looks.{Looks, stop_in};
 
 use s3_bureau::{Bureau, Stop};
@@ -18,7 +23,9 @@ pub(crate) struct Sectors {
 }
 
 /// The number on the pack of sector `i` of a file, from 0, that lies in these runs.
-pub(crate) fn sector_at(runs: &[Stretch], i: u64) -> Option<u16> {
+pub(crate) fn sector_at(runs: &[Stretch], i: u64) -> Option<u16>
+    ensures { IfSome result (λ n. list_any (nat_eq n) (sectors_in runs.now) ≡ true) }
+{
     let mut left = i;
     for run in runs {
         let sectors = u64::from(run.sectors);
@@ -37,7 +44,8 @@ fn read_sector<S: PackStore>(
     n: u16,
     sector: &mut [u8; 256],
 ) -> Result<bool, Stop>
-    ensures { Looks (stop_in result) bureau.old bureau.new }
+    ensures looks { Looks (stop_in result) bureau.old bureau.new }
+    ensures found { IfOk result (λ found. IsFound found (slice_get bureau.old.beside.state.contents n) sector.new) }
 {
     bureau.read_sector(n, sector)
 }
@@ -50,7 +58,8 @@ pub(crate) fn read_sectors<S: PackStore>(
     runs: &[Stretch],
     sectors: Sectors,
 ) -> Result<Vec<u8>, Stop>
-    ensures { Looks (stop_in result) bureau.old bureau.new }
+    ensures looks { Looks (stop_in result) bureau.old bureau.new }
+    ensures from { IfOk result (λ bytes. AreOfSectors (sectors_in runs.now) bureau.old.beside.state.contents bytes.items) }
 {
     let mut bytes = Vec::new(alloc);
     let mut sector = [0; 256];
@@ -75,7 +84,8 @@ pub(crate) fn read_bytes<S: PackStore>(
     at: u64,
     count: u16,
 ) -> Result<Option<Vec<u8>>, Stop>
-    ensures { Looks (stop_in result) bureau.old bureau.new }
+    ensures looks { Looks (stop_in result) bureau.old bureau.new }
+    ensures from { IfOk result (λ read. IfSome read (λ bytes. IsPartOf (sectors_in runs.now) bureau.old.beside.state.contents bytes.items)) }
 {
     let skipped = (at % SECTOR) as usize;
     let wanted = usize::from(count);

@@ -1,4 +1,14 @@
 //! What is to be read of the pack for a halt.
+ghost use Rattle.std.specs.Prelude.{◌≡◌, true, None, IfOk, IfSome, OnOk};
+ghost use Rattle.std.specs.List.{All, list_any};
+ghost use Rattle.s3_slots.specs.declared.slot.Standing.TheVariants.{Present};
+ghost use Rattle.s3_slots.specs.Slots.{standing};
+ghost use Rattle.s3_job_files.specs.Inner.Holds.{slots_by};
+ghost use Rattle.s3_solo.specs.World.{World};
+ghost use Rattle.s3_level.specs.Inner.Holds.{Around, Holds};
+ghost use Rattle.s3_level.specs.Inner.Queries.{files_of};
+ghost use Rattle.s3_evidence.specs.declared.wanted.Wanted.TheVariants.{Nothing};
+ghost use Rattle.s3_evidence.specs.Inner.About.{HasIndex, IsOwnArea, IsWanted, has_in_use};
 
 use crate::at_fault::{Asked, Found, MASTERS};
 use crate::begun::Source;
@@ -7,12 +17,13 @@ use s3_cards::{LevelId, Name};
 use s3_cycle::{Cycle, Stand, Totals};
 use s3_decks::job_before;
 use s3_job_files::OpenFile;
-use s3_labels::{FileLabel, Organization, Slot, area_of};
+use s3_labels::{AreaSlots, FileLabel, Organization, Slot, Standing, area_of};
 use s3_level::Level;
 use s3_lines::sheet::{
     CalculationTime, FileLine, Line, Operation, OutputKind, OutputLine, SheetLine,
 };
 use s3_operator::HaltCode;
+use s3_slots::standing_of;
 use s3_store::PackStore;
 use std::alloc::{AllocError, Global};
 
@@ -71,7 +82,9 @@ pub(crate) fn find_wanted<S: PackStore>(
     alloc: Global,
     bureau: &Bureau<S>,
     level: LevelId,
-) -> Result<Wanted, AllocError> {
+) -> Result<Wanted, AllocError>
+    ensures { IfOk result (λ wanted. IsWanted level bureau.now wanted) }
+{
     let held = bureau.level(level);
     let Some(code) = held.waits() else {
         return Ok(Wanted::Nothing);
@@ -80,11 +93,22 @@ pub(crate) fn find_wanted<S: PackStore>(
         HaltCode::UnidentifiedRecord
         | HaltCode::OutOfSequence
         | HaltCode::KeyNotAscending
-        | HaltCode::KeyChanged => Ok(wanted_at_work(held, code).unwrap_or(Wanted::Nothing)),
+        | HaltCode::KeyChanged => Ok(or_nothing(wanted_at_work(bureau, level, code))),
         HaltCode::DamagedLabel | HaltCode::BadIndex => {
-            wanted_at_start(alloc, bureau, held, level, code)
+            wanted_at_start(alloc, bureau, level, code)
         }
-        _ => Ok(wanted_of_cycle(held).unwrap_or(Wanted::Nothing)),
+        _ => Ok(or_nothing(wanted_of_cycle(bureau, level))),
+    }
+}
+
+/// What is wanted, or nothing.
+fn or_nothing(wanted: Option<Wanted>) -> Wanted
+    ensures some { IfSome wanted (λ it. result ≡ it) }
+    ensures none { wanted ≡ None → result ≡ Nothing }
+{
+    match wanted {
+        Some(it) => it,
+        None => Wanted::Nothing,
     }
 }
 
@@ -92,7 +116,10 @@ pub(crate) fn find_wanted<S: PackStore>(
 
 /// The record that is to be read if a program at work halts in a calculation or an output line at totals before a record of a disk file:
 /// the record before that one. The cycle has the record itself.
-fn wanted_of_cycle(held: &Level) -> Option<Wanted> {
+fn wanted_of_cycle<S: PackStore>(bureau: &Bureau<S>, level: LevelId) -> Option<Wanted>
+    ensures { IfSome result (λ wanted. IsWanted level bureau.now wanted) }
+{
+    let held = bureau.level(level);
     let cycle = held.cycle()?;
     let Totals::Before { file, number } = cycle.totals() else {
         return None;
@@ -104,28 +131,60 @@ fn wanted_of_cycle(held: &Level) -> Option<Wanted> {
         return None;
     }
     let file = open_file(held, cycle.file_line(file)?.name)?;
+    let label = label_of(bureau.areas(), level, file)?;
     Some(Wanted::Totals {
-        label: file.label.copied(),
+        label,
         before: nth_read(file, number.saturating_sub(1)),
     })
 }
 
 /// The records that are to be read if a program at work halts. Its source isn't needed for that.
-fn wanted_at_work(held: &Level, code: HaltCode) -> Option<Wanted> {
+fn wanted_at_work<S: PackStore>(
+    bureau: &Bureau<S>,
+    level: LevelId,
+    code: HaltCode,
+) -> Option<Wanted>
+    ensures { IfSome result (λ wanted. IsWanted level bureau.now wanted) }
+{
+    let held = bureau.level(level);
     let cycle = held.cycle()?;
     let line = cycle.file_line(cycle.file_there()?)?;
     let file = open_file(held, line.name)?;
+    let label = label_of(bureau.areas(), level, file)?;
     let (last, before) = places_wanted(cycle, file, line, code);
     Some(Wanted::Records {
-        label: file.label.copied(),
+        label,
         last,
         before,
     })
 }
 
 /// The file of a job that its program knows by this name.
-fn open_file(held: &Level, name: Name) -> Option<&OpenFile> {
-    held.files().iter().find(|file| file.name == name)
+#[tactic(auto, using(crate::proofs::Abouts::is_in_use))]
+fn open_file(held: &Level, name: Name) -> Option<&OpenFile>
+    ensures { IfSome result (λ file. (beside : Around) (w : World) → Holds held.now beside w → list_any (has_in_use file.now.is_master file.now.label.name) (files_of w.job) ≡ true) }
+{
+    for file in held.files() {
+        if file.name == name {
+            return Some(file);
+        }
+    }
+    None
+}
+
+/// The label of a file that the job of a level has in use, as the pack has it.
+fn label_of(areas: &AreaSlots, level: LevelId, file: &OpenFile) -> Option<FileLabel>
+    ensures { IfSome result (λ label. standing file.now.label.name (slots_by file.now.is_master level areas.now) ≡ Present label) }
+{
+    let slots = if file.is_master {
+        areas.masters()
+    } else {
+        areas.slots(level)
+    };
+    match standing_of(file.label.name, slots) {
+        Standing::Present(label) => Some(label),
+        Standing::Absent | Standing::Blocked => None,
+    }
 }
 
 /// The places of the record that was read last and of the one before it.
@@ -265,10 +324,12 @@ impl Source {
 fn wanted_at_start<S: PackStore>(
     alloc: Global,
     bureau: &Bureau<S>,
-    held: &Level,
     level: LevelId,
     code: HaltCode,
-) -> Result<Wanted, AllocError> {
+) -> Result<Wanted, AllocError>
+    ensures { IfOk result (λ wanted. IsWanted level bureau.now wanted) }
+{
+    let held = bureau.level(level);
     let Some(job) = job_before(alloc, held.deck(), held.place())? else {
         return Ok(Wanted::Nothing);
     };
@@ -285,7 +346,9 @@ fn wanted_at_start<S: PackStore>(
 }
 
 /// The damaged slots under the labels of the FILE statements of a job, in the area of its level and among the masters.
-fn blocking_slots(alloc: Global, asked: &Asked<'_>) -> Result<Vec<SlotPlace>, AllocError> {
+fn blocking_slots(alloc: Global, asked: &Asked<'_>) -> Result<Vec<SlotPlace>, AllocError>
+    ensures { IfOk result (λ slots. All (λ place. IsOwnArea asked.now.level place.area) slots.items) }
+{
     let mut slots = Vec::new(alloc);
     for statement in asked.statements {
         push_slot(&mut slots, asked, statement.label, area_of(asked.level))?;
@@ -300,7 +363,9 @@ fn push_slot(
     asked: &Asked<'_>,
     label: Name,
     area: u16,
-) -> Result<(), AllocError> {
+) -> Result<(), AllocError>
+    ensures { OnOk result (IsOwnArea asked.now.level area → All (λ place. IsOwnArea asked.now.level place.area) slots.old.items → All (λ place. IsOwnArea asked.now.level place.area) slots.new.items) }
+{
     let found = asked
         .slots(area)
         .iter()
@@ -322,7 +387,9 @@ fn is_damaged_under(label: Name, slot: &Slot) -> bool {
 }
 
 /// The files with an index that the FILE statements of a job find, each once.
-fn indexed_files(alloc: Global, asked: &Asked<'_>) -> Result<Vec<(Name, FileLabel)>, AllocError> {
+fn indexed_files(alloc: Global, asked: &Asked<'_>) -> Result<Vec<(Name, FileLabel)>, AllocError>
+    ensures { IfOk result (λ files. All (λ file. HasIndex asked.now.level asked.now.areas.now file.0 file.1) files.items) }
+{
     let mut files = Vec::new(alloc);
     for statement in asked.statements {
         push_indexed(&mut files, asked, statement.label)?;
@@ -335,7 +402,9 @@ fn push_indexed(
     files: &mut Vec<(Name, FileLabel)>,
     asked: &Asked<'_>,
     label: Name,
-) -> Result<(), AllocError> {
+) -> Result<(), AllocError>
+    ensures { OnOk result (All (λ file. HasIndex asked.now.level asked.now.areas.now file.0 file.1) files.old.items → All (λ file. HasIndex asked.now.level asked.now.areas.now file.0 file.1) files.new.items) }
+{
     let is_known = files.iter().any(|file| file.0 == label);
     match asked.found(label) {
         Found::File(file, _) if !is_known && file.organization == Organization::Indexed => {

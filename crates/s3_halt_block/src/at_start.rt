@@ -4,6 +4,7 @@ use crate::cards::DeckCards;
 use crate::layout::push_layouts;
 use crate::room::push_room;
 use crate::slot_words::push_slot_at_fault;
+use s3_cards::ebcdic::DIGIT_0;
 use s3_cards::{LevelId, Name};
 use s3_decks::{push_characters, push_name};
 use s3_evidence::{Asked, Begun, Evidence, Found, IndexFlaw, JobFile};
@@ -154,11 +155,19 @@ fn push_kept(text: &mut String, found: Found) -> Result<(), AllocError> {
     let Found::File(label, _) = &found else {
         return Ok(());
     };
-    text.push_str("  kept for good since ")?;
-    push_date(text, &label.date)?;
+    text.push_str("  kept for good")?;
+    if has_date(&label.date) {
+        text.push_str(" since ")?;
+        push_date(text, &label.date)?;
+    }
     text.push_str(", with ")?;
     push_count(text, label.count)?;
     text.push('\n')
+}
+
+/// Whether a date of a label is one: a label without a date has zeros.
+fn has_date(date: &[u8; 6]) -> bool {
+    date.iter().any(|digit| *digit != DIGIT_0)
 }
 
 /// Appends `1 record`, or how many records.

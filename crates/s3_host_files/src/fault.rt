@@ -1,5 +1,8 @@
 //! Why the file of a pack, or an output, can't be read or written.
 
+ghost use Rattle.std.specs.Prelude.{◌≡◌};
+ghost use Rattle.s3_host_files.specs.Inner.Saves.{is_saved as is_saved_spec};
+
 use super::naming::Hindrance;
 use super::streams::StandardStream;
 use std::io;
@@ -37,4 +40,11 @@ impl From<Hindrance> for FileFault {
     fn from(hindrance: Hindrance) -> FileFault {
         FileFault::Hindered(hindrance)
     }
+}
+
+/// Whether the file is the new pack after a save.
+pub fn is_saved(done: &Result<(), FileFault>) -> bool
+    ensures { result ≡ is_saved_spec done.now }
+{
+    matches!(done, Ok(()) | Err(FileFault::Unsynced(_)))
 }

@@ -2,8 +2,8 @@
 //! and standard input and standard output.
 //!
 //! What is proved: how a new file gets the name of an old one, by what is found there (`choose_naming`), which files a pack may replace
-//! (`is_replaceable`), which files a save removes (`is_leftover`), and the names of the standard streams (`StandardStream::name`).
-//! Each call is safe and returns. What files give and take isn't claimed: they are used as the toolchain offers them, and
+//! (`is_replaceable`), which files a save removes (`is_leftover`), after which saves the file is the new pack (`is_saved`), and the names
+//! of the standard streams (`StandardStream::name`). Each call is safe and returns. What files give and take isn't claimed: they are used as the toolchain offers them, and
 //! `tools/search/kill-saves` and `tools/check/test-saves` test the saves.
 
 #![tactic(auto)]
@@ -25,7 +25,7 @@ mod standard_output;
 mod streams;
 mod syncing;
 
-pub use fault::FileFault;
+pub use fault::{FileFault, is_saved};
 pub use folders::{LockedFolder, create_anew, is_empty_folder, stream_in, test_folder};
 use input::input_up_to;
 pub use input::{SHOWN_INPUT, STANDARD_INPUT, is_input, path_of, read_input, shown_name};

@@ -1,37 +1,64 @@
 //! Standard input, as commands read it.
 
-use super::reading::read_some;
 use std::io;
-use std::io::Read;
+use std::io::{ErrorKind, IsTerminal, Read};
+use std::thread::sleep;
+use std::time::Duration;
 
-/// Standard input. A read that a signal interrupts is tried again.
+/// How long a reader waits before it tries again, in milliseconds.
+const PAUSE: u64 = 5;
+
+/// Standard input. If it has nothing at the moment, as a pipe that doesn't block, a read waits until it has. A read that a signal interrupts
+/// is tried again. A terminal that was closed has no end of the input: its read fails.
 #[derive(Drop)]
 pub struct StandardInput<'a> {
     rt: &'a HostRuntime,
+    is_terminal: bool,
     failure: Option<io::Error>,
 }
 
 impl<'a> StandardInput<'a> {
     /// Standard input before anything is read.
     pub fn new(rt: &'a HostRuntime) -> StandardInput<'a> {
-        StandardInput { rt, failure: None }
+        StandardInput {
+            rt,
+            is_terminal: rt.stdin().is_terminal(),
+            failure: None,
+        }
     }
 
     /// Why the last read that failed did, if one has failed.
     pub fn failure(&self) -> Option<io::Error> {
         self.failure
     }
+
+    /// Whether it was a terminal, and isn't any more.
+    fn is_closed_terminal(&self) -> bool {
+        self.is_terminal && !self.rt.stdin().is_terminal()
+    }
 }
 
 impl<'a> Read for StandardInput<'a> {
     fn read(&mut self, bytes: &mut [u8]) -> io::Result<usize> {
-        let mut input = self.rt.stdin();
-        match read_some(&mut input, bytes) {
-            Ok(count) => Ok(count),
-            Err(error) => {
-                self.failure = Some(error);
-                Err(error)
+        // as long as a writer takes: the bound is what shows that it ends
+        for _try in 0..u64::MAX {
+            match self.rt.stdin().read(bytes) {
+                Err(error) if error.kind() == ErrorKind::WouldBlock => {
+                    sleep(self.rt, Duration::from_millis(PAUSE));
+                }
+                Err(error) if error.kind() == ErrorKind::Interrupted => {}
+                Ok(0) if self.is_closed_terminal() => {
+                    let error = io::Error::from(ErrorKind::NotConnected);
+                    self.failure = Some(error);
+                    return Err(error);
+                }
+                Err(error) => {
+                    self.failure = Some(error);
+                    return Err(error);
+                }
+                Ok(count) => return Ok(count),
             }
         }
+        Err(io::Error::from(ErrorKind::WouldBlock))
     }
 }

@@ -16,7 +16,7 @@ use Rattle.json.specs.declared.error.Error.TheVariants as json_error
 use Rattle.s3_journal.specs.declared.day.PostedDay.{PostedDay}
 use Rattle.s3_journal.specs.declared.reading.Lines.{Lines}
 use Rattle.s3_journal.specs.declared.reading.JournalFault.{JournalFault}
-use Rattle.s3_journal.specs.declared.reading.JournalFault.TheVariants.{NoMemory, Line, Chain}
+use Rattle.s3_journal.specs.declared.reading.JournalFault.TheVariants.{NoMemory, Line, Chain, Changed}
 use Rattle.s3_journal.specs.Inner.Days.{Day, day_of}
 use Rattle.s3_journal.specs.Inner.Lines.{said_in, said_on}
 use Rattle.s3_journal.specs.Inner.Journals.{Reads, Takes, all_but_last, chained, days_from, days_in, is_line_end, last_of, line_begun, lines_ended}
@@ -170,4 +170,6 @@ refused_at text rest old now new line after NoMemory result before cut refused i
 refused_at text rest old now new line after (Line number) result before cut refused is =
     rw is (λ none no_days. followed_refused text rest now.last.now (map day_of now.days.items) line after (before none no_days) cut refused)
 refused_at text rest old now new line after (Chain number) result before cut refused is =
+    rw is (λ none no_days. followed_refused text rest now.last.now (map day_of now.days.items) line after (before none no_days) cut refused)
+refused_at text rest old now new line after (Changed number) result before cut refused is =
     rw is (λ none no_days. followed_refused text rest now.last.now (map day_of now.days.items) line after (before none no_days) cut refused)

@@ -14,10 +14,11 @@ use Rattle.json.specs.Print.{print}
 use Rattle.json.specs.Tree.{json_tokens, depth, members_depth}
 use Rattle.json.proofs.Printed.Trees.{document-print}
 use Rattle.s3_journal.specs.declared.day.LevelCount.{LevelCount}
+use Rattle.s3_journal.specs.Inner.Digests.{digest_of}
 use Rattle.s3_journal.specs.Inner.Days.{Operation, Did, operates, runs, appends, loads, sorts, deletes, copies, amends, restores, Day}
 use Rattle.s3_journal.specs.Inner.Members.{below, only_or_none, or_none, up_to, whole_number}
-use Rattle.s3_journal.specs.Inner.Lines.{Pairs, Said, byte_most, long_most, count_in, day_pairs, did_pairs, level_tree, line_of, members_of, previous_pairs, said_in, said_on, text_of_line, text_or_null, tree_of, whole}
-use Rattle.s3_journal.specs.Inner.Journals.{ReadsBack, chained, count_fits, days_from, did_fits, digest_of, fits, is_line_end, lines_ended, text_after}
+use Rattle.s3_journal.specs.Inner.Lines.{Pairs, Said, byte_most, long_most, count_in, day_pairs, did_pairs, level_tree, line_of, members_of, digest_pairs, said_in, said_on, text_of_line, text_or_null, text_with, tree_of, whole}
+use Rattle.s3_journal.specs.Inner.Journals.{ReadsBack, chained, count_fits, days_from, did_fits, fits, is_line_end, lines_ended, text_after}
 use Rattle.s3_journal.proofs.MemberLemmas.{below_parses}
 use Rattle.s3_journal.proofs.JournalLemmas.{lines_of_line, lines_of_rest}
 use Rattle.s3_journal.proofs.TextLemmas.{HasDecimals, MembersHaveDecimals, numbers_of_decimals, print_inside}
@@ -44,25 +45,25 @@ rules_back None = refl
 rules_back (Some text) = refl
 
 -- ---- a day
-abbrev pub object_of : Day → (previous : List ℕ) → Pairs
-object_of day previous = day_pairs day ++ (did_pairs day.did ++ previous_pairs previous)
+abbrev pub object_of : Day → (previous sum : List ℕ) → Pairs
+object_of day previous sum = day_pairs day ++ (did_pairs day.did ++ digest_pairs previous (Some sum))
 
-day_back : (number : ℕ) (at before after : List ℕ) (status : ℕ) (did : Did) (previous : List ℕ) → nat_le number long_most ≡ true → nat_le status byte_most ≡ true → did_fits did ≡ true
-    → said_in (members_of (object_of (record { number = number; at = at; before = before; after = after; status = status; did = did }) previous))
-    ≡ Some (record { day = record { number = number; at = at; before = before; after = after; status = status; did = did }; previous = previous })
-day_back number at before after status (operates day) previous numbered ended fit =
+day_back : (number : ℕ) (at before after : List ℕ) (status : ℕ) (did : Did) (previous sum : List ℕ) → nat_le number long_most ≡ true → nat_le status byte_most ≡ true → did_fits did ≡ true
+    → said_in (members_of (object_of (record { number = number; at = at; before = before; after = after; status = status; did = did }) previous sum))
+    ≡ Some (record { day = record { number = number; at = at; before = before; after = after; status = status; did = did }; previous = previous; sum = Some sum })
+day_back number at before after status (operates day) previous sum numbered ended fit =
     let counts = and_parts (count_fits day.one) (count_fits day.two) fit in
     let one = and_parts (nat_le day.one.jobs long_most) (nat_le day.one.lines long_most) counts.0 in
     let two = and_parts (nat_le day.two.jobs long_most) (nat_le day.two.lines long_most) counts.1 in
     rw (long_back number numbered, byte_back status ended, count_back day.one.jobs day.one.lines one.0 one.1, count_back day.two.jobs day.two.lines two.0 two.1, rules_back day.rules) refl
-day_back number at before after status (runs deck1 deck2 script) previous numbered ended fit = rw (long_back number numbered, byte_back status ended) refl
-day_back number at before after status (appends table file) previous numbered ended fit = rw (long_back number numbered, byte_back status ended) refl
-day_back number at before after status loads previous numbered ended fit = rw (long_back number numbered, byte_back status ended) refl
-day_back number at before after status sorts previous numbered ended fit = rw (long_back number numbered, byte_back status ended) refl
-day_back number at before after status deletes previous numbered ended fit = rw (long_back number numbered, byte_back status ended) refl
-day_back number at before after status copies previous numbered ended fit = rw (long_back number numbered, byte_back status ended) refl
-day_back number at before after status amends previous numbered ended fit = rw (long_back number numbered, byte_back status ended) refl
-day_back number at before after status restores previous numbered ended fit = rw (long_back number numbered, byte_back status ended) refl
+day_back number at before after status (runs deck1 deck2 script) previous sum numbered ended fit = rw (long_back number numbered, byte_back status ended) refl
+day_back number at before after status (appends table file) previous sum numbered ended fit = rw (long_back number numbered, byte_back status ended) refl
+day_back number at before after status loads previous sum numbered ended fit = rw (long_back number numbered, byte_back status ended) refl
+day_back number at before after status sorts previous sum numbered ended fit = rw (long_back number numbered, byte_back status ended) refl
+day_back number at before after status deletes previous sum numbered ended fit = rw (long_back number numbered, byte_back status ended) refl
+day_back number at before after status copies previous sum numbered ended fit = rw (long_back number numbered, byte_back status ended) refl
+day_back number at before after status amends previous sum numbered ended fit = rw (long_back number numbered, byte_back status ended) refl
+day_back number at before after status restores previous sum numbered ended fit = rw (long_back number numbered, byte_back status ended) refl
 
 -- ---- its numbers are such, and it is not deep
 abbrev Fine : Json → Type 0
@@ -124,23 +125,27 @@ status_fits day fit = (and_parts (nat_le day.number long_most) (nat_le day.statu
 work_fits : (day : Day) → fits day ≡ true → did_fits day.did ≡ true
 work_fits day fit = (and_parts (nat_le day.number long_most && nat_le day.status byte_most) (did_fits day.did) fit).1
 
-object_fine : (day : Day) (previous : List ℕ) → fits day ≡ true → AreFine (object_of day previous)
-object_fine day previous fit =
-    (long_fine day.number (number_fits day fit), (text_fine, (text_fine, (text_fine, (text_fine, (byte_fine day.status (status_fits day fit), fine_append (did_pairs day.did) (previous_pairs previous) (did_fine day.did (work_fits day fit)) (text_fine, tt)))))))
+object_fine : (day : Day) (previous sum : List ℕ) → fits day ≡ true → AreFine (object_of day previous sum)
+object_fine day previous sum fit =
+    (long_fine day.number (number_fits day fit), (text_fine, (text_fine, (text_fine, (text_fine, (byte_fine day.status (status_fits day fit), fine_append (did_pairs day.did) (digest_pairs previous (Some sum)) (did_fine day.did (work_fits day fit)) (text_fine, (text_fine, tt))))))))
 
-tree_fine : (day : Day) (previous : List ℕ) → fits day ≡ true → HasDecimals (tree_of day previous) × (depth (tree_of day previous) ≤ 2)
+tree_fine : (day : Day) (previous sum : List ℕ) → fits day ≡ true → HasDecimals (tree_of day previous (Some sum)) × (depth (tree_of day previous (Some sum)) ≤ 2)
 unfolding tree_of
-tree_fine day previous fit =
-    let more = members_fine (object_of day previous) (object_fine day previous fit) in
+tree_fine day previous sum fit =
+    let more = members_fine (object_of day previous sum) (object_fine day previous sum fit) in
     (more.0, omega (arith, more.1))
 
 -- ---- a line, and a journal
-line_back : (day : Day) (previous : List ℕ) → fits day ≡ true → said_on (text_of_line day previous) ≡ Some (record { day = day; previous = previous })
+line_back : (day : Day) (previous sum : List ℕ) → fits day ≡ true → said_on (text_with day previous (Some sum)) ≡ Some (record { day = day; previous = previous; sum = Some sum })
 unfolding said_on tree_of
-line_back day previous fit =
-    let fine = tree_fine day previous fit in
-    ap (λ j. option_and_then said_in (option_and_then as_object j)) (document-print (tree_of day previous) (numbers_of_decimals (tree_of day previous) fine.0) (omega (arith, fine.1)))
-    ∙ day_back day.number day.at day.before day.after day.status day.did previous (number_fits day fit) (status_fits day fit) (work_fits day fit)
+line_back day previous sum fit =
+    let fine = tree_fine day previous sum fit in
+    ap (λ j. option_and_then said_in (option_and_then as_object j)) (document-print (tree_of day previous (Some sum)) (numbers_of_decimals (tree_of day previous (Some sum)) fine.0) (omega (arith, fine.1)))
+    ∙ day_back day.number day.at day.before day.after day.status day.did previous sum (number_fits day fit) (status_fits day fit) (work_fits day fit)
+
+-- the digest that a line has of itself
+abbrev pub own_digest : Day → (previous : List ℕ) → List ℕ
+own_digest day previous = digest_of (text_with day previous None)
 
 lines_back : (day : Day) (previous rest begun : List ℕ) → fits day ≡ true
     → lines_ended ((line_of day previous ++ rest) ++ begun) ≡ text_of_line day previous ∷ lines_ended (rest ++ begun)
@@ -148,12 +153,13 @@ unfolding line_of
 lines_back day previous rest begun fit =
     let text = text_of_line day previous in
     ap lines_ended (append_assoc (text ++ 10 ∷ []) rest begun ∙ append_assoc text (10 ∷ []) (rest ++ begun))
-    ∙ lines_of_line text (rest ++ begun) (print_inside (tree_of day previous) (tree_fine day previous fit).0)
+    ∙ lines_of_line text (rest ++ begun) (print_inside (tree_of day previous (Some (own_digest day previous))) (tree_fine day previous (own_digest day previous) fit).0)
 
 chain_back : (day : Day) (before : List ℕ) → fits day ≡ true → chained before (said_on (text_of_line day (digest_of before))) ≡ Some day
 chain_back day before fit =
-    ap (chained before) (line_back day (digest_of before) fit)
-    ∙ ap (λ b. cond b (Some day) None) ((bytes_eq-Decides (digest_of before) (digest_of before)).1 refl)
+    let own = own_digest day (digest_of before) in
+    ap (chained before) (line_back day (digest_of before) own fit)
+    ∙ rw ((bytes_eq-Decides (digest_of before) (digest_of before)).1 refl, (bytes_eq-Decides own own).1 refl) refl
 
 more_days : (before line : List ℕ) (lines : List (List ℕ)) (day : Day) (days : List Day) → chained before (said_on line) ≡ Some day → days_from line lines ≡ Some days
     → days_from before (line ∷ lines) ≡ Some (day ∷ days)

@@ -1,12 +1,12 @@
 -- Tokens that are written one after the other.
-use Rattle.std.proofs.Common.{◌≡◌, ℕ, List, [], ◌∷◌, ◌++◌, append_assoc, ◌+◌, ◌<◌, ◌≤◌, subst, length, take, get_or, map, Result, Ok, Err, refl, ap, sym, ◌∙◌, rules}
+use Rattle.std.proofs.Common.{◌≡◌, ℕ, List, [], ◌∷◌, ◌++◌, append_assoc, ◌+◌, ◌<◌, ◌≤◌, subst, length, take, get_or, Option, Result, Ok, Err, refl, ap, sym, ◌∙◌, rules}
 use Rattle.json.specs.Token.{Token, key, begin_object, end_object}
 use Rattle.json.specs.Json.{Json, object}
 use Rattle.json.specs.Print.{print}
 use Rattle.json.specs.Tree.{json_tokens, members_tokens}
 use Rattle.json.specs.Written.{Written, Writes}
 use Rattle.s3_journal.specs.Inner.Days.{Day}
-use Rattle.s3_journal.specs.Inner.Lines.{Pairs, line_of, members_of, tree_of}
+use Rattle.s3_journal.specs.Inner.Lines.{Pairs, line_of, members_of, text_of_line, text_with, tree_of}
 use Rattle.s3_journal.specs.Inner.Written.{Appended, Appends, json_of, pair_of, pairs_in, pairs_tokens}
 use Rattle.s3_journal.specs.declared.writing.Part.{Part}
 use Rattle.std.specs.Borrow.{Bor}
@@ -68,8 +68,12 @@ pub day_written : {E : Type 0} (r : Result (Unit {0}) E) (old m1 m2 m3 m4 new : 
 day_written r old m1 m2 m3 m4 new ps qs rs a b c d e =
     object_written r old m1 m2 m4 new ps (qs ++ rs) a b (same (then c d) (sym (pairs_append qs rs))) e
 
-pub line_written : (day : Day) (previous : List ℕ) (first last : Written) → first.before ≡ [] → first.tokens ≡ [] → Appended first last (json_tokens (tree_of day previous))
-    → last.before ++ (print last.tokens ++ 10 ∷ []) ≡ line_of day previous
+pub text_written : (day : Day) (previous : List ℕ) (sum : Option (List ℕ)) (first last : Written) → first.before ≡ [] → first.tokens ≡ [] → Appended first last (json_tokens (tree_of day previous sum))
+    → last.before ++ print last.tokens ≡ text_with day previous sum
+text_written day previous sum first last none no_tokens a =
+    ap (λ xs. xs ++ print last.tokens) (a.before ∙ none) ∙ ap print (a.after ∙ ap (λ ts. ts ++ json_tokens (tree_of day previous sum)) no_tokens)
+
+-- a text that is the text of a line, with the line end
+pub line_ended : (day : Day) (previous text line : List ℕ) → text ≡ text_of_line day previous → line ≡ text ++ 10 ∷ [] → line ≡ line_of day previous
 unfolding line_of
-line_written day previous first last none no_tokens a =
-    ap (λ xs. xs ++ (print last.tokens ++ 10 ∷ [])) (a.before ∙ none) ∙ ap (λ ts. print ts ++ 10 ∷ []) (a.after ∙ ap (λ ts. ts ++ json_tokens (tree_of day previous)) no_tokens)
+line_ended day previous text line is ended = ended ∙ ap (λ xs. xs ++ 10 ∷ []) is

@@ -2,6 +2,7 @@
 -- leaves of a journal and a pack.
 pub mod Days
 pub mod Members
+pub mod Digests
 pub mod Views
 pub mod Lines
 pub mod Written

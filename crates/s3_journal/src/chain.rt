@@ -2,13 +2,13 @@
 ghost use Rattle.std.specs.Prelude.{◌≡◌, IfOk};
 ghost use Rattle.std.specs.Str.{bytes_eq};
 ghost use Rattle.std.specs.String.{string_bytes};
-ghost use Rattle.s3_journal.specs.Inner.Journals.{digest_of};
+ghost use Rattle.s3_journal.specs.Inner.Digests.{digest_of};
 
 use sha2::{Digest, Sha256};
 use std::alloc::{AllocError, Global};
 
 /// The SHA-256 digest of a text, in 64 hexadecimal digits.
-#[tactic(auto, unfolding(crate::specs::Inner::Journals::digest_of))]
+#[tactic(auto, unfolding(crate::specs::Inner::Digests::digest_of))]
 pub fn checksum_of(alloc: Global, text: &[u8]) -> Result<String, AllocError>
     ensures { IfOk result (λ sum. string_bytes sum ≡ digest_of text.now) }
 {

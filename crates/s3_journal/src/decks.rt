@@ -1,7 +1,7 @@
 //! What is posted of a deck: the text of its cards.
 ghost use Rattle.std.specs.Prelude.{◌≡◌, ◌∷◌, [], ◌++◌, IfOk, OnOk, reverse};
 ghost use Rattle.std.specs.String.{string_bytes};
-ghost use Rattle.s3_journal.specs.Inner.Journals.{digest_of};
+ghost use Rattle.s3_journal.specs.Inner.Digests.{digest_of};
 ghost use Rattle.s3_journal.specs.Inner.Decks.{before_end, cards_of};
 
 use crate::chain::checksum_of;

@@ -7,13 +7,14 @@ ghost use Rattle.json.specs.Value.{value_view};
 ghost use Rattle.json.specs.declared.error.Error.TheVariants.{OutOfMemory};
 ghost use Rattle.s3_journal.specs.declared.reading.JournalFault.TheVariants.{NoMemory};
 ghost use Rattle.s3_journal.specs.Inner.Days.{day_of, did_of};
-ghost use Rattle.s3_journal.specs.Inner.Journals.{IsChained, IsRead, Reads, Takes, chained, may_begin_line as may_begin_line_spec, said_of};
+ghost use Rattle.s3_journal.specs.Inner.Journals.{IsChained, IsRead, Reads, Takes, chained, is_as_written as is_as_written_spec, may_begin_line as may_begin_line_spec, said_of};
 ghost use Rattle.s3_journal.specs.Inner.Lines.{appended_if, count_in, day_in as day_in_spec, did_by, did_if, did_in, level_in, loaded_in, operated_in, ran_in, said_in as said_in_spec, said_on};
 ghost use Rattle.s3_journal.specs.Inner.Views.{members_in};
 
-use crate::chain::follows;
+use crate::chain::{checksum_of, follows};
 use crate::day::{Appended, LevelCount, Operated, PostedDay, Ran, Work};
 use crate::members::Members;
+use crate::writing::text_with;
 use json::{Error, Scratch, Value};
 use std::alloc::{AllocError, AllocFailed, Global};
 use thiserror::Error;
@@ -30,6 +31,9 @@ pub enum JournalFault {
     /// This line, from 1, doesn't name the line before it: one of both was changed, or a line between them is lost.
     #[error("line {0} doesn't follow the line before it, so that a line was changed or is lost")]
     Chain(usize),
+    /// This line, from 1, was changed: its digest, `sum`, isn't that of what it says.
+    #[error("line {0} was changed: its digest, sum, isn't that of what it says")]
+    Changed(usize),
 }
 
 impl From<AllocError> for JournalFault {
@@ -59,11 +63,28 @@ pub struct Lines<'t> {
     pub bytes: usize,
 }
 
-/// A day, and the checksum of the line before its own.
+/// A line: a day, and the checksums of the line before and of the line itself. Lines of the first release have no checksum of their own.
 #[derive(Drop)]
 pub(crate) struct ReadLine {
     day: PostedDay,
     previous: String,
+    sum: Option<String>,
+}
+
+impl ReadLine {
+    /// Whether the line says what was written, by its own checksum.
+    fn is_as_written(&self, alloc: Global) -> Result<bool, AllocError>
+        ensures { IfOk result (λ is. is ≡ is_as_written_spec (said_of self.now)) }
+    {
+        match &self.sum {
+            Some(sum) => {
+                let text = text_with(alloc, &self.day, self.previous.as_str(), None)?;
+                let own = checksum_of(alloc, text.as_bytes())?;
+                Ok(sum.as_str() == own.as_str())
+            }
+            None => Ok(true),
+        }
+    }
 }
 
 /// How each line begins.
@@ -131,7 +152,7 @@ impl<'t> Lines<'t> {
     }
 }
 
-/// The day of a line that follows the line before it.
+/// The day of a line that follows the line before it, and says what was written.
 fn chained_day(
     alloc: Global,
     line: &str,
@@ -146,6 +167,9 @@ fn chained_day(
     };
     if !follows(alloc, found.previous.as_str(), before)? {
         return Err(JournalFault::Chain(number));
+    }
+    if !found.is_as_written(alloc)? {
+        return Err(JournalFault::Changed(number));
     }
     Ok(found.day)
 }
@@ -193,10 +217,14 @@ fn said_in(alloc: Global, line: Members<'_, '_>) -> Result<Option<ReadLine>, All
     let Some(previous) = line.text("previous") else {
         return Ok(None);
     };
+    let Some(sum) = line.optional_text("sum") else {
+        return Ok(None);
+    };
     match day_in(alloc, line)? {
         Some(day) => Ok(Some(ReadLine {
             day,
             previous: String::from_str(alloc, previous)?,
+            sum: optional_string(alloc, sum)?,
         })),
         None => Ok(None),
     }

@@ -1,12 +1,13 @@
 //! A line of the journal that is written.
 ghost use Rattle.std.specs.Prelude.{◌≡◌, [], ◌∷◌, ◌++◌, IfOk, map, option_map};
+ghost use Rattle.std.specs.Option.{option_copied};
 ghost use Rattle.std.specs.String.{string_bytes};
 ghost use Rattle.json.specs.Token.{key};
 ghost use Rattle.json.specs.Print.{print};
 ghost use Rattle.json.specs.Tree.{json_tokens};
 ghost use Rattle.s3_journal.specs.Inner.Days.{day_of, did_of};
-ghost use Rattle.s3_journal.specs.Inner.Journals.{digest_of};
-ghost use Rattle.s3_journal.specs.Inner.Lines.{day_pairs, did_pairs, level_tree, line_of as line_of_spec, text_or_null as text_or_null_spec, tree_of};
+ghost use Rattle.s3_journal.specs.Inner.Digests.{digest_of};
+ghost use Rattle.s3_journal.specs.Inner.Lines.{day_pairs, did_pairs, digest_pairs, level_tree, line_of as line_of_spec, text_or_null as text_or_null_spec, text_with as text_with_spec, tree_of};
 ghost use Rattle.s3_journal.specs.Inner.Written.{Appends, json_of, pairs_in, pairs_tokens};
 
 use crate::chain::checksum_of;
@@ -19,10 +20,26 @@ pub fn line_of(alloc: Global, day: &PostedDay, before: &str) -> Result<String, A
     ensures { IfOk result (λ line. string_bytes line ≡ line_of_spec (day_of day.now) (digest_of before.now)) }
 {
     let previous = checksum_of(alloc, before.as_bytes())?;
+    let said = text_with(alloc, day, previous.as_str(), None)?;
+    let sum = checksum_of(alloc, said.as_bytes())?;
+    let mut line = text_with(alloc, day, previous.as_str(), Some(sum.as_str()))?;
+    line.push('\n')?;
+    Ok(line)
+}
+
+/// A day as text, given the checksum of the line before, and that of the line itself, if it gets one.
+pub(crate) fn text_with(
+    alloc: Global,
+    day: &PostedDay,
+    previous: &str,
+    sum: Option<&str>,
+) -> Result<String, AllocError>
+    ensures { IfOk result (λ text. string_bytes text ≡ text_with_spec (day_of day.now) previous.now (option_copied sum.entry)) }
+{
     let mut line = Line {
         json: Writer::new(Vec::new(alloc)),
     };
-    line.record(day, previous.as_str())?;
+    line.record(day, previous, sum)?;
     line.ended()
 }
 
@@ -56,27 +73,42 @@ struct Line {
 }
 
 impl Line {
-    /// Writes a day as one object, given the checksum of the line before.
-    fn record(&mut self, day: &PostedDay, previous: &str) -> Result<(), AllocError>
-        ensures { Appends result self.old.json self.new.json (json_tokens (tree_of (day_of day.now) previous.now)) }
+    /// Writes a day as one object, given these checksums.
+    fn record(
+        &mut self,
+        day: &PostedDay,
+        previous: &str,
+        sum: Option<&str>,
+    ) -> Result<(), AllocError>
+        ensures { Appends result self.old.json self.new.json (json_tokens (tree_of (day_of day.now) previous.now (option_copied sum.entry))) }
     {
         self.json.begin_object()?;
         self.day(day)?;
         self.work(&day.work)?;
-        self.members(&[("previous", Part::Text(previous))])?;
+        self.digests(previous, sum)?;
         self.json.end_object()
     }
 
-    /// Its text, with the line feed.
+    /// Its text.
     fn ended(self) -> Result<String, AllocError>
-        ensures { IfOk result (λ line. string_bytes line ≡ self.json.before ++ (print self.json.tokens ++ 10 ∷ [])) }
+        ensures { IfOk result (λ line. string_bytes line ≡ self.json.before ++ print self.json.tokens) }
     {
         match String::from_utf8(self.json.into_inner()) {
-            Ok(mut text) => {
-                text.push('\n')?;
-                Ok(text)
-            }
+            Ok(text) => Ok(text),
             Err(_) => Err(AllocError),
+        }
+    }
+
+    /// Writes the checksums of the line before and of the line itself.
+    fn digests(&mut self, previous: &str, sum: Option<&str>) -> Result<(), AllocError>
+        ensures { Appends result self.old.json self.new.json (pairs_tokens (digest_pairs previous.now (option_copied sum.entry))) }
+    {
+        match sum {
+            Some(sum) => self.members(&[
+                ("previous", Part::Text(previous)),
+                ("sum", Part::Text(sum)),
+            ]),
+            None => self.members(&[("previous", Part::Text(previous))]),
         }
     }
 

@@ -1,24 +1,20 @@
 //! The file of a journal, kept until its command ends.
 
+use crate::opening::{BEGINNING, Opened, folder_of, is_lockable, leads_to, remove_second_name};
 use crate::reading::{Journal, read_journal};
 use crate::refusal::JournalRefusal;
 use crate::reports::{
-    report_cut, report_gone, report_new, report_old, report_posted, report_unknown,
-    report_unwritten,
+    report_again, report_cut, report_gone, report_left, report_lost_lines, report_new, report_old,
+    report_posted, report_unknown, report_unwritten,
 };
 use s3_day_log::utc_text;
-use s3_host_files::{FileFault, Limit};
+use s3_host_files::{FileFault, Limit, is_saved};
 use s3_journal::{PostedDay, Posting, Start, Work, line_of, start_of};
 use std::alloc::AllocError;
-use std::fs::{File, OpenOptions, TryLockError};
+use std::fs::File;
 use std::io::Write;
-use std::os::unix::fs::{MetadataExt, OpenOptionsExt};
-use std::path::Path;
 use std::time::{SystemTime, UNIX_EPOCH};
 use std::{fs, io};
-
-/// The mode of a new journal of a new pack.
-const NEW_MODE: u32 = 0o666;
 
 /// The pack over which a command begins.
 #[derive(Clone, Copy)]
@@ -38,9 +34,11 @@ pub struct NewLine<'b> {
     pub after: &'b str,
     /// The exit status.
     pub status: u8,
+    /// The file that the pack isn't saved in if the line can't be written; none if the command reports this.
+    pub save: Option<&'b str>,
 }
 
-/// How often a journal is opened again if it is removed before it is locked.
+/// How often a journal is opened again if it is made or removed before it is locked.
 const TURNS: u32 = 10;
 
 /// A journal, locked as long as this lives.
@@ -56,14 +54,16 @@ pub struct JournalFile<'a> {
 }
 
 impl<'a> JournalFile<'a> {
-    /// Opens and locks a journal, or makes an empty one within a limit, and reads it.
+    /// Opens and locks a journal, or makes one without a line within a limit, and reads it.
     pub fn open(
         rt: &HostRuntime,
         name: &'a str,
         limit: Option<Limit>,
     ) -> Result<JournalFile<'a>, JournalRefusal<'a>> {
         for _turn in 0..TURNS {
-            let opened = Opened::open(rt, name, limit)?;
+            let Some(opened) = Opened::open(rt, name, limit)? else {
+                continue;
+            };
             keep_others_out(&opened.file, name)?;
             match leads_to(rt, name, &opened.file) {
                 Ok(true) => return JournalFile::read(rt, name, opened),
@@ -81,6 +81,9 @@ impl<'a> JournalFile<'a> {
         opened: Opened,
     ) -> Result<JournalFile<'a>, JournalRefusal<'a>> {
         let Opened { file, is_made } = opened;
+        if !is_made {
+            remove_second_name(rt, name, &file);
+        }
         let folder = match opened_folder(rt, name) {
             Ok(folder) => folder,
             Err(error) => return Err(JournalRefusal::of(&error, name)),
@@ -129,7 +132,7 @@ impl<'a> JournalFile<'a> {
     }
 
     /// Refuses a command that the journal doesn't let begin over a pack, and reports why. The cure is what to do if what it posts is
-    /// posted. A journal without a line is reported, since it lets anything begin.
+    /// posted. A new journal is reported, since it lets anything begin; one that may have lost its lines is refused.
     pub fn test_start(
         &self,
         rt: &HostRuntime,
@@ -137,6 +140,10 @@ impl<'a> JournalFile<'a> {
         posting: Posting<'_>,
         cure: &str,
     ) -> Result<(), JournalRefusal<'a>> {
+        if self.read.has_lost_lines {
+            report_lost_lines(rt, self.name);
+            return Err(JournalRefusal::Malformed);
+        }
         match start_of(self.days(), pack.sum, posting) {
             Start::Do => {
                 if self.days().is_empty() {
@@ -153,6 +160,7 @@ impl<'a> JournalFile<'a> {
                 if self.read.is_cut {
                     report_cut(rt, self.name);
                 }
+                report_posted(rt, self.days(), pack, posting, cure);
                 Err(JournalRefusal::Changed(pack.name))
             }
             Start::IsPosted => {
@@ -162,8 +170,13 @@ impl<'a> JournalFile<'a> {
         }
     }
 
+    /// Reports a command that begins by `--again` although what it posts is posted.
+    pub fn report_again(&self, rt: &HostRuntime, pack: GivenPack<'_, '_>, posting: Posting<'_>) {
+        report_again(rt, self.days(), pack, posting);
+    }
+
     /// Appends a line of what a command did, and brings it to the disk. What a crash left of a line is removed first. It is refused if the
-    /// journal was removed or replaced since it was opened.
+    /// journal was removed or replaced since it was opened. If it fails, the line is removed again.
     pub fn append(
         &mut self,
         rt: &HostRuntime,
@@ -175,31 +188,40 @@ impl<'a> JournalFile<'a> {
             Ok(true) => {}
             Ok(false) => {
                 report_gone(rt, self.name);
+                report_left(rt, new.save);
                 return Err(JournalRefusal::Unwritten(self.name));
             }
-            Err(error) => return Err(self.unwritten(rt, &error)),
+            Err(error) => return Err(self.unwritten(rt, &error, new.save)),
         }
         match self.append_line(line.as_str()) {
             Ok(()) => Ok(()),
-            Err(error) => Err(self.unwritten(rt, &error)),
+            Err(error) => {
+                self.take_back(rt);
+                Err(self.unwritten(rt, &error, new.save))
+            }
         }
     }
 
-    /// The refusal of a command whose line can't be written. The reason is reported.
-    fn unwritten(&self, rt: &HostRuntime, error: &io::Error) -> JournalRefusal<'a> {
+    /// The refusal of a command whose line can't be written. The reason is reported, and that the pack isn't saved in a file.
+    fn unwritten(
+        &self,
+        rt: &HostRuntime,
+        error: &io::Error,
+        save: Option<&str>,
+    ) -> JournalRefusal<'a> {
         if error.kind() == io::ErrorKind::OutOfMemory {
             return JournalRefusal::NoMemory;
         }
         report_unwritten(rt, self.name, error);
+        report_left(rt, save);
         JournalRefusal::Unwritten(self.name)
     }
 
     /// Ends the save of the pack whose line was appended last. If the pack wasn't saved, the line is removed again; if that fails, the
     /// line stays, and the pack shows that it wasn't saved.
     pub fn end_save(&self, rt: &HostRuntime, done: &Result<(), FileFault>) {
-        match done {
-            Ok(()) | Err(FileFault::Unsynced(_)) => {}
-            Err(_) => self.take_back(rt),
+        if !is_saved(done) {
+            self.take_back(rt);
         }
     }
 
@@ -230,10 +252,11 @@ impl<'a> JournalFile<'a> {
         line_of(alloc, &day, self.read.last.as_str())
     }
 
-    /// Removes what a crash left of a line, appends a line, and brings it to the disk.
+    /// Removes what a crash left of a line, appends a line, and brings it to the disk. The beginning of the first line is there.
     fn append_line(&mut self, line: &str) -> io::Result<()> {
         self.file.set_len(self.read.bytes)?;
-        self.file.write_all(line.as_bytes())?;
+        let rest = line.as_bytes().get(self.read.begun..).unwrap_or(&[]);
+        self.file.write_all(rest)?;
         self.file.sync_all()?;
         match &self.folder {
             Some(folder) => synced_folder(folder),
@@ -259,7 +282,7 @@ impl<'a> MadeJournal<'a> {
 /// Removes a locked journal that has no line, if the name still leads to it.
 fn remove_if_empty(rt: &HostRuntime, name: &str, file: &File) {
     if let Ok(found) = file.metadata()
-        && found.len() == 0
+        && found.len() <= BEGINNING.len() as u64
         && matches!(leads_to(rt, name, file), Ok(true))
     {
         let _ = fs::remove_file(rt, name);
@@ -285,77 +308,12 @@ fn synced_folder(folder: &File) -> io::Result<()> {
     }
 }
 
-/// A journal that is open, and whether it was made.
-#[derive(Drop)]
-struct Opened {
-    file: File,
-    is_made: bool,
-}
-
-impl Opened {
-    /// Opens a journal to append to it, or makes an empty one within a limit. It must be a regular file.
-    fn open<'a>(
-        rt: &HostRuntime,
-        name: &'a str,
-        limit: Option<Limit>,
-    ) -> Result<Opened, JournalRefusal<'a>> {
-        if let Ok(found) = fs::metadata(rt, name)
-            && !found.is_file()
-        {
-            return Err(JournalRefusal::NoJournal(name));
-        }
-        let mode = match limit {
-            Some(limit) => limit.mode(),
-            None => NEW_MODE,
-        };
-        match Opened::by(rt, name, mode) {
-            Ok(opened) => Ok(opened),
-            Err(error) => Err(JournalRefusal::of(&error, name)),
-        }
-    }
-
-    /// Makes a journal with a mode, or opens the existing one.
-    fn by(rt: &HostRuntime, name: &str, mode: u32) -> io::Result<Opened> {
-        let mut options = OpenOptions::new();
-        options.append(true).create_new(true).mode(mode);
-        match options.open(rt, name) {
-            Ok(file) => Ok(Opened {
-                file,
-                is_made: true,
-            }),
-            Err(error) if error.kind() == io::ErrorKind::AlreadyExists => Opened::there(
-                rt, name, mode,
-            ),
-            Err(error) => Err(error),
-        }
-    }
-
-    /// Opens the journal that is there, or that a link leads to.
-    fn there(rt: &HostRuntime, name: &str, mode: u32) -> io::Result<Opened> {
-        let mut options = OpenOptions::new();
-        options.append(true).create(true).mode(mode);
-        Ok(Opened {
-            file: options.open(rt, name)?,
-            is_made: false,
-        })
-    }
-}
-
-/// Whether a path leads to an open file. Another command may have removed an empty journal before it was locked.
-fn leads_to(rt: &HostRuntime, name: &str, file: &File) -> io::Result<bool> {
-    let opened = file.metadata()?;
-    match fs::metadata(rt, name) {
-        Ok(there) => Ok(there.dev() == opened.dev() && there.ino() == opened.ino()),
-        Err(error) if error.kind() == io::ErrorKind::NotFound => Ok(false),
-        Err(error) => Err(error),
-    }
-}
-
 /// Locks a journal; refused if another command has it. If the file system has no locks, it is used without one.
 fn keep_others_out<'a>(file: &File, name: &'a str) -> Result<(), JournalRefusal<'a>> {
-    match file.try_lock() {
-        Err(TryLockError::WouldBlock) => Err(JournalRefusal::InUse(name)),
-        Ok(()) | Err(TryLockError::Error(_)) => Ok(()),
+    if is_lockable(file) {
+        Ok(())
+    } else {
+        Err(JournalRefusal::InUse(name))
     }
 }
 
@@ -365,13 +323,5 @@ fn opened_folder(rt: &HostRuntime, name: &str) -> io::Result<Option<File>> {
         Ok(folder) => Ok(Some(folder)),
         Err(error) if error.kind() == io::ErrorKind::PermissionDenied => Ok(None),
         Err(error) => Err(error),
-    }
-}
-
-/// The folder of a file.
-fn folder_of<'n>(name: &'n str) -> Path<'n> {
-    match Path::new(name).parent() {
-        Some(folder) if !folder.as_os_str().is_empty() => folder,
-        _ => Path::new("."),
     }
 }

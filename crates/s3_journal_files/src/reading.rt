@@ -1,5 +1,6 @@
 //! A journal that is read.
 
+use crate::opening::BEGINNING;
 use crate::refusal::JournalRefusal;
 use s3_host_files::{read_within, shown_name};
 use s3_journal::{JournalFault, PostedDay, read_lines};
@@ -16,8 +17,12 @@ pub struct Journal {
     pub days: Vec<PostedDay>,
     /// The last line.
     pub(crate) last: String,
-    /// How many bytes the lines have.
+    /// How many bytes stay: those of the lines. Without a line these are the beginning of the first one, as far as it is there.
     pub(crate) bytes: u64,
+    /// How many bytes of the next line are among them.
+    pub(crate) begun: usize,
+    /// Whether it may have lost its lines: it has none, and not just the beginning of the first one, as a new journal has.
+    pub has_lost_lines: bool,
     /// Whether a further line was begun, by a command that was killed.
     pub is_cut: bool,
 }
@@ -37,12 +42,17 @@ pub fn read_journal<'a>(rt: &HostRuntime, name: &'a str) -> Result<Journal, Jour
         return Err(JournalRefusal::Malformed);
     };
     match read_lines(rt.alloc(), text) {
-        Ok(lines) => Ok(Journal {
-            days: lines.days,
-            last: String::from_str(rt.alloc(), lines.last)?,
-            bytes: lines.bytes as u64,
-            is_cut: lines.bytes < bytes.len(),
-        }),
+        Ok(lines) => {
+            let begun = begun_bytes(lines.bytes, bytes.len());
+            Ok(Journal {
+                days: lines.days,
+                last: String::from_str(rt.alloc(), lines.last)?,
+                bytes: lines.bytes.saturating_add(begun) as u64,
+                begun,
+                has_lost_lines: lines.bytes == 0 && text != BEGINNING,
+                is_cut: lines.bytes < bytes.len(),
+            })
+        }
         Err(JournalFault::NoMemory) => Err(JournalRefusal::NoMemory),
         Err(fault) => {
             let name = Shown(shown_name(name));
@@ -52,5 +62,15 @@ pub fn read_journal<'a>(rt: &HostRuntime, name: &'a str) -> Result<Journal, Jour
             );
             Err(JournalRefusal::Malformed)
         }
+    }
+}
+
+/// How many bytes of a line that was begun stay, given how many the lines have and how many the journal has: without a line the beginning
+/// that each line has, so that the journal isn't empty.
+fn begun_bytes(lines: usize, all: usize) -> usize {
+    if lines == 0 {
+        all.min(BEGINNING.len())
+    } else {
+        0
     }
 }

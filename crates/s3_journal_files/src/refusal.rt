@@ -1,5 +1,6 @@
 //! Why a journal doesn't let a command begin or end.
-ghost use Rattle.std.specs.Prelude.{◌≤◌};
+ghost use Rattle.std.specs.Prelude.{◌≡◌, ◌≤◌};
+ghost use Rattle.s3_journal_files.specs.Inner.Statuses.{status_of};
 
 use s3_host_files::StandardStream;
 use s3_paper_commands::status::{FILE_FAILED, REFUSED};
@@ -75,7 +76,8 @@ impl<'a> JournalRefusal<'a> {
 
     /// The exit status of the refusal.
     pub fn status(&self) -> u8
-        ensures { result ≤ 3 }
+        ensures status { result ≡ status_of self.now }
+        ensures most { result ≤ 3 }
     {
         match self {
             JournalRefusal::Call(_, _)
@@ -89,7 +91,8 @@ impl<'a> JournalRefusal<'a> {
 
     /// Writes the line of a refusal, and gives its exit status.
     pub fn tell<W: Write>(&self, writer: &mut W) -> u8
-        ensures { result ≤ 3 }
+        ensures status { result ≡ status_of self.now }
+        ensures most { result ≤ 3 }
     {
         let _ = self.write_line(writer);
         self.status()

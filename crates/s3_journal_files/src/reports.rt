@@ -2,7 +2,7 @@
 
 use crate::file::GivenPack;
 use s3_journal::{PostedDay, Posting, day_that_left, day_with, posted_day};
-use s3_refusals::{Reason, Shown};
+use s3_refusals::{Quoted, Reason, Shown};
 use std::io;
 use std::io::Write;
 
@@ -18,25 +18,25 @@ pub(crate) fn report_old(
     };
     let last = last.number;
     if let Some(day) = day_that_left(days, pack.sum) {
-        report_left(rt, journal, pack, day, last);
+        report_copy(rt, journal, pack, day, last);
     } else if let Some(day) = day_with(days, pack.sum) {
         report_begun(rt, journal, pack, day, last);
     }
 }
 
 /// Reports that the pack is the pack that an earlier day left.
-fn report_left(
+fn report_copy(
     rt: &HostRuntime,
     journal: &str,
     pack: GivenPack<'_, '_>,
     day: &PostedDay,
     last: u64,
 ) {
-    let (pack, journal) = (Shown(pack.name), Shown(journal));
+    let (pack, quoted, journal) = (Shown(pack.name), Quoted(journal), Shown(journal));
     let (number, at) = (day.number, day.at.as_str());
     let _ = writeln!(
         rt.stderr(),
-        "{pack} is an old copy: it is the pack that day {number} left, {at}, and the last day of {journal} is {last}; give the pack that day {last} left, or go back to day {number} by `bureau journal {journal} --restore {number} --save FILE`"
+        "{pack} is an old copy: it is the pack that day {number} left, {at}, and the last day of {journal} is {last}; give the pack that day {last} left, or go back to day {number} by `bureau journal {quoted} --restore {number} --save FILE`"
     );
 }
 
@@ -91,7 +91,16 @@ pub(crate) fn report_new(rt: &HostRuntime, journal: &str) {
     );
 }
 
-/// Reports that what a command posts is posted, and what to do.
+/// Reports that a journal may have lost its lines, and what to do.
+pub fn report_lost_lines(rt: &HostRuntime, journal: &str) {
+    let journal = Shown(journal);
+    let _ = writeln!(
+        rt.stderr(),
+        "{journal} has no whole line, so it may have lost its lines; restore it from a copy: with a new journal, or with --again, nobody knows which decks are posted"
+    );
+}
+
+/// Reports that what a command posts is posted, if it is, and what to do.
 pub(crate) fn report_posted(
     rt: &HostRuntime,
     days: &[PostedDay],
@@ -99,21 +108,41 @@ pub(crate) fn report_posted(
     posting: Posting<'_>,
     cure: &str,
 ) {
-    let Some(day) = posted_day(days, pack.sum, posting) else {
-        return;
+    if let Some(day) = posted_day(days, pack.sum, posting) {
+        report_day(rt, day, posting, "; ", cure);
+    }
+}
+
+/// Reports that what a command posts by `--again` is posted, if it is.
+pub(crate) fn report_again(
+    rt: &HostRuntime,
+    days: &[PostedDay],
+    pack: GivenPack<'_, '_>,
+    posting: Posting<'_>,
+) {
+    let effect = match posting {
+        Posting::Table { .. } => "--again adds it once more",
+        _ => "--again posts them once more",
     };
+    if let Some(day) = posted_day(days, pack.sum, posting) {
+        report_day(rt, day, posting, ", and ", effect);
+    }
+}
+
+/// Reports the day that posted the same, and what follows from it, after a joint.
+fn report_day(rt: &HostRuntime, day: &PostedDay, posting: Posting<'_>, joint: &str, effect: &str) {
     let (number, at) = (day.number, day.at.as_str());
     let _ = match posting {
         Posting::Table { file, .. } => {
             let file = Shown(file);
             writeln!(
                 rt.stderr(),
-                "this table was added to {file} {at} as day {number}; {cure}"
+                "this table was added to {file} {at} as day {number}{joint}{effect}"
             )
         }
         _ => writeln!(
             rt.stderr(),
-            "these decks were posted {at} as day {number}; {cure}"
+            "these decks were posted {at} as day {number}{joint}{effect}"
         ),
     };
 }
@@ -131,4 +160,15 @@ pub(crate) fn report_gone(rt: &HostRuntime, journal: &str) {
 pub(crate) fn report_unwritten(rt: &HostRuntime, journal: &str, error: &io::Error) {
     let (journal, reason) = (Shown(journal), Reason(*error));
     let _ = writeln!(rt.stderr(), "{journal} can't be written: {reason}");
+}
+
+/// Reports that the pack isn't saved in a file, if the command doesn't report it otherwise.
+pub(crate) fn report_left(rt: &HostRuntime, save: Option<&str>) {
+    if let Some(save) = save {
+        let save = Shown(save);
+        let _ = writeln!(
+            rt.stderr(),
+            "the pack is not saved, and {save} is left alone"
+        );
+    }
 }

@@ -60,11 +60,10 @@ still_of_library old job after is_open program stands of = λ found there source
 
 -- ---- the beginning of a cycle
 -- the next job of a program restarts the cycle of the last one
-pub restarted : {E : Type 0} (result : Result Stepper E) (program : Program) (cycle : Stepper) (switches : ℕ) (date : List ℕ) → IsFor program cycle
-    → IfOk result (λ (begun : Stepper). (source : Source) → StandsFor cycle source → StandsFor begun source × ((answers : List Answer) → rest source begun answers ≡ Req source switches date answers))
-    → IfOk result (BeginsFor program switches date)
-restarted (Ok begun) program cycle switches date is restarts = λ source stands. restarts source (is source stands)
-restarted (Err fault) program cycle switches date is restarts = restarts
+pub restarted : (begun : Stepper) (program : Program) (cycle : Stepper) (switches : ℕ) (date : List ℕ) → IsFor program cycle
+    → ((source : Source) → StandsFor cycle source → StandsFor begun source × ((answers : List Answer) → rest source begun answers ≡ Req source switches date answers))
+    → BeginsFor program switches date begun
+restarted begun program cycle switches date is restarts = λ source stands. restarts source (is source stands)
 
 -- its first job starts a copy of the program
 pub copy_started : {E : Type 0} (result : Result Stepper E) (program copy : Program) (switches : ℕ) (date : List ℕ) → parts_of copy ≡ parts_of program

@@ -58,7 +58,7 @@ impl Stocked {
         ensures same { self.new ≡ self.old }
     {
         match self.rested.take() {
-            Some(cycle) => cycle.restart(alloc, switches, date),
+            Some(cycle) => Ok(cycle.restart(switches, date)),
             None => started(alloc, &self.program, switches, date),
         }
     }

@@ -1,14 +1,15 @@
 -- Files that records are put into, one behind another.
-use Rattle.std.proofs.Common.{◌≡◌, ℕ, ◌+◌, ◌<◌, ◌≤◌, refl, arith, sym, ◌∙◌, ap, ap₂, subst, Bool, true, false, cond, nat_eq, nat_lt, List, [], ◌∷◌, ◌++◌, length, take, get_or, slice_get, append_assoc}
+use Rattle.std.proofs.Common.{◌≡◌, ℕ, ◌+◌, ◌*◌, ◌<◌, ◌≤◌, refl, arith, sym, ◌∙◌, ap, ap₂, subst, Bool, true, false, cond, nat_eq, nat_lt, List, [], ◌∷◌, ◌++◌, length, take, drop, get_or, slice_get, append_assoc}
 use Rattle.std.specs.Prelude.{Result, Ok, Err}
-use Rattle.std.proofs.lemmas.List.{append-nil, length-append, map-append, take_all, take_more}
+use Rattle.std.proofs.lemmas.List.{append-nil, drop-drop, length-append, map-append, take_all, take_more}
+use Rattle.std.proofs.Math.Nat.{add-mul}
 use Rattle.std.specs.List.{Contains, list_all, list_any}
 use Rattle.s3_store.specs.Bytes.{bytes_at}
 use Rattle.s3_store.specs.Inner.State.{ChangesWithin, KeepsContents, PoolState}
-use Rattle.s3_slots.specs.Labels.{file_bytes, sectors_of}
+use Rattle.s3_slots.specs.Labels.{file_bytes, is_indexed, sectors_of}
 use Rattle.s3_slots.specs.declared.label.FileLabel.{FileLabel}
 use Rattle.s3_files.specs.Records.{records_in, with_last}
-use Rattle.s3_files.specs.Inner.Files.{AreStored}
+use Rattle.s3_files.specs.Inner.Files.{AreStored, ChangesRecord}
 use Rattle.s3_files.specs.declared.sequential.Sequential.{Sequential}
 use Rattle.s3_files.proofs.RecordLemmas.{length_records}
 use Rattle.s3_keyed.specs.Calls.{keyed_result, with_added, with_loaded}
@@ -20,6 +21,7 @@ use Rattle.s3_keyed.specs.declared.fault.KeyedFault.TheVariants.{Duplicate, NotA
 use Rattle.s3_files.specs.declared.fault.FileFault.{FileFault}
 use Rattle.s3_files.specs.declared.fault.FileFault.TheVariants.{Full}
 use Rattle.s3_keyed.specs.declared.keyed.Keyed.{Keyed}
+use Rattle.s3_pack_care.specs.Inner.Rows.{KeepsTail, shape_of}
 use Rattle.s3_unload.specs.Inner.Ordered.{in_order}
 use Rattle.s3_load.specs.declared.rows.Row.{Row}
 use Rattle.s3_load.specs.Inner.Filling.{AddsByKey, AddsRecord, ChangesOnly, HasGoodIndex, HasMore, IsAtWork, IsFilled, counted, records_of}
@@ -59,6 +61,28 @@ pub only_closed : (sectors of : List ℕ) (begun opened : List (List ℕ)) (old 
 only_closed sectors of begun opened old new same own before within =
     subst (λ s. ChangesOnly sectors s new.contents) same (only_more sectors sectors opened old.contents new.contents refl before (only_within sectors of old new own within))
 
+-- ---- the bytes after the last record
+-- one record more
+longer : (n m long wide : ℕ) → n ≡ m + 1 → long ≡ wide → n * long ≡ m * wide + wide
+longer n m long wide count same =
+    let split : (m + 1) * wide ≡ m * wide + 1 * wide = add-mul m 1 wide in
+    let one : 1 * wide ≡ wide = omega arith in
+    ap₂ (λ a b. a * b) count same ∙ split ∙ ap (λ k. m * wide + k) one
+
+-- those after one more record are the last of those after the others
+tail_later : (first last : Sequential) (old new : List (List ℕ)) → last.sectors ≡ first.sectors → last.record_length ≡ first.record_length → last.count ≡ first.count + 1 → KeepsTail (shape_of first) old new → KeepsTail (shape_of last) old new
+tail_later first last old new sectors long counts same =
+    let at = longer last.count first.count last.record_length first.record_length counts long in
+    let past : (contents : List (List ℕ)) → drop (last.count * last.record_length) (bytes_at last.sectors contents) ≡ drop first.record_length (drop (first.count * first.record_length) (bytes_at first.sectors contents)) =
+    λ contents. ap₂ (λ n s. drop n (bytes_at s contents)) at sectors ∙ sym (drop-drop first.record_length (first.count * first.record_length) (bytes_at first.sectors contents)) in
+    past new ∙ ap (drop first.record_length) same ∙ sym (past old)
+
+-- those after a record that was put behind the others
+tail_grown : (first last : Sequential) (old new : List (List ℕ)) → last.sectors ≡ first.sectors → last.record_length ≡ first.record_length → last.count ≡ first.count + 1 → ChangesRecord (shape_of first) first.count old new → KeepsTail (shape_of last) old new
+tail_grown first last old new sectors long counts others =
+    let at = longer last.count first.count last.record_length first.record_length counts long in
+    ap₂ (λ n s. drop n (bytes_at s new)) at sectors ∙ others.after ∙ sym (ap₂ (λ n s. drop n (bytes_at s old)) at sectors)
+
 -- ---- without an index
 pub none_filled : (file : Sequential) (label : FileLabel) (contents : List (List ℕ)) → file.sectors ≡ sectors_of label → file.record_length ≡ label.record_length → file.count ≡ label.count → IsFilled file label [] contents contents
 none_filled file label contents sectors long counts =
@@ -67,6 +91,7 @@ none_filled file label contents sectors long counts =
       record_length = long;
       counts = omega arith;
       records = rw (sectors, long, counts) (sym (in_order_is label contents)) ∙ sym (append-nil (in_order label contents));
+      tail = refl;
     }
 
 pub one_more_filled : (first last : Sequential) (label : FileLabel) (rows : List Row) (i : ℕ) (row : Row) (old middle new : List (List ℕ)) → i < length rows → row ≡ get_or rows i row → IsFilled first label (records_of (take i rows)) old middle
@@ -81,6 +106,7 @@ one_more_filled first last label rows i row old middle new h is before adds =
       record_length = adds.record_length ∙ before.record_length;
       counts = omega arith;
       records = adds.records ∙ ap (λ rs. rs ++ row.bytes.items ∷ []) before.records ∙ append_assoc (in_order label old) (records_of (take i rows)) (row.bytes.items ∷ []) ∙ ap (λ rs. in_order label old ++ rs) (sym more);
+      tail = adds.tail ∙ tail_later first last old middle adds.sectors adds.record_length adds.counts before.tail;
     }
 
 pub all_filled : (file : Sequential) (label : FileLabel) (rows : List Row) (n : ℕ) (old new : List (List ℕ)) → length rows ≤ n → IsFilled file label (records_of (take n rows)) old new → HasMore label (records_of rows) old new file.count
@@ -90,12 +116,16 @@ all_filled file label rows n old new whole filled =
     record {
       counts = counts ∙ ap (λ rs. label.count + length rs) all;
       records = counted_is label file.count new ∙ ap₂ (λ long s. records_in long file.count (bytes_at s new)) (sym filled.record_length) (sym filled.sectors) ∙ filled.records ∙ ap (λ rs. in_order label old ++ rs) all;
+      tail = λ plain.
+          let at : (contents : List (List ℕ)) → drop (file.count * file.record_length) (bytes_at file.sectors contents) ≡ drop (file.count * label.record_length) (bytes_at (sectors_of label) contents) =
+          λ contents. ap₂ (λ long s. drop (file.count * long) (bytes_at s contents)) filled.record_length filled.sectors in
+          sym (at new) ∙ filled.tail ∙ at old;
     }
 
 -- a file that is longer by a record
 pub grown_by : (bytes : List ℕ) (first last : Sequential) (old new : List (List ℕ)) → last.sectors ≡ first.sectors → last.record_length ≡ first.record_length → last.count ≡ first.count + 1
-    → records_in last.record_length last.count (bytes_at last.sectors new) ≡ records_in first.record_length first.count (bytes_at first.sectors old) ++ bytes ∷ [] → AddsRecord bytes first last old new
-grown_by bytes first last old new sectors long counts records = record { sectors = sectors; record_length = long; counts = counts; records = records }
+    → records_in last.record_length last.count (bytes_at last.sectors new) ≡ records_in first.record_length first.count (bytes_at first.sectors old) ++ bytes ∷ [] → ChangesRecord (shape_of first) first.count old new → AddsRecord bytes first last old new
+grown_by bytes first last old new sectors long counts records others = record { sectors = sectors; record_length = long; counts = counts; records = records; tail = tail_grown first last old new sectors long counts others }
 
 -- ---- with an index
 abbrev by_room : Bool → List (List ℕ) → Result (List (List ℕ)) FileFault
@@ -175,13 +205,17 @@ now_is : (file : Keyed) (label : FileLabel) (contents : List (List ℕ)) → (sh
 now_is file label contents sectors layout =
     counted_is label (shown file).count contents ∙ sym (ap₂ (λ (l : Layout) s. records_in l.record_length (shown file).count (bytes_at s contents)) layout sectors)
 
-pub all_by_key : (file : Keyed) (label : FileLabel) (rows : List Row) (n : ℕ) (old middle new : List (List ℕ)) → length rows ≤ n → IsAtWork file label middle → records_now (shown file) middle ≡ in_order label old ++ records_of (take n rows)
+pub all_by_key : (file : Keyed) (label : FileLabel) (rows : List Row) (n : ℕ) (old middle new : List (List ℕ)) → is_indexed label.organization ≡ true → length rows ≤ n → IsAtWork file label middle → records_now (shown file) middle ≡ in_order label old ++ records_of (take n rows)
     → records_now (shown file) new ≡ records_now (shown file) middle → HasMore label (records_of rows) old new (shown file).count
-all_by_key file label rows n old middle new whole work records same =
+all_by_key file label rows n old middle new indexed whole work records same =
     let all : records_of (take n rows) ≡ records_of rows = ap records_of (take_all n rows whole) in
     let now : in_order (counted label (shown file).count) new ≡ in_order label old ++ records_of rows = now_is file label new work.sectors work.layout ∙ same ∙ records ∙ ap (λ rs. in_order label old ++ rs) all in
     let counts : (shown file).count ≡ length (in_order label old ++ records_of rows) = sym (counted_long (counted label (shown file).count) new) ∙ ap length now in
-    record { counts = counts ∙ length-append (in_order label old) (records_of rows) ∙ ap (λ n. n + length (records_of rows)) (counted_long label old); records = now }
+    record {
+      counts = counts ∙ length-append (in_order label old) (records_of rows) ∙ ap (λ n. n + length (records_of rows)) (counted_long label old);
+      records = now;
+      tail = λ plain. let no : true ≡ false = sym indexed ∙ plain in absurd cc;
+    }
 
 counted_good : (label : FileLabel) (count : ℕ) (new : List (List ℕ)) → is_good_index (index_in (layout_of label) count (bytes_at (sectors_of label) new)) (keys_of (layout_of label).key (in_order (counted label count) new)) ≡ true → HasGoodIndex (counted label count) new
 unfolding sectors_of

@@ -7,6 +7,7 @@ pub mod KeyLemmas
 pub mod LoadedPacks
 pub mod PlacedFiles
 pub mod RecordLemmas
+pub mod Refused
 pub mod RowLaws
 pub mod Shapes
 pub mod TableLemmas

@@ -1,5 +1,5 @@
 -- What filling a file and counting its records leave of a pack.
-use Rattle.std.proofs.Common.{◌≡◌, ◌≢◌, ℕ, zero, suc, ◌+◌, ◌*◌, ◌/◌, ◌%◌, ◌^◌, ◌<◌, ◌≤◌, inl, inr, true, List, [], ◌∷◌, ◌++◌, length, map, slice_get, Option, Some, None, Ok, refl, sym, ap, ap₂, ◌∙◌, subst, arith}
+use Rattle.std.proofs.Common.{◌≡◌, ◌≢◌, ℕ, zero, suc, ◌+◌, ◌*◌, ◌/◌, ◌%◌, ◌^◌, ◌<◌, ◌≤◌, inl, inr, true, false, List, [], ◌∷◌, ◌++◌, length, map, drop, slice_get, Option, Some, None, Ok, refl, sym, ap, ap₂, ◌∙◌, subst, arith}
 use Rattle.std.specs.List.{Contains, position_from, range_with_len}
 use Rattle.std.proofs.lemmas.Bool.{cases_eq}
 use Rattle.s3_cards.specs.declared.levels.LevelId.{LevelId}
@@ -30,14 +30,16 @@ use Rattle.s3_labels.proofs.NewSlots.{judged_later}
 use Rattle.s3_keyed.specs.Index.{index_in, keys_of, layout_of}
 use Rattle.s3_keyed.specs.KeyOrder.{is_good_index}
 use Rattle.s3_files.specs.Records.{records_in}
+use Rattle.s3_files.specs.Inner.Files.{file_of}
 use Rattle.s3_unload.specs.Inner.Ordered.{in_order}
 use Rattle.s3_pack_care.specs.Inner.Kept.{IsMounted, IsOther, slot_on}
+use Rattle.s3_pack_care.specs.Inner.Rows.{KeepsTail}
 use Rattle.s3_pack_care.proofs.Copies.{files_apart, slot_stays}
 use Rattle.s3_pack_care.proofs.Named.{present_named}
 use Rattle.s3_pack_care.proofs.Relabelled.{file_behind, mounted_same}
 use Rattle.s3_load.specs.declared.order.Order.{Order}
 use Rattle.s3_load.specs.Inner.Filling.{ChangesOnly, HasGoodIndex, HasMore, counted}
-use Rattle.s3_load.specs.Inner.Loaded.{ChangesLoaded, HasFile, IsAsked, IsCounted, IsPlaced}
+use Rattle.s3_load.specs.Inner.Loaded.{ChangesLoaded, HasFile, HasSpace, IsAsked, IsCounted, IsPlaced, KeepsLoadedTail}
 use Rattle.s3_load.proofs.CountedSlots.{counted_slots, slots_later}
 
 -- ---- slots of a level's area
@@ -174,6 +176,9 @@ module _ (level : LevelId) (name : Name) (n : ℕ) (areas : Areas) (old new : Li
 asked_counted : (order : Order) (label : FileLabel) (n : ℕ) → IsAsked order label → IsAsked order (counted label n)
 asked_counted order label n is = record { named = is.named; long = is.long; keyed = is.keyed }
 
+counted_space : (order : Order) (rows : ℕ) (header : Header) (old : List (List ℕ)) (label : FileLabel) (n : ℕ) → HasSpace order rows header old label → HasSpace order rows header old (counted label n)
+counted_space order rows header old label n is = record { new = is.new; sized = is.sized; is = ap (λ (l : FileLabel). counted l n) is.is; extents = is.extents }
+
 in_order_same : (label : FileLabel) (old new : List (List ℕ)) → file_bytes label new ≡ file_bytes label old → in_order label new ≡ in_order label old
 unfolding in_order
 in_order_same label old new same = ap (records_in label.record_length label.count) same
@@ -241,8 +246,8 @@ module _ (order : Order) (added : List (List ℕ)) (header : Header) (begun plac
       (behind k (file_behind header placed_in a i one k mounts other.area_in there has)
       ∙ only.others k (λ mine. files_apart header placed_in mounts (area_of order.level) placed.slot a i label one k (area_few order.level) other.area_in placed.there there other.other mine has)))
 
-  pub has_file : HasFile order added header begun new
-  has_file = record {
+  pub has_file : (order.appends ≡ false → HasSpace order (length added) header begun label) → HasFile order added header begun new
+  has_file space = record {
     mounts = is.mounts;
     slot = placed.slot;
     slot_in = placed.slot_in;
@@ -252,6 +257,7 @@ module _ (order : Order) (added : List (List ℕ)) (header : Header) (begun plac
     records = in_order_same (counted label n) filled new counted_same ∙ more.records ∙ ap (λ rs. rs ++ added) placed.begins;
     vacant = placed.vacant;
     kept = λ anew. let as_asked = placed.kept anew in record { retained = as_asked.retained; dated = as_asked.dated };
+    space = λ anew. counted_space order (length added) header begun label n (space anew);
     continued = λ goes_on.
         let was = placed.continued goes_on in
         record { before = was.before; was = was.was; same = ap (λ (l : FileLabel). counted l n) was.same };
@@ -267,6 +273,25 @@ module _ (order : Order) (added : List (List ℕ)) (header : Header) (begun plac
     };
     undamaged = placed.undamaged;
   }
+
+  -- the bytes after the last record
+  begun_bytes : file_bytes label placed_in ≡ file_bytes label begun
+  begun_bytes = file_same label placed_in begun (λ k has. sector_bytes-same begun placed_in k (placed.rest.sectors k
+      (λ sector.
+      let high = file_behind header placed_in (area_of order.level) placed.slot label k mounts (area_few order.level) placed.there has in
+      let level_few = area_few order.level in
+      omega (arith, sector.1, high, level_few))
+      (nothing_in k)))
+
+  own_tail : is_indexed label.organization ≡ false → KeepsTail (file_of (counted label n)) begun new
+  own_tail plain =
+      let same : drop (n * label.record_length) (bytes_at (sectors_of label) new) ≡ drop (n * label.record_length) (bytes_at (sectors_of label) begun) =
+      ap (drop (n * label.record_length)) (sym (file_bytes_are label new) ∙ own_bytes ∙ file_bytes_are label filled) ∙ more.tail plain
+      ∙ ap (drop (n * label.record_length)) (sym (file_bytes_are label placed_in) ∙ begun_bytes ∙ file_bytes_are label begun) in
+      subst (λ (s : List ℕ). drop (n * label.record_length) (bytes_at s new) ≡ drop (n * label.record_length) (bytes_at s begun)) (sym (counted_sectors label n)) same
+
+  pub loaded_tail : KeepsLoadedTail order begun new
+  loaded_tail = record { header = header; mounts = is.mounts; slot = placed.slot; label = counted label n; there = now_there; named = placed.asked.named; so = own_tail }
 
   pub loaded_only : length new ≡ length begun → ChangesLoaded order header begun new
   loaded_only long = record {

@@ -40,7 +40,8 @@ use Rattle.s3_pack_care.proofs.Named.{first_is}
 use Rattle.s3_pack_care.proofs.Placed.{free_there, nowhere}
 use Rattle.s3_pack_care.proofs.Relabelled.{file_behind, mounted_same}
 use Rattle.s3_load.specs.declared.order.Order.{Order}
-use Rattle.s3_load.specs.Inner.Loaded.{IsAsked, IsNewOf, IsPlaced, IsReplaced, IsVacant, MayBeReplaced, has_key, has_key_by, is_damaged_at, records_under}
+use Rattle.s3_load.specs.Inner.Loaded.{HasSpace, IsAsked, IsNewOf, IsPlaced, IsReplaced, IsVacant, MayBeReplaced, has_key, has_key_by, is_damaged_at, records_under, size_asked}
+use Rattle.s3_load.specs.Inner.Filling.{counted}
 use Rattle.s3_load.proofs.LoadedPacks.{area_few, own_at, own_mounted, own_on, own_within, slot_elsewhere, slots_long}
 use Rattle.s3_load.proofs.UndamagedSlots.{undamaged_says}
 
@@ -80,7 +81,7 @@ abbrev pub IsDropped : Name → List Slot → Type 0
 IsDropped name slots = ((position_from (bears name) 0 slots ≡ None) × (dropped name slots ≡ slots)) ⊎ IsFreed name slots
 
 -- the slots after a make
-pub record IsMade (new : NewFile) (slots after : List Slot) : Type 0 where
+pub record IsMade (format : Format) (region : Stretch) (new : NewFile) (slots after : List Slot) : Type 0 where
   pub at : ℕ
   pub label : FileLabel
   pub named : label.name ≡ new.name
@@ -88,25 +89,30 @@ pub record IsMade (new : NewFile) (slots after : List Slot) : Type 0 where
   pub free : free_slot (dropped new.name slots) ≡ Some at
   pub within : at < length (dropped new.name slots)
   pub set : after ≡ slice_set (dropped new.name slots) at (Sound label)
+  pub extents : placed format region (dropped new.name slots) (tracks_of new) ≡ Some label.extents
+
+new_extents : (new : NewFile) (extents : List Stretch) → (new_label new extents).extents ≡ extents
+unfolding new_label
+new_extents new extents = refl
 
 new_named : (new : NewFile) (extents : List Stretch) → (new_label new extents).name ≡ new.name
 unfolding new_label
 new_named new extents = refl
 
-put_made : (format : Format) (region : Stretch) (new : NewFile) (slots after : List Slot) → IsDropped new.name slots → put format region new (dropped new.name slots) ≡ Ok after → IsMade new slots after
+put_made : (format : Format) (region : Stretch) (new : NewFile) (slots after : List Slot) → IsDropped new.name slots → put format region new (dropped new.name slots) ≡ Ok after → IsMade format region new slots after
 put_made format region new slots after old h = by (free_slot (dropped new.name slots)) refl h
   where
-    room : (at : ℕ) (extents : Option (List Stretch)) → free_slot (dropped new.name slots) ≡ Some at → at < length (dropped new.name slots) → put_in new (dropped new.name slots) at extents ≡ Ok after → IsMade new slots after
-    room at None free low e = absurd cc
-    room at (Some extents) free low e =
+    room : (at : ℕ) (found : Option (List Stretch)) → placed format region (dropped new.name slots) (tracks_of new) ≡ found → free_slot (dropped new.name slots) ≡ Some at → at < length (dropped new.name slots) → put_in new (dropped new.name slots) at found ≡ Ok after → IsMade format region new slots after
+    room at None is free low e = absurd cc
+    room at (Some extents) is free low e =
         let set : slice_set (dropped new.name slots) at (Sound (new_label new extents)) ≡ after = cc in
-        record { at = at; label = new_label new extents; named = new_named new extents; old = old; free = free; within = low; set = sym set }
+        record { at = at; label = new_label new extents; named = new_named new extents; old = old; free = free; within = low; set = sym set; extents = is ∙ ap Some (sym (new_extents new extents)) }
 
-    by : (at : Option ℕ) → free_slot (dropped new.name slots) ≡ at → put_at format region new (dropped new.name slots) at ≡ Ok after → IsMade new slots after
+    by : (at : Option ℕ) → free_slot (dropped new.name slots) ≡ at → put_at format region new (dropped new.name slots) at ≡ Ok after → IsMade format region new slots after
     by None free e = absurd cc
-    by (Some at) free e = room at (placed format region (dropped new.name slots) (tracks_of new)) free (let low = (first_is is_free 0 at (dropped new.name slots) free).within in omega (arith, low)) e
+    by (Some at) free e = room at (placed format region (dropped new.name slots) (tracks_of new)) refl free (let low = (first_is is_free 0 at (dropped new.name slots) free).within in omega (arith, low)) e
 
-pub made_is : (format : Format) (region : Stretch) (masters : List Slot) (new : NewFile) (slots after : List Slot) → made format region masters new slots ≡ Ok after → IsMade new slots after
+pub made_is : (format : Format) (region : Stretch) (masters : List Slot) (new : NewFile) (slots after : List Slot) → made format region masters new slots ≡ Ok after → IsMade format region new slots after
 unfolding made
 made_is format region masters new slots after h = own (list_any (bears new.name) masters) h
   where
@@ -114,18 +120,18 @@ made_is format region masters new slots after h = own (list_any (bears new.name)
     freed old stands None at = absurd (present_somewhere new.name slots old stands at)
     freed old stands (Some place) at = inr (record { place = place; at = at; is = dropped_is new.name slots old place stands at })
 
-    over : (permanent : Bool) (old : FileLabel) → standing new.name slots ≡ Present old → (if permanent then Err Retained else put format region new (dropped new.name slots)) ≡ Ok after → IsMade new slots after
+    over : (permanent : Bool) (old : FileLabel) → standing new.name slots ≡ Present old → (if permanent then Err Retained else put format region new (dropped new.name slots)) ≡ Ok after → IsMade format region new slots after
     over true old stands k = absurd cc
     over false old stands k = put_made format region new slots after (freed old stands (position_from (bears new.name) 0 slots) refl) k
 
-    by : (stands : Standing) → standing new.name slots ≡ stands → put_over format region new slots stands ≡ Ok after → IsMade new slots after
+    by : (stands : Standing) → standing new.name slots ≡ stands → put_over format region new slots stands ≡ Ok after → IsMade format region new slots after
     by Absent e k =
         let same = absent_dropped new.name slots e in
         put_made format region new slots after (inl (absent_nowhere new.name slots e, same)) (ap (put format region new) same ∙ k)
     by Blocked e k = absurd cc
     by (Present old) e k = over (is_permanent old.retention) old e k
 
-    own : (b : Bool) → (if b then Err Master else put_over format region new slots (standing new.name slots)) ≡ Ok after → IsMade new slots after
+    own : (b : Bool) → (if b then Err Master else put_over format region new slots (standing new.name slots)) ≡ Ok after → IsMade format region new slots after
     own true k = absurd cc
     own false k = by (standing new.name slots) refl k
 
@@ -309,7 +315,7 @@ module _ (order : Order) (new : NewFile) (areas after : Areas) (s t : List (List
   was_on : (i : ℕ) → slot_on areas.header s (area_of order.level) i ≡ slice_get (slots_at order.level areas) i
   was_on i = own_mounted order.level areas s i is
 
-  is_made : IsMade new (slots_at order.level areas) (slots_at order.level after)
+  is_made : IsMade areas.header.format (region_at order.level areas) new (slots_at order.level areas) (slots_at order.level after)
   is_made = made_is areas.header.format (region_at order.level areas) areas.masters new (slots_at order.level areas) (slots_at order.level after) make
 
   -- the new label stands where the make has put it
@@ -318,6 +324,13 @@ module _ (order : Order) (new : NewFile) (areas after : Areas) (s t : List (List
       let at_place : slice_get (slots_at order.level after) is_made.at ≡ Some (Sound is_made.label) =
       ap (λ slots. slice_get slots is_made.at) is_made.set ∙ slice_get_set_same (dropped new.name (slots_at order.level areas)) is_made.at (Sound is_made.label) is_made.within in
       (ready.own order.level).named slot is_made.at label is_made.label there at_place (named ∙ sym is_made.named)
+
+  made_label : label ≡ is_made.label
+  made_label =
+      let at_place : slice_get (slots_at order.level after) is_made.at ≡ Some (Sound is_made.label) =
+      ap (λ slots. slice_get slots is_made.at) is_made.set ∙ slice_get_set_same (dropped new.name (slots_at order.level areas)) is_made.at (Sound is_made.label) is_made.within in
+      let both : Some (Sound label) ≡ Some (Sound is_made.label) = sym there ∙ ap (slice_get (slots_at order.level after)) new_place ∙ at_place in
+      cc
 
   other_slot : (i : ℕ) → i ≢ slot → slice_get (slots_at order.level after) i ≡ slice_get (dropped new.name (slots_at order.level areas)) i
   other_slot i differ = ap (λ slots. slice_get slots i) is_made.set ∙ slice_get_set_other (dropped new.name (slots_at order.level areas)) is_made.at i (Sound is_made.label) (λ e. differ (e ∙ sym new_place))
@@ -378,6 +391,16 @@ module _ (order : Order) (new : NewFile) (areas after : Areas) (s t : List (List
     was = was_there is_made.old;
     replaceable = subst MayBeReplaced (ap₂ standing own_name same_slots) allowed.replaceable;
     unmastered = sym (ap₂ (λ name masters. list_any (bears name) masters) own_name (ap (λ (a : Areas). a.masters) is.judged)) ∙ allowed.unmastered;
+  }
+
+  pub made_space : (rows : ℕ) → new.size ≡ size_asked order.room rows → HasSpace order rows areas.header s label
+  made_space rows sized = record {
+    new = new;
+    sized = sized;
+    is = ap (λ (l : FileLabel). counted l label.count) is_new;
+    extents =
+        sym (ap₂ (λ name slots. placed areas.header.format (region_at order.level areas) (dropped name slots) (tracks_of new)) own_name same_slots) ∙ is_made.extents
+        ∙ ap (λ (l : FileLabel). Some l.extents) (sym made_label);
   }
 
   pub made_placed : IsPlaced order areas.header s t label

@@ -3,7 +3,6 @@ use Rattle.std.proofs.Common.{◌≡◌, ℕ, true, List, Ok, ap, ap₂, sym, �
 use Rattle.std.specs.Prelude.{Result}
 use Rattle.s3_slots.specs.Header.{mounted}
 use Rattle.s3_slots.specs.Slots.{standing}
-use Rattle.s3_slots.specs.declared.header.Header.{Header}
 use Rattle.s3_labels.specs.Inner.Areas.{Areas, areas_on, slots_at}
 use Rattle.s3_pack_care.specs.Inner.Kept.{IsMounted}
 use Rattle.s3_load.specs.declared.order.Order.{Order}

@@ -12,3 +12,4 @@ pub mod Tables
 pub mod RoundTrip
 pub mod Quotes
 pub mod Reasons
+pub mod Refusals

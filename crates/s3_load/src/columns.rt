@@ -1,5 +1,5 @@
 //! The columns of a table, by its heading.
-ghost use Rattle.std.specs.Prelude.{◌≡◌, ◌<◌, ◌≤◌, ◌⊎◌, ◌↔◌, [], true, drop, length, map, get_or, OnOk, IfOk, IsTrue};
+ghost use Rattle.std.specs.Prelude.{◌≡◌, ◌<◌, ◌≤◌, ◌⊎◌, ◌↔◌, [], true, drop, length, map, get_or, OnOk, IfOk, IsTrue, IfErr};
 ghost use Rattle.std.specs.List.{All, Contains, list_all, prefix_len};
 ghost use Rattle.csv.specs.Records.{fields_of};
 ghost use Rattle.s3_cards.specs.Codes.{shown_byte};
@@ -8,6 +8,7 @@ ghost use Rattle.s3_cells.specs.Inner.Fields.{LiesIn};
 ghost use Rattle.s3_load.specs.Inner.Columns.{AddsColumn, AreNamed, IsHeading, LieApart, bare as bare_spec, has_byte as has_byte_spec, is_blank, is_clear, is_number as is_number_spec};
 ghost use Rattle.s3_load.specs.Inner.Owners.{AreOwners, IsFree, unowned};
 ghost use Rattle.s3_load.specs.Inner.Settling.{AreSettled};
+ghost use Rattle.s3_load.specs.Inner.Refusals.{NamesNone};
 
 use crate::fault::{HeadingFault, LoadFault};
 use crate::names::FieldNames;
@@ -37,6 +38,7 @@ pub fn read_columns(
 ) -> Result<Columns, LoadFault>
     ensures heading { IfOk result (IsHeading layout.now.fields.items fills (fields_of heading.now)) }
     ensures settled { IfOk result (λ columns. AreSettled layout.now.record_length columns.filled.items) }
+    ensures no_slot { IfErr result NamesNone }
 {
     let columns = named_columns(alloc, heading, layout, fills)?;
     let faults = unsettled(alloc, layout.record_length, &columns.filled)?;
@@ -57,6 +59,7 @@ fn named_columns(
 ) -> Result<Columns, LoadFault>
     ensures heading { IfOk result (IsHeading layout.now.fields.items fills (fields_of heading.now)) }
     ensures within { IfOk result (λ columns. All (LiesIn layout.now.record_length) columns.filled.items) }
+    ensures no_slot { IfErr result NamesNone }
 {
     let mut faults = Vec::new(alloc);
     let named = named_fields(alloc, heading, &layout.fields, &mut faults)?;

@@ -98,18 +98,33 @@ pub enum LoadFault {
 }
 
 impl From<AllocError> for LoadFault {
+    ghost use Rattle.std.specs.Prelude.{◌≡◌};
+    ghost use Rattle.s3_load.specs.declared.fault.LoadFault.TheVariants.{NoMemory as NoMemoryVariant};
+
+    ghost from_gives = { λ _ fault. fault ≡ NoMemoryVariant };
+
     fn from(_: AllocError) -> Self {
         LoadFault::NoMemory
     }
 }
 
 impl<T: Drop> From<AllocFailed<T>> for LoadFault {
+    ghost use Rattle.std.specs.Prelude.{◌≡◌};
+    ghost use Rattle.s3_load.specs.declared.fault.LoadFault.TheVariants.{NoMemory as NoMemoryVariant};
+
+    ghost from_gives = { λ _ fault. fault ≡ NoMemoryVariant };
+
     fn from(_: AllocFailed<T>) -> Self {
         LoadFault::NoMemory
     }
 }
 
 impl From<ChangeFault> for LoadFault {
+    ghost use Rattle.std.specs.Prelude.{◌≡◌};
+    ghost use Rattle.s3_load.specs.Inner.Refusals.{of_change};
+
+    ghost from_gives = { λ change fault. fault ≡ of_change change };
+
     fn from(fault: ChangeFault) -> Self {
         match fault {
             ChangeFault::Label(fault) => LoadFault::Label(fault),

@@ -1,14 +1,16 @@
 //! The file of a load: made, and filled with records.
-ghost use Rattle.std.specs.Prelude.{◌≡◌, ◌<◌, true, length, IfOk, IsTrue, OnOk};
+ghost use Rattle.std.specs.Prelude.{◌≡◌, ◌<◌, true, length, IfOk, IsTrue, OnOk, IfErr};
 ghost use Rattle.s3_slots.specs.Inner.Kept.{IsOfPack};
 ghost use Rattle.s3_slots.specs.Inner.Making.{IsNewFile, IsSize};
 ghost use Rattle.s3_slots.specs.Labels.{is_indexed, sectors_of};
 ghost use Rattle.s3_slots.specs.Slots.{is_count_of as is_count_spec, standing};
+ghost use Rattle.s3_slots.specs.declared.making.Size.TheVariants.{Records};
 ghost use Rattle.s3_slots.specs.declared.slot.Standing.TheVariants.{Present};
 ghost use Rattle.s3_labels.specs.Inner.Areas.{IsReady, slots_at};
 ghost use Rattle.s3_files.specs.Inner.Files.{AreStored};
 ghost use Rattle.s3_load.specs.Inner.Filling.{AddsByKey, AddsRecord, ChangesOnly, HasGoodIndex, HasMore, IsAtWork, counted, records_of};
-ghost use Rattle.s3_load.specs.Inner.Loaded.{IsAsked, IsNewOf, has_key as has_key_spec};
+ghost use Rattle.s3_load.specs.Inner.Loaded.{IsAsked, IsNewOf, at_least_one as at_least_one_spec, has_key as has_key_spec, size_asked};
+ghost use Rattle.s3_load.specs.Inner.Refusals.{NamesNone};
 
 use crate::fault::{LoadFault, Reason, ValueFault};
 use crate::order::{Order, Room};
@@ -34,6 +36,8 @@ const LONGEST_RECORD: u16 = 1_024;
 pub fn new_file(order: &Order<'_>, count: usize) -> Result<NewFile, LoadFault>
     ensures proper { IfOk result IsNewFile }
     ensures asked { IfOk result (IsNewOf order.now) }
+    ensures sized { IfOk result (λ new. new.size ≡ size_asked order.now.room count) }
+    ensures no_slot { IfErr result NamesNone }
 {
     if !is_name(&order.name.codes) {
         return Err(LoadFault::NoName);
@@ -64,18 +68,30 @@ pub fn new_file(order: &Order<'_>, count: usize) -> Result<NewFile, LoadFault>
 
 /// The size of a file that is to have so many records.
 fn size_of(room: Room, count: usize) -> Result<Size, LoadFault>
-    ensures { IfOk result IsSize }
+    ensures size { IfOk result IsSize }
+    ensures asked { IfOk result (λ size. size ≡ size_asked room count) }
+    ensures no_slot { IfErr result NamesNone }
 {
     match room {
         Room::Tracks(tracks) if 1 <= tracks && tracks <= MOST_TRACKS => Ok(Size::Tracks(tracks)),
         Room::Tracks(_) => Err(LoadFault::NoRoom),
         Room::Records(records) => size_for(records as usize),
-        Room::ForTable => size_for(count.max(1)),
+        Room::ForTable => size_for(at_least_one(count)),
     }
 }
 
+/// The number of records that a new file has space for, by those of its table.
+fn at_least_one(count: usize) -> usize
+    ensures { result ≡ at_least_one_spec count }
+{
+    if count == 0 { 1 } else { count }
+}
+
+/// The size of a file with space for so many records.
 fn size_for(records: usize) -> Result<Size, LoadFault>
-    ensures { IfOk result IsSize }
+    ensures size { IfOk result IsSize }
+    ensures asked { IfOk result (λ size. size ≡ Records records) }
+    ensures no_slot { IfErr result NamesNone }
 {
     if 1 <= records && records <= MOST_RECORDS {
         Ok(Size::Records(records as u32))
@@ -91,6 +107,7 @@ pub fn file_there(pack: &Pack<MemoryStore>, order: &Order<'_>) -> Result<FileLab
     ensures on_pack { IfOk result (IsOfPack (length pack.now.pool)) }
     ensures stands { IfOk result (λ label. standing order.now.name (slots_at order.now.level pack.now.areas) ≡ Present label) }
     ensures asked { IfOk result (IsAsked order.now) }
+    ensures no_slot { IfErr result NamesNone }
 {
     match standing_of(order.name, pack.areas.slots(order.level)) {
         Standing::Absent => Err(LoadFault::Label(LabelFault::NotFound)),
@@ -131,6 +148,7 @@ pub fn fill(
     ensures index { IfOk result (λ count. is_indexed label.now.organization ≡ true → HasGoodIndex (counted label.now count) store.new) }
     ensures long { length store.new ≡ length store.old }
     ensures only { ChangesOnly (sectors_of label.now) store.old store.new }
+    ensures no_slot { IfErr result NamesNone }
 {
     match label.organization {
         Organization::Indexed => fill_by_key(alloc, store, label, rows),
@@ -139,7 +157,9 @@ pub fn fill(
 }
 
 /// The refusal of a file that has too little room.
-fn full(label: &FileLabel, rows: &[Row]) -> LoadFault {
+fn full(label: &FileLabel, rows: &[Row]) -> LoadFault
+    ensures { NamesNone result }
+{
     LoadFault::Full(
         label.capacity,
         u64::from(label.count).saturating_add(rows.len() as u64),
@@ -153,6 +173,7 @@ fn fill_in_order(store: &mut MemoryStore, label: &FileLabel, rows: &[Row]) -> Re
     ensures records { IfOk result (HasMore label.now (records_of rows.now) store.old store.new) }
     ensures long { length store.new ≡ length store.old }
     ensures only { ChangesOnly (sectors_of label.now) store.old store.new }
+    ensures no_slot { IfErr result NamesNone }
 {
     let mut file = Sequential::of(label);
     for row in rows {
@@ -175,6 +196,7 @@ fn append_row(
     ensures stored { OnOk result (AreStored file.new.sectors store.new) }
     ensures long { length store.new ≡ length store.old }
     ensures only { ChangesOnly file.old.sectors store.old store.new }
+    ensures no_slot { IfErr result NamesNone }
 {
     if row.bytes.len() != usize::from(file.record_length) {
         return Err(LoadFault::OtherKind);
@@ -200,6 +222,7 @@ fn fill_by_key(
     ensures index { IfOk result (λ count. HasGoodIndex (counted label.now count) store.new) }
     ensures long { length store.new ≡ length store.old }
     ensures only { ChangesOnly (sectors_of label.now) store.old store.new }
+    ensures no_slot { IfErr result NamesNone }
 {
     let mut file = match Keyed::check(alloc, store, label) {
         Ok(file) => file,
@@ -242,6 +265,7 @@ fn put_row(
     ensures before { OnOk result (faults.new.count ≡ 0 → faults.old.count ≡ 0) }
     ensures long { length store.new ≡ length store.old }
     ensures only { ChangesOnly (sectors_of label.now) store.old store.new }
+    ensures no_slot { IfErr result NamesNone }
 {
     if row.bytes.len() != usize::from(label.record_length) {
         return Err(LoadFault::OtherKind);
@@ -271,6 +295,7 @@ fn add_row(
     ensures before { OnOk result (faults.new.count ≡ 0 → faults.old.count ≡ 0) }
     ensures long { length store.new ≡ length store.old }
     ensures only { ChangesOnly (sectors_of label.now) store.old store.new }
+    ensures no_slot { IfErr result NamesNone }
 {
     match file.add(store, &row.bytes) {
         Ok(()) => Ok(true),

@@ -1,10 +1,11 @@
 //! Records of a fixed length, read to their end.
-ghost use Rattle.std.specs.Prelude.{◌≡◌, ◌≤◌, ◌<◌, ◌-◌, ◌==◌, ◌&&◌, ◌∷◌, ◌++◌, [], true, is_none, length, nat_le, replicate, IfOk, IfSome, MatchOption, OnOk};
+ghost use Rattle.std.specs.Prelude.{◌≡◌, ◌≤◌, ◌<◌, ◌-◌, ◌==◌, ◌&&◌, ◌∷◌, ◌++◌, [], true, is_none, length, nat_le, replicate, IfOk, IfSome, MatchOption, OnOk, IfErr};
 ghost use Rattle.std.specs.List.{list_all};
 ghost use Rattle.s3_cards.specs.Codes.{ebcdic};
 ghost use Rattle.s3_cells.specs.Inner.Texts.{has_code, text_bytes};
 ghost use Rattle.s3_load.specs.Inner.Filling.{records_of};
 ghost use Rattle.s3_load.specs.Inner.FixedTexts.{AreFixedRecords, IsFixedText, cut, ends_record, is_piece, pieces, record_of as record_of_spec, unit_of as unit_spec};
+ghost use Rattle.s3_load.specs.Inner.Refusals.{NamesNone};
 
 use crate::fault::{LoadFault, Reason, ValueFault};
 use crate::order::Order;
@@ -26,7 +27,8 @@ pub fn read_fixed(
     form: FixedForm,
     text: &[u8],
 ) -> Result<Vec<Row>, LoadFault>
-    ensures { IfOk result (λ rows. IsFixedText form order.now.layout.now.record_length order.now.key text.now rows.items) }
+    ensures text { IfOk result (λ rows. IsFixedText form order.now.layout.now.record_length order.now.key text.now rows.items) }
+    ensures no_slot { IfErr result NamesNone }
 {
     let mut faults = Faults::new(alloc);
     let mut rows = read_pieces(alloc, form, order.layout.record_length, text, &mut faults)?;
@@ -48,6 +50,7 @@ fn read_pieces(
 ) -> Result<Vec<Row>, LoadFault>
     ensures records { IfOk result (λ rows. faults.new.count ≡ 0 → AreFixedRecords form record_length text.now rows.items) }
     ensures before { OnOk result (faults.new.count ≡ 0 → faults.old.count ≡ 0) }
+    ensures no_slot { IfErr result NamesNone }
 {
     let mut rows: Vec<Row> = Vec::new(alloc);
     if record_length < 1 {
@@ -114,6 +117,7 @@ fn add_piece(
     ensures adds { OnOk result (faults.new.count ≡ 0 → records_of rows.new.items ≡ records_of rows.old.items ++ record_of_spec form record_length piece.now ∷ []) }
     ensures fits { OnOk result (faults.new.count ≡ 0 → is_piece form record_length piece.now ≡ true) }
     ensures before { OnOk result (faults.new.count ≡ 0 → faults.old.count ≡ 0) }
+    ensures no_slot { IfErr result NamesNone }
 {
     let number = (rows.len() as u64)
         .saturating_add(faults.count)

@@ -1,5 +1,5 @@
 //! A table loaded into a file of a pack.
-ghost use Rattle.std.specs.Prelude.{◌≡◌, ◌<◌, ◌≤◌, ℕ, List, None, Some, length, false, IfOk, OnOk};
+ghost use Rattle.std.specs.Prelude.{◌≡◌, ◌<◌, ◌≤◌, ℕ, List, None, Some, length, false, IfOk, OnOk, IfErr};
 ghost use Rattle.s3_slots.specs.Inner.Kept.{IsOfPack};
 ghost use Rattle.s3_labels.specs.Contents.{contents_of};
 ghost use Rattle.s3_labels.specs.Inner.Areas.{IsReady, slots_in};
@@ -10,8 +10,9 @@ ghost use Rattle.s3_load.specs.Inner.Filling.{records_of};
 ghost use Rattle.csv.specs.Reading.{strip_bom};
 ghost use Rattle.s3_load.specs.Inner.Quotes.{open_quote};
 ghost use Rattle.s3_load.specs.Inner.FixedTexts.{IsLoadedFixed};
-ghost use Rattle.s3_load.specs.Inner.Loaded.{ChangesLoaded, HasFile, HasRecords, IsCounted, IsLoaded, IsOfLoad, IsPlaced};
+ghost use Rattle.s3_load.specs.Inner.Loaded.{ChangesLoaded, HasFile, HasRecords, HasSpace, IsCounted, IsLoaded, IsOfLoad, IsPlaced, KeepsLoadedTail};
 ghost use Rattle.s3_load.specs.Inner.Shapes.{KeepsShape};
+ghost use Rattle.s3_load.specs.Inner.Refusals.{NamesDamaged, NamesFirst, NamesNone};
 
 use crate::fault::LoadFault;
 use crate::filling::{file_there, fill, may_have, new_file};
@@ -32,8 +33,10 @@ use std::io::{ErrorKind, Read};
 
 /// The pack with the records of a table in a file of a level: a new file, which takes the place of a file of its label that isn't
 /// permanent, and has the shape of the new one unless the order allows another, or after the records of the file that is there. Records of a file with an index go in by their keys, whatever
-/// the order of the rows. No byte changes but those of the file and its label, and of the label of a file that is replaced. Refused
-/// as `LoadFault` says; the pack that is given stays as it is.
+/// the order of the rows. No byte changes but those of the file and its label, and of the label of a file that is replaced. The
+/// sectors of a file without an index keep the bytes after its last record: a new file isn't cleared. Refused as `LoadFault` says,
+/// with `DamagedSlot` for the first damaged slot; the pack that is given stays as it is.
+#[tactic(auto, using(crate::proofs::Refused::none_named))]
 pub fn load<R: Read + Drop>(
     alloc: Global,
     pack: &[u8],
@@ -42,7 +45,9 @@ pub fn load<R: Read + Drop>(
 ) -> Result<Vec<u8>, LoadFault>
     ensures loaded { IfOk result (λ new. IsLoaded order.now (R.remaining reader) (contents_of pack.now) (contents_of new.items)) }
     ensures only { IfOk result (λ new. ChangesBytes (IsOfLoad order.now (contents_of pack.now) (contents_of new.items)) pack.now new.items) }
+    ensures tail { IfOk result (λ new. KeepsLoadedTail order.now (contents_of pack.now) (contents_of new.items)) }
     ensures shaped { OnOk result (KeepsShape order.now (contents_of pack.now)) }
+    ensures damaged { IfErr result (NamesDamaged order.now (contents_of pack.now)) }
     ensures closed { OnOk result ((text : List ℕ) → R.remaining reader ≡ Some text → open_quote order.now.delimiter (strip_bom text) ≡ None) }
 {
     let text = read_text(alloc, reader)?;
@@ -53,6 +58,7 @@ pub fn load<R: Read + Drop>(
 }
 
 /// The pack with records of a fixed length, as `load` puts them there. The order's fields, types and delimiter don't count.
+#[tactic(auto, using(crate::proofs::Refused::none_named))]
 pub fn load_fixed<R: Read + Drop>(
     alloc: Global,
     pack: &[u8],
@@ -62,7 +68,9 @@ pub fn load_fixed<R: Read + Drop>(
 ) -> Result<Vec<u8>, LoadFault>
     ensures loaded { IfOk result (λ new. IsLoadedFixed order.now form (R.remaining reader) (contents_of pack.now) (contents_of new.items)) }
     ensures only { IfOk result (λ new. ChangesBytes (IsOfLoad order.now (contents_of pack.now) (contents_of new.items)) pack.now new.items) }
+    ensures tail { IfOk result (λ new. KeepsLoadedTail order.now (contents_of pack.now) (contents_of new.items)) }
     ensures shaped { OnOk result (KeepsShape order.now (contents_of pack.now)) }
+    ensures damaged { IfErr result (NamesDamaged order.now (contents_of pack.now)) }
 {
     let text = read_text(alloc, reader)?;
     let rows = read_fixed(alloc, order, form, &text)?;
@@ -71,6 +79,7 @@ pub fn load_fixed<R: Read + Drop>(
 }
 
 /// The pack with records in the file that the order asks for.
+#[tactic(auto, using(crate::proofs::Refused::none_named, crate::proofs::Refused::same_named))]
 fn pack_with(
     alloc: Global,
     pack: &[u8],
@@ -79,7 +88,9 @@ fn pack_with(
 ) -> Result<Vec<u8>, LoadFault>
     ensures loaded { IfOk result (λ new. HasRecords order.now (records_of rows.now) (contents_of pack.now) (contents_of new.items)) }
     ensures only { IfOk result (λ new. ChangesBytes (IsOfLoad order.now (contents_of pack.now) (contents_of new.items)) pack.now new.items) }
+    ensures tail { IfOk result (λ new. KeepsLoadedTail order.now (contents_of pack.now) (contents_of new.items)) }
     ensures shaped { OnOk result (KeepsShape order.now (contents_of pack.now)) }
+    ensures damaged { IfErr result (NamesDamaged order.now (contents_of pack.now)) }
 {
     let mut mounted = mount(alloc, pack)?;
     let shaped = refuse_other_shape(&mounted.areas, order);
@@ -92,7 +103,8 @@ fn pack_with(
 
 /// The whole of a text.
 fn read_text<R: Read + Drop>(alloc: Global, mut reader: R) -> Result<Vec<u8>, LoadFault>
-    ensures { IfOk result (λ text. (bytes : List ℕ) → R.remaining reader ≡ Some bytes → text.items ≡ bytes) }
+    ensures text { IfOk result (λ text. (bytes : List ℕ) → R.remaining reader ≡ Some bytes → text.items ≡ bytes) }
+    ensures no_slot { IfErr result NamesNone }
 {
     let mut text = Vec::new(alloc);
     match reader.read_to_end(&mut text) {
@@ -107,6 +119,7 @@ fn mount(alloc: Global, pack: &[u8]) -> Result<Pack<MemoryStore>, LoadFault>
     ensures same { IfOk result (λ mounted. mounted.pool ≡ contents_of pack.now) }
     ensures mounted { IfOk result (λ mounted. IsMounted mounted.areas mounted.pool) }
     ensures ready { IfOk result (λ mounted. IsReady mounted.areas mounted.pool) }
+    ensures no_slot { IfErr result NamesNone }
 {
     let store = MemoryStore::from_bytes(Vec::from_slice(alloc, pack)?);
     match Pack::over(alloc, store) {
@@ -119,6 +132,7 @@ fn mount(alloc: Global, pack: &[u8]) -> Result<Pack<MemoryStore>, LoadFault>
 }
 
 /// Puts records into the file that the order asks for: a new file, or the existing one.
+#[tactic(auto, using(crate::proofs::Refused::none_named))]
 fn place_rows(
     alloc: Global,
     mounted: &mut Pack<MemoryStore>,
@@ -129,7 +143,9 @@ fn place_rows(
     requires mounted { IsMounted mounted.old.areas mounted.old.pool }
     ensures file { OnOk result (HasFile order.now (records_of rows.now) mounted.old.areas.header mounted.old.pool mounted.new.pool) }
     ensures only { OnOk result (ChangesLoaded order.now mounted.old.areas.header mounted.old.pool mounted.new.pool) }
+    ensures tail { OnOk result (KeepsLoadedTail order.now mounted.old.pool mounted.new.pool) }
     ensures long { OnOk result (length mounted.new.pool ≡ length mounted.old.pool) }
+    ensures damaged { IfErr result (NamesDamaged order.now mounted.old.pool) }
 {
     let label = placed_label(mounted, order, rows.len())?;
     let count = fill(alloc, &mut mounted.pool, &label, rows)?;
@@ -138,7 +154,7 @@ fn place_rows(
 }
 
 /// The label of the file that the records go into: of a new one with room for so many, or of the one that is there.
-#[tactic(auto, using(crate::proofs::PlacedFiles::there_placed))]
+#[tactic(auto, using(crate::proofs::PlacedFiles::there_placed, crate::proofs::Refused::none_named))]
 fn placed_label(
     mounted: &mut Pack<MemoryStore>,
     order: &Order<'_>,
@@ -147,11 +163,13 @@ fn placed_label(
     requires ready { IsReady mounted.old.areas mounted.old.pool }
     requires mounted { IsMounted mounted.old.areas mounted.old.pool }
     ensures placed { IfOk result (IsPlaced order.now mounted.old.areas.header mounted.old.pool mounted.new.pool) }
+    ensures space { IfOk result (λ label. order.now.appends ≡ false → HasSpace order.now count mounted.old.areas.header mounted.old.pool label) }
     ensures on_pack { IfOk result (IsOfPack (length mounted.new.pool)) }
     ensures ready { OnOk result (IsReady mounted.new.areas mounted.new.pool) }
     ensures mounted { OnOk result (IsMounted mounted.new.areas mounted.new.pool) }
     ensures header { OnOk result (mounted.new.areas.header ≡ mounted.old.areas.header) }
     ensures long { OnOk result (length mounted.new.pool ≡ length mounted.old.pool) }
+    ensures damaged { IfErr result (NamesDamaged order.now mounted.old.pool) }
 {
     if order.appends {
         file_there(mounted, order)
@@ -161,7 +179,7 @@ fn placed_label(
 }
 
 /// Makes a new file with space for so many records. Refused with `DamagedSlot` if the level's area has a damaged slot.
-#[tactic(auto, using(crate::proofs::PlacedFiles::set_header))]
+#[tactic(auto, using(crate::proofs::PlacedFiles::set_header, crate::proofs::Refused::none_named, crate::proofs::Refused::first_named))]
 fn made_file(
     mounted: &mut Pack<MemoryStore>,
     order: &Order<'_>,
@@ -171,11 +189,13 @@ fn made_file(
     requires ready { IsReady mounted.old.areas mounted.old.pool }
     requires mounted { IsMounted mounted.old.areas mounted.old.pool }
     ensures placed { IfOk result (IsPlaced order.now mounted.old.areas.header mounted.old.pool mounted.new.pool) }
+    ensures space { IfOk result (HasSpace order.now count mounted.old.areas.header mounted.old.pool) }
     ensures on_pack { IfOk result (IsOfPack (length mounted.new.pool)) }
     ensures ready { OnOk result (IsReady mounted.new.areas mounted.new.pool) }
     ensures mounted { OnOk result (IsMounted mounted.new.areas mounted.new.pool) }
     ensures header { OnOk result (mounted.new.areas.header ≡ mounted.old.areas.header) }
     ensures long { OnOk result (length mounted.new.pool ≡ length mounted.old.pool) }
+    ensures damaged { IfErr result (NamesDamaged order.now mounted.old.pool) }
 {
     refuse_damaged(&mounted.areas, area_of(order.level))?;
     let new = new_file(order, count)?;
@@ -187,6 +207,7 @@ fn made_file(
 fn refuse_damaged(areas: &AreaSlots, area: u16) -> Result<(), LoadFault>
     requires { area < 3 }
     ensures none { OnOk result (first_damaged_spec (slots_in area areas.now) ≡ None) }
+    ensures first { IfErr result (NamesFirst (slots_in area areas.now)) }
 {
     match first_damaged(areas, area) {
         Some(slot) => Err(LoadFault::DamagedSlot(slot)),
@@ -204,6 +225,7 @@ fn set_count(
     requires mounted { IsMounted mounted.old.areas mounted.old.pool }
     ensures counted { OnOk result (IsCounted order.now.level order.now.name count mounted.old.areas.header mounted.old.pool mounted.new.pool) }
     ensures long { OnOk result (length mounted.new.pool ≡ length mounted.old.pool) }
+    ensures no_slot { IfErr result NamesNone }
 {
     let Standing::Present(label) = standing_of(order.name, mounted.areas.slots(order.level)) else {
         return Err(LoadFault::OtherKind);

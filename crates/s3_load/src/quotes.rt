@@ -1,7 +1,8 @@
 //! A quote that is never closed.
-ghost use Rattle.std.specs.Prelude.{◌≡◌, OnOk, None};
+ghost use Rattle.std.specs.Prelude.{◌≡◌, OnOk, None, IfErr};
 ghost use Rattle.csv.specs.Reading.{is_bom, strip_bom};
 ghost use Rattle.s3_load.specs.Inner.Quotes.{after as after_spec, after_plain as after_plain_spec, is_line_end as is_line_end_spec, open_quote as open_quote_spec, opened as opened_spec};
+ghost use Rattle.s3_load.specs.Inner.Refusals.{NamesNone};
 
 use crate::fault::LoadFault;
 use crate::rows::Lines;
@@ -21,7 +22,8 @@ pub enum Reading {
 
 /// Refuses a table with a quote that is never closed, with the number of the line on which it is opened.
 pub fn refuse_open_quote(text: &[u8], delimiter: u8) -> Result<(), LoadFault>
-    ensures { OnOk result (open_quote_spec delimiter (strip_bom text.now) ≡ None) }
+    ensures closed { OnOk result (open_quote_spec delimiter (strip_bom text.now) ≡ None) }
+    ensures no_slot { IfErr result NamesNone }
 {
     let table = without_mark(text);
     match open_quote(table, delimiter) {

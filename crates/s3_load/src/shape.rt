@@ -1,10 +1,11 @@
 //! The shape of a file: how long its records are, and how they are found.
-ghost use Rattle.std.specs.Prelude.{◌≡◌, true, IsTrue, OnOk};
+ghost use Rattle.std.specs.Prelude.{◌≡◌, true, IsTrue, OnOk, IfErr};
 ghost use Rattle.s3_slots.specs.Slots.{standing};
 ghost use Rattle.s3_slots.specs.declared.slot.Standing.TheVariants.{Present};
 ghost use Rattle.s3_labels.specs.Inner.Areas.{slots_at};
 ghost use Rattle.s3_load.specs.Inner.Loaded.{has_key as has_key_spec};
 ghost use Rattle.s3_load.specs.Inner.Shapes.{has_shape as has_shape_spec, keeps_shape};
+ghost use Rattle.s3_load.specs.Inner.Refusals.{NamesNone};
 
 use crate::fault::LoadFault;
 use crate::filling::has_key;
@@ -66,7 +67,8 @@ pub fn has_shape(label: &FileLabel, order: &Order<'_>) -> bool
 
 /// Refuses a new file in the place of one of another shape, unless the order allows it.
 pub fn refuse_other_shape(areas: &AreaSlots, order: &Order<'_>) -> Result<(), LoadFault>
-    ensures { OnOk result (keeps_shape order.now (standing order.now.name (slots_at order.now.level areas.now)) ≡ true) }
+    ensures shaped { OnOk result (keeps_shape order.now (standing order.now.name (slots_at order.now.level areas.now)) ≡ true) }
+    ensures no_slot { IfErr result NamesNone }
 {
     match standing_of(order.name, areas.slots(order.level)) {
         Standing::Absent | Standing::Blocked => Ok(()),

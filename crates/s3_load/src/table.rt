@@ -1,5 +1,5 @@
 //! A table read to its end.
-ghost use Rattle.std.specs.Prelude.{◌≡◌, ◌∷◌, ℕ, List, [], None, Some, true, false, IfOk, IsPermutation, OnOk};
+ghost use Rattle.std.specs.Prelude.{◌≡◌, ◌∷◌, ℕ, List, [], None, Some, true, false, IfOk, IsPermutation, OnOk, IfErr};
 ghost use Rattle.std.specs.Cmp.Lexicographic.{slice_cmp};
 ghost use Rattle.std.specs.List.{All};
 ghost use Rattle.std.specs.Ordering.{nat_cmp};
@@ -11,6 +11,7 @@ ghost use Rattle.s3_load.specs.Inner.Columns.{LieApart};
 ghost use Rattle.s3_load.specs.Inner.KeyOrder.{AreInKeyOrder, AreSorted, ComesBefore, comes_before, key_in as key_in_spec};
 ghost use Rattle.s3_load.specs.Inner.Reasons.{HasSameKey, IsSameKey, Reports, ReportsKeys, ReportsRow, ReportsRows};
 ghost use Rattle.s3_load.specs.Inner.Tables.{AddsRow, AreRowsOf, FindsEnd, IsReading, IsTable};
+ghost use Rattle.s3_load.specs.Inner.Refusals.{NamesNone};
 
 use crate::columns::{Columns, read_columns};
 use crate::fault::{LoadFault, Reason, ValueFault};
@@ -18,7 +19,7 @@ use crate::order::Order;
 use crate::rows::{Faults, Lines, Row, record_of};
 use csv::{ByteRecord, Reader, ReaderBuilder};
 use s3_lines::sheet::KeyField;
-use std::alloc::Global;
+use std::alloc::{AllocError, Global};
 use std::cmp::Ordering;
 use std::io::Read;
 
@@ -34,7 +35,8 @@ pub fn read_table<R: Read + Drop>(
     reader: R,
     text: &[u8],
 ) -> Result<Vec<Row>, LoadFault>
-    ensures { IfOk result (λ rows. (text : List ℕ) → R.remaining reader ≡ Some text → IsTable text order.now.delimiter order.now.layout.now.record_length order.now.layout.now.fields.items order.now.fills order.now.chosen.now order.now.key rows.items) }
+    ensures table { IfOk result (λ rows. (text : List ℕ) → R.remaining reader ≡ Some text → IsTable text order.now.delimiter order.now.layout.now.record_length order.now.layout.now.fields.items order.now.fills order.now.chosen.now order.now.key rows.items) }
+    ensures no_slot { IfErr result NamesNone }
 {
     let mut table = reader_of(alloc, order.delimiter, reader);
     let mut cells = ByteRecord::new(alloc);
@@ -72,6 +74,7 @@ fn next_row<R: Read + Drop>(
     requires untrimmed { reader_trim reader.old ≡ trim.None }
     ensures read { IfOk result (λ found. ReadRecord R.remaining reader.old reader.new found (fields_of cells.new)) }
     ensures ready { OnOk result (Ready reader.new) }
+    ensures no_slot { IfErr result NamesNone }
 {
     match reader.read_byte_record(cells) {
         Ok(found) => Ok(found),
@@ -98,6 +101,7 @@ fn read_rows<R: Read + Drop>(
     ensures rows { IfOk result (λ rows. faults.new.count ≡ 0 → (text : List ℕ) (heading : List (List ℕ)) → IsReading R.remaining (Some text) order.now.delimiter (heading ∷ []) reader.old → AreRowsOf text order.now.delimiter heading order.now.layout.now.record_length columns.now.fields.items columns.now.filled.items order.now.chosen.now rows.items) }
     ensures before { OnOk result (faults.new.count ≡ 0 → faults.old.count ≡ 0) }
     ensures reported { OnOk result ((text : List ℕ) (heading : List (List ℕ)) → IsReading R.remaining (Some text) order.now.delimiter (heading ∷ []) reader.old → ReportsRows text order.now.delimiter heading order.now.layout.now.record_length columns.now.fields.items columns.now.filled.items order.now.chosen.now faults.old faults.new) }
+    ensures no_slot { IfErr result NamesNone }
 {
     let mut rows: Vec<Row> = Vec::new(alloc);
     let mut cells = ByteRecord::new(alloc);
@@ -134,6 +138,7 @@ fn read_row<R: Read + Drop>(
     ensures before { OnOk result (faults.new.count ≡ 0 → faults.old.count ≡ 0) }
     ensures reported { IfOk result (λ found. found ≡ true → ReportsRow R.remaining order.now.layout.now.record_length columns.now.fields.items columns.now.filled.items order.now.chosen.now reader.old reader.new faults.old faults.new) }
     ensures silent { IfOk result (λ found. found ≡ false → faults.new ≡ faults.old) }
+    ensures no_slot { IfErr result NamesNone }
 {
     if !next_row(reader, cells)? {
         return Ok(false);
@@ -167,7 +172,7 @@ pub fn sort_by_key(
     rows: &mut Vec<Row>,
     key: Option<KeyField>,
     faults: &mut Faults,
-) -> Result<(), LoadFault>
+) -> Result<(), AllocError>
     ensures same { OnOk result (IsPermutation rows.old.items rows.new.items) }
     ensures unkeyed { key ≡ None → rows.new.items ≡ rows.old.items }
     ensures keyed { OnOk result (faults.new.count ≡ 0 → AreInKeyOrder key rows.new.items) }
@@ -184,7 +189,7 @@ pub fn sort_by_key(
 }
 
 /// Sorts rows by the characters of their keys; those of one key stay in their order.
-fn sort_rows(rows: &mut Vec<Row>, key: KeyField) -> Result<(), LoadFault>
+fn sort_rows(rows: &mut Vec<Row>, key: KeyField) -> Result<(), AllocError>
     ensures same { OnOk result (IsPermutation rows.old.items rows.new.items) }
     ensures sorted { OnOk result (AreSorted key rows.new.items) }
 {
@@ -206,7 +211,7 @@ fn find_same_keys(
     rows: &[Row],
     key: KeyField,
     faults: &mut Faults,
-) -> Result<(), LoadFault>
+) -> Result<(), AllocError>
     requires sorted { AreSorted key rows.now }
     ensures keyed { OnOk result (faults.new.count ≡ 0 → AreInKeyOrder (Some key) rows.now) }
     ensures before { OnOk result (faults.new.count ≡ 0 → faults.old.count ≡ 0) }
@@ -225,7 +230,7 @@ fn tell_same_key(
     next: &Row,
     key: KeyField,
     faults: &mut Faults,
-) -> Result<(), LoadFault>
+) -> Result<(), AllocError>
     requires sorted { comes_before key next.now one.now ≡ false }
     ensures behind { OnOk result (faults.new.count ≡ 0 → ComesBefore key one.now next.now) }
     ensures before { OnOk result (faults.new.count ≡ 0 → faults.old.count ≡ 0) }

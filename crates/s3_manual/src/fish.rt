@@ -17,12 +17,12 @@ pub fn fish_script(alloc: Global) -> Result<String, AllocError> {
     for command in &commands {
         put_name(&mut draft, command);
     }
-    draft.put("complete -c bureau -n '__fish_seen_subcommand_from help' -a '");
+    draft.put("complete -c bureau -n '__bureau_words help; or __bureau_words help man' -a '");
     for command in &commands {
         draft.put(command.name);
         draft.put(" ");
     }
-    draft.put("man completions'\n");
+    draft.put("'\ncomplete -c bureau -n '__bureau_words help' -a 'man completions'\n");
     for command in &commands {
         put_command(&mut draft, command);
     }
@@ -31,7 +31,7 @@ pub fn fish_script(alloc: Global) -> Result<String, AllocError> {
 
 /// Appends a command with what it does.
 fn put_name(draft: &mut Draft, command: &CommandWords) {
-    draft.put("complete -c bureau -n __fish_use_subcommand -a ");
+    draft.put("complete -c bureau -n __bureau_words -a ");
     draft.put(command.name);
     put_description(draft, command.about);
 }
@@ -47,7 +47,7 @@ fn put_command(draft: &mut Draft, command: &CommandWords) {
 
 /// Appends the beginning of a line that holds after a command.
 fn put_start(draft: &mut Draft, command: &str) {
-    draft.put("complete -c bureau -n '__fish_seen_subcommand_from ");
+    draft.put("complete -c bureau -n '__bureau_after ");
     draft.put(command);
     draft.put("'");
 }
@@ -101,7 +101,7 @@ fn put_choices(draft: &mut Draft, choices: &[Choice]) {
             draft.put("\\t'");
             put_text(draft, choice.help);
             draft.put("'");
-            before = "\\n";
+            before = " ";
         }
     }
     draft.put("\"");
@@ -127,8 +127,19 @@ fn put_text(draft: &mut Draft, text: &str) {
 /// What comes before the commands.
 const START: &str =
     "# Completions of bureau for fish. `bureau help completions fish` writes this file; fish reads it as bureau.fish.
+# Whether the words before are just these, after the name of the program.
+function __bureau_words
+    set -l words (commandline -opc)
+    set -e words[1]
+    test \"$words\" = \"$argv\"
+end
+# Whether the first word after the name of the program is this one.
+function __bureau_after
+    set -l words (commandline -opc)
+    test \"$words[2]\" = \"$argv[1]\"
+end
 complete -c bureau -f
-complete -c bureau -n __fish_use_subcommand -s h -l help -d 'Print help'
-complete -c bureau -n __fish_use_subcommand -s V -l version -d 'Print version'
-complete -c bureau -n __fish_use_subcommand -a help -d 'Prints help, a page of the manual, or completions'
-complete -c bureau -n '__fish_seen_subcommand_from completions'";
+complete -c bureau -n __bureau_words -s h -l help -d 'Print help'
+complete -c bureau -n __bureau_words -s V -l version -d 'Print version'
+complete -c bureau -n __bureau_words -a help -d 'Prints help, a page of the manual, or completions'
+complete -c bureau -n '__bureau_words help completions'";

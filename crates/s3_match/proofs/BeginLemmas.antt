@@ -24,13 +24,13 @@ use Rattle.s3_match.proofs.SelectLemmas.{file_here}
 use Rattle.s3_match.proofs.SlotLemmas.{one_more_kept}
 
 -- the slots behind one more, and the files
-slots_more : (program : Program) (slot : ℕ) (d : FileLine) (b : Bool) → slot < length program.files.items → is_input (get_or program.files.items slot d) ≡ b
+pub slots_more : (program : Program) (slot : ℕ) (d : FileLine) (b : Bool) → slot < length program.files.items → is_input (get_or program.files.items slot d) ≡ b
     → filter (is_input_slot program) (range_with_len 0 (slot + 1)) ≡ filter (is_input_slot program) (range_with_len 0 slot) ++ cond b (slot ∷ []) []
 slots_more program slot d b within is =
     one_more_kept (is_input_slot program) 0 slot slot (omega arith)
     ∙ ap (λ (b : Bool). filter (is_input_slot program) (range_with_len 0 slot) ++ cond b (slot ∷ []) []) (ap is_input (file_here program slot d within) ∙ is)
 
-files_more : (program : Program) (slot : ℕ) (d : FileLine) (b : Bool) (f : FileLine → meaning.InputFile) → slot < length program.files.items → is_input (get_or program.files.items slot d) ≡ b
+pub files_more : (program : Program) (slot : ℕ) (d : FileLine) (b : Bool) (f : FileLine → meaning.InputFile) → slot < length program.files.items → is_input (get_or program.files.items slot d) ≡ b
     → map f (filter is_input (take (slot + 1) program.files.items)) ≡ map f (filter is_input (take slot program.files.items)) ++ cond b (f (file_at program slot) ∷ []) []
 files_more program slot d b f within is =
     ap (map f) (filter_more is_input program.files.items slot d within)

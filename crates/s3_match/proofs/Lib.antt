@@ -1,3 +1,4 @@
+pub mod AgainLemmas
 pub mod CodeLemmas
 pub mod ComparedLemmas
 pub mod TypeLemmas

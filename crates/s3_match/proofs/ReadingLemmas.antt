@@ -1,6 +1,6 @@
 -- The files of a reading as one of them changes.
 use Rattle.std.proofs.Common.{◌≡◌, ℕ, ◌<◌, length, get_or, set, map, List, [], ◌∷◌, Bool, true, false, refl, sym, ◌∙◌, ap, subst, zero, suc, arith}
-use Rattle.std.specs.Prelude.{Option, Some, option_map, slice_get, unwrap_or, if◌then◌else◌}
+use Rattle.std.specs.Prelude.{Option, Some, None, option_map, slice_get, unwrap_or, if◌then◌else◌}
 use Rattle.std.specs.Option.{option_and_then}
 use Rattle.std.specs.List.{All}
 use Rattle.std.proofs.lemmas.Bool.{true≢false}
@@ -22,7 +22,7 @@ use Rattle.s3_match.specs.declared.reading.Reading.{Reading}
 use Rattle.s3_match.specs.Inner.Types.{tables_in, is_type_start}
 use Rattle.s3_match.specs.Inner.Keys.{key_in}
 use Rattle.s3_match.specs.Inner.Levels.{AreLevels}
-use Rattle.s3_match.specs.Inner.Heads.{no_file, file_at, is_unread, is_unread_standing, has_head, is_head_standing, input_of, IsInput}
+use Rattle.s3_match.specs.Inner.Heads.{no_file, file_at, is_unread, is_unread_standing, has_head, is_head_standing, input_of, standing_as, unread as unread_file, IsInput}
 use Rattle.s3_match.specs.Inner.Selecting.{inputs_of, reading_of, selected_of, selected_at}
 use Rattle.s3_match.specs.Inner.Reading.{no_input, input_at, slots_of, bytes_at, is_unread_at, changed_at, head_with, IsReading, AreOnlyTypes, ArePlacesOf, AreLinePlaces, IsUnreadAt}
 use Rattle.s3_match.proofs.SelectLemmas.{with_standing}
@@ -31,6 +31,20 @@ use Rattle.s3_match.proofs.SlotLemmas.{slot_kept}
 -- ---- a file without a head is sound
 pub headless : (program : Program) (input : InputFile) → has_head input ≡ false → IsInput program input
 headless program input none = record { head = λ start e. absurd (true≢false (sym (ap is_head_standing e) ∙ none)) }
+
+-- a file of which nothing is read any more
+unread_is : (standing : Standing) → is_unread_standing standing ≡ true → standing ≡ at.Unread
+unread_is at.Unread unread = refl
+unread_is (at.Stands start) unread = cc
+unread_is at.Ended unread = cc
+
+pub nothing_read : (program : Program) (old vacated new : InputFile) → is_unread vacated ≡ true → new.standing ≡ vacated.standing → new.file ≡ old.file → new.reads ≡ 0 → key_in new.last_key ≡ None → input_of program new ≡ unread_file program old.file
+nothing_read program old vacated new unread standing file reads key = λ i. record {
+  file = file_at program (file i);
+  standing = ap (standing_as program new.reads new.bytes) (standing ∙ unread_is vacated.standing unread) i;
+  reads = reads i;
+  last_key = key i;
+}
 
 pub unread_headless : (input : InputFile) → is_unread input ≡ true → has_head input ≡ false
 unread_headless input unread = by input.standing unread
@@ -47,7 +61,7 @@ slot_there files k d within = get_or-map (λ (input : InputFile). input.file) fi
 pub input_there : (program : Program) (files : List InputFile) (k : ℕ) (x : InputFile) → k < length files → x ≡ get_or files k x → input_at (inputs_of program files) k ≡ input_of program x
 input_there program files k x within there = get_or-map (input_of program) files k x no_input within ∙ ap (input_of program) (sym there)
 
-slots_stay : (files : List InputFile) (k : ℕ) (x y : InputFile) → k < length files → x ≡ get_or files k x → y.file ≡ x.file → slots_of (set files k y) ≡ slots_of files
+pub slots_stay : (files : List InputFile) (k : ℕ) (x y : InputFile) → k < length files → x ≡ get_or files k x → y.file ≡ x.file → slots_of (set files k y) ≡ slots_of files
 slots_stay files k x y within there same =
     map-set (λ (input : InputFile). input.file) files k y
     ∙ ap (set (slots_of files) k) (same ∙ ap (λ (input : InputFile). input.file) there ∙ sym (slot_there files k x within))

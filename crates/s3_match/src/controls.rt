@@ -49,6 +49,13 @@ impl Controls {
         })
     }
 
+    /// The controls as another job begins: no control field is held any more.
+    pub fn forget(&mut self)
+        ensures { (level : ℕ) → spec.held_in self.new.held level ≡ None }
+    {
+        self.held.forget();
+    }
+
     /// The greatest level, 1 to 9, that the control fields of a record of a type break; 0 if they break none. After the call they
     /// are held, for the levels that the type names.
     #[inline(always)]

@@ -63,6 +63,17 @@ impl InputFile {
         })
     }
 
+    /// Becomes a file of which nothing was read, as another job begins.
+    pub fn begin_again(&mut self)
+        ensures input { (program : Program) → spec.input_of program self.new ≡ spec.unread program self.old.file }
+        ensures slot { self.new.file ≡ self.old.file }
+        ensures unread { spec.is_unread self.new ≡ true }
+    {
+        self.vacate();
+        self.reads = 0;
+        self.last_key.forget();
+    }
+
     /// Whether its next record is to be read.
     pub fn is_unread(&self) -> bool
         ensures { result ≡ spec.is_unread self.now }

@@ -36,6 +36,13 @@ impl HeldField {
         }
     }
 
+    /// Holds no control field any more.
+    pub fn forget(&mut self)
+        ensures { held_key self.new ≡ None }
+    {
+        self.is_given = false;
+    }
+
     /// Holds what a control field compares.
     pub fn hold(&mut self, compared: &[u8])
         requires { length compared.now ≤ FIELD_BYTES }
@@ -108,5 +115,14 @@ impl HeldFields {
             fields.push(HeldField::none())?;
         }
         Ok(HeldFields { fields })
+    }
+
+    /// Holds no control field any more.
+    pub fn forget(&mut self)
+        ensures { (level : ℕ) → held_in self.new level ≡ None }
+    {
+        for index in 0..LEVELS as usize {
+            self.fields[index].forget();
+        }
     }
 }

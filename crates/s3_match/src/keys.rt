@@ -58,6 +58,13 @@ impl RecordKey {
         })
     }
 
+    /// Becomes no key. Its bytes stay until the next key comes.
+    pub fn forget(&mut self)
+        ensures { spec.key_in self.new ≡ None }
+    {
+        self.is_given = false;
+    }
+
     /// Becomes the key of a record of a type; none if the type has no match fields.
     pub fn read(&mut self, start: TypeStart, levels: &Levels, bytes: &[u8])
         ensures { (program : Program) → AreLevels key.Match program levels.now → is_type_start program start ≡ true → spec.key_in self.new ≡ meaning.match_key (kind_at program start) bytes.now }

@@ -117,6 +117,17 @@ fn first_input(
     Ok(input)
 }
 
+/// A primary or secondary file as another job begins: one whose condition is off has ended.
+fn begin_input(input: &mut InputFile, program: &Program, switches: u8)
+    requires { input.old.file < length program.now.files.items }
+    ensures { IsFirst program.now switches input.old.file input.new }
+{
+    input.begin_again();
+    if !is_served_at_first(switches, &program.files[input.file]) {
+        input.end();
+    }
+}
+
 /// Puts the file of a slot after the others, if it is a primary or secondary one.
 fn add_first(
     alloc: Global,
@@ -226,6 +237,18 @@ impl Reading {
             type_places: type_places(alloc, program)?,
             line_places: line_places(alloc, program)?,
         })
+    }
+
+    /// The reading as another job of the same program begins with these switches. It takes no memory.
+    pub fn begin_again(&mut self, program: &Program, switches: u8)
+        requires { IsReading program.now self.old }
+        ensures sound { IsReading program.now self.new }
+        ensures reading { (e : Environment) → BeginsWith switches e → reading_in program.now self.new ≡ first_reading (source_named program.now) e }
+    {
+        for place in 0..self.files.len() {
+            begin_input(&mut self.files[place], program, switches);
+        }
+        self.primary_key.forget();
     }
 
     /// The slot of the file at a place.

@@ -44,6 +44,10 @@ news_proper level seen (ToMake name new ∷ starts) right = λ k d lt. at k d lt
 pub given_proper : (level : LevelId) (seen : Seen) (starts : List Start) (news given : List NewFile) → given ≡ news → news ≡ news_in starts → AreRight level seen starts → All IsNewFile given
 given_proper level seen starts news given same is right = subst (All IsNewFile) (sym (same ∙ is)) (news_proper level seen starts right)
 
+pub none_left : {X : Type 0} (xs : List X) → length xs ≡ 0 → xs ≡ []
+none_left [] none = refl
+none_left (x ∷ xs) none = absurd (omega (arith, none))
+
 pub plan_passes : (level : LevelId) (areas : Areas) (starts : List Start) (news given : List NewFile) → given ≡ news → news ≡ news_in starts
     → IsOk (planned 0 areas.header.format (region_at level areas) areas.masters given (slots_at level areas)) → IsPlanned level areas (map step_in starts)
 plan_passes level areas starts news given same is ok =

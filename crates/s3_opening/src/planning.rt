@@ -13,6 +13,7 @@ ghost use Rattle.s3_opening.specs.Inner.Tests.{news_of as news_of_spec, new_of};
 ghost use Rattle.s3_opening.specs.Inner.Starts.{settings_of, step_in, fault_of_plan, first_refusal as first_refusal_spec, AreRight, Comes, PlansTo, ReadsPack};
 ghost use Rattle.s3_opening.specs.Inner.Starting.{AreStartsOf, CanStart};
 
+use crate::asked::is_used;
 use crate::fault::OpeningFault;
 use crate::settings::JobSettings;
 use crate::starts::Start;
@@ -24,6 +25,11 @@ use s3_operator::HaltCode;
 use s3_slots::{LabelFault, NewFile};
 use s3_store::{SectorFault, Sectors};
 use std::alloc::{AllocError, Global};
+
+/// How many of these F lines the job uses: so many starts need space, each of which is large.
+fn used_of(switches: u8, lines: &[FileLine]) -> usize {
+    lines.iter().filter(|line| is_used(switches, line)).count()
+}
 
 /// The files that are to be made.
 fn news_of(alloc: Global, starts: &[Start]) -> Result<Vec<NewFile>, AllocError>
@@ -59,6 +65,10 @@ fn plan_makes<P: Sectors>(
     ensures { PlansTo (planned 0 pack.now.areas.header.format (region_at level pack.now.areas) pack.now.areas.masters (news_of_spec (map step_in starts.now)) (slots_at level pack.now.areas)) result }
 {
     let news = news_of(alloc, starts)?;
+    // most jobs make no file, and a plan copies the level's label slots
+    if news.is_empty() {
+        return Ok(());
+    }
     match pack.plan(alloc, level, &news) {
         Ok(()) => Ok(()),
         Err(fault) => Err(refused_plan(fault)),
@@ -111,7 +121,7 @@ pub fn test_files<P: Sectors>(
     ensures of_lines { IfOk result (λ starts. AreStartsOf settings.now.statements.now (filter (is_used settings.now.switches) lines.now) starts.items) }
     ensures reads { ReadsPack result pack.old.areas pack.new.areas (P.state pack.old.pool) (P.state pack.new.pool) }
 {
-    let mut starts = Vec::new(alloc);
+    let mut starts = Vec::with_capacity(alloc, used_of(settings.switches, lines))?;
     let tested = test_lines(alloc, level, pack, settings, lines, &mut starts);
     let planned = plan_makes(alloc, level, pack, &starts);
     match first_refusal(tested, planned) {

@@ -168,7 +168,7 @@ pub fn open_files<P: Sectors>(
     ensures failures { (P.state pack.new.pool).failures ≡ (P.state pack.old.pool).failures + failed_opening result }
 {
     let starts = test_files(alloc, level, pack, settings, lines)?;
-    let mut files = Vec::new(alloc);
+    let mut files = Vec::with_capacity(alloc, starts.len())?;
     start_all(alloc, level, pack, starts, &mut files)?;
     Ok(JobFiles { level, files })
 }

@@ -211,9 +211,35 @@ fn push_jobs(
             first: turns.first,
             last: turns.last,
             lines: job.lines,
-            ending: desk.job_ending(level, place, end)?,
+            ending: ending_of(desk, level, place, end)?,
             file: file_of(alloc, level, job)?,
         })?;
+    }
+    Ok(())
+}
+
+/// How the job at a place, from 0, ended, given how its level did, and whether it waits for a reply.
+fn ending_of(
+    desk: &OwnDesk<'_>,
+    level: LevelId,
+    place: usize,
+    end: LevelEnd,
+) -> Result<String, AllocError> {
+    let mut text = desk.job_ending(level, place, end)?;
+    if let Some(halt) = desk.noted_halts(level).last()
+        && halt.reply.is_none()
+        && halt.job.checked_sub(1) == Some(place)
+    {
+        text.push_str(", waits for a reply to ")?;
+        push_letters(&mut text, halt.letters)?;
+    }
+    Ok(text)
+}
+
+/// Appends the letters of a halt.
+fn push_letters(text: &mut String, letters: [u8; 2]) -> Result<(), AllocError> {
+    for letter in letters {
+        text.push(char::from(letter))?;
     }
     Ok(())
 }
@@ -258,6 +284,9 @@ fn push_halts(
         halts.push(BookHalt {
             level,
             job: halt.job as u64,
+            letters: halt.letters,
+            turn: halt.turn,
+            replied: halt.replied,
             words: String::from_str(alloc, halt.block.as_str())?,
             reply: reply_of(alloc, halt)?,
         })?;

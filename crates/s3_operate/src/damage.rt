@@ -3,7 +3,7 @@
 use s3_host_files::shown_name;
 use s3_labels::AreaSlots;
 use s3_pack_check::first_damaged;
-use s3_refusals::Shown;
+use s3_refusals::{Quoted, Shown};
 use std::io::Write;
 
 /// Reports the first damaged label of each level of a day's pack: a job that makes a file may write over the records of that label's
@@ -11,10 +11,10 @@ use std::io::Write;
 pub fn report_damage(rt: &HostRuntime, pack: &str, areas: &AreaSlots) {
     for level in 1..3u16 {
         if let Some(slot) = first_damaged(areas, level) {
-            let (shown, pack) = (Shown(shown_name(pack)), Shown(pack));
+            let (shown, pack) = (Shown(shown_name(pack)), Quoted(pack));
             let _ = writeln!(
                 rt.stderr(),
-                "level {level} of {shown} has a damaged label, in slot {slot}, and a job that makes a file may write over its records; bureau check --pack {pack} says what is wrong"
+                "level {level} of {shown} has a damaged label, in slot {slot}, and a job that makes a file may write over its records; `bureau check --pack {pack}` says what is wrong"
             );
         }
     }

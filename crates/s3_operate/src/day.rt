@@ -1,8 +1,10 @@
 //! A day, from its first turn to what is reported at its end.
 
 use crate::book::{Outcome, write_index};
+use crate::holding::Holding;
 use crate::pages::{Making, report_paper, write_paper};
-use crate::saving::{Place, end_day, end_unwritten, status_of};
+use crate::saving::{Place, end_day, end_unwritten};
+use crate::status::status_of;
 use s3_cli::{CliFault, SessionFault};
 use s3_command_line::{FILE, OUT_OF_MEMORY};
 use s3_day_files::{
@@ -12,7 +14,7 @@ use s3_day_files::{
 use s3_day_log::{Begun, DayLog};
 use s3_desk::{Day, Printing, operate_printing};
 use s3_host_files::{StandardInput, StandardOutput};
-use s3_operating::{Closing, Desk, Journal, Questioned, Seat, Settings, Tape, Verdict};
+use s3_operating::{Closing, Desk, Journal, PackEnd, Questioned, Seat, Settings, Tape, Verdict};
 use s3_paper_commands::OutputReason;
 use s3_refusals::Shown;
 use s3_replay::Performed;
@@ -52,8 +54,8 @@ const REPLIES_TYPED: &'static str =
 /// The desk of the command.
 pub type OwnDesk<'a> = Desk<'a, StandardInput<'a>, Stderr, NamedOutput<'a>, Watch<'a>>;
 
-/// The desk with the reports, which go to standard output.
-type PrintingDesk<'a> = Printing<OwnDesk<'a>, StandardOutput<'a>>;
+/// The desk with the reports, which go to standard output, and level 2's meanwhile to the launcher's file.
+type PrintingDesk<'a> = Printing<Holding<OwnDesk<'a>>, StandardOutput<'a>>;
 
 /// The texts of both decks.
 #[derive(Clone, Copy)]
@@ -146,13 +148,14 @@ fn printing_of<'a>(
     let is_one_read = day.is_one_read;
     let script = NamedOutput::of(rt, order.script, script)?;
     let log = NamedOutput::of(rt, order.log, log)?;
+    let desk = desk_of(rt, order, day, script, log);
+    let holding = Holding::new(rt, desk, order.held, is_one_read)?;
     match Reports::new(rt.alloc(), StandardOutput::new(rt)) {
-        Ok(reports) => Ok(Printing::new(
-            desk_of(rt, order, day, script, log),
-            reports,
-            is_one_read,
-        )),
-        Err(error) => Err(error),
+        Ok(reports) => Ok(Printing::new(holding, reports, is_one_read)),
+        Err(error) => {
+            drop(holding);
+            Err(error)
+        }
     }
 }
 
@@ -168,11 +171,11 @@ fn operate_printed<'n>(
     made: &[&'n str],
 ) -> Result<u8, DayFault<'n>> {
     let mut printing = printing;
-    tell_replies_typed(rt, order, &mut printing.operator);
+    tell_replies_typed(rt, order, &mut printing.operator.operator);
     match operated(rt.alloc(), order, pack, read, &mut printing) {
         Ok(over) => hand_out(rt, order, texts, printing, over, ending),
         Err(fault) => {
-            if printing.operator.refused().is_some() {
+            if printing.operator.operator.refused().is_some() {
                 remove_made(rt, made);
                 return Err(log_refusal(rt, order, fault));
             }
@@ -209,7 +212,7 @@ fn hand_out<'n>(
         Ok(()) => write_reports(rt, order, &mut printing, texts, &mut over, &kept),
         Err(fault) => Err(fault),
     };
-    let desk = &mut printing.operator;
+    let desk = &mut printing.operator.operator;
     let done = end_written(rt, order, desk, &kept, &mut over, place, written);
     end_book(rt, order, desk, &kept, &over, done)
 }
@@ -337,8 +340,8 @@ fn operated<'n>(
     let mut performed = Performed::new(alloc);
     let ReadDecks { one, two } = read;
     let before = pack_before(alloc, order, &pack)?;
-    if printing.operator.open().is_err() {
-        return Err(refusal_of(order, &printing.operator));
+    if printing.operator.operator.open().is_err() {
+        return Err(refusal_of(order, &printing.operator.operator));
     }
     let done = operate_printing(
         alloc,
@@ -349,7 +352,7 @@ fn operated<'n>(
         order.bounds,
         &mut performed,
     );
-    let desk = &mut printing.operator;
+    let desk = &mut printing.operator.operator;
     if desk.refused().is_some() {
         return Err(refusal_of(order, desk));
     }
@@ -391,7 +394,8 @@ fn write_reports<'n>(
     kept: &KeptOutputs,
 ) -> Result<(), DayFault<'n>> {
     let is_written = printing.reports.finish(&over.day.run);
-    let desk = &mut printing.operator;
+    printing.operator.end();
+    let desk = &mut printing.operator.operator;
     if over.is_reported(order) {
         desk.tell("\n");
         desk.tell(over.closing.summary.as_str());
@@ -449,7 +453,7 @@ fn write_pages<'n>(
     let jobs = write_paper(rt, paper, making, desk, &over.day.run)?;
     if paper.form.is_book() {
         let outcome = Outcome {
-            status: status_of(over.closing.verdict),
+            status: status_of(over.closing.verdict, PackEnd::Unnamed),
             is_saved: false,
         };
         write_index(rt, order, making, desk, over, outcome)?;

@@ -1,8 +1,8 @@
 //! `bureau operate`: the desk, over real files, the terminal and the clock.
 //!
-//! What is proved: each call is safe and returns, and the exit status is at most 5 (`operate`). What a desk performs and writes of a day
-//! is proved in `s3_desk` and `s3_operating`. What is asked at a terminal, which status means what, and that a pack is saved whole
-//! or not at all are tested, by rows. What files, standard input and output and the clock give isn't claimed: they are used as the
+//! What is proved: each call is safe and returns, the exit status is at most 5 (`operate`), and the status of a day that came to its end
+//! (`status_of`). What a desk performs and writes of a day, and whether its pack is saved, is proved in `s3_desk` and `s3_operating`; the
+//! status of a refusal in `s3_day_files`. What is asked at a terminal, and that a pack is saved whole or not at all, are tested, by rows. What files, standard input and output and the clock give isn't claimed: they are used as the
 //! toolchain offers them.
 
 #![tactic(auto)]
@@ -12,10 +12,12 @@ ghost use Rattle.std.specs.Prelude.{◌≤◌};
 mod book;
 mod damage;
 mod day;
+mod holding;
 mod inherited_words;
 mod noted;
 mod pages;
 mod saving;
+mod status;
 
 use clap::ArgMatches;
 use damage::report_damage;
@@ -30,9 +32,10 @@ use s3_day_files::{
     report_twice, rules_text, test_decks, test_journal, test_outputs, test_same,
 };
 use s3_day_log::DayLog;
-use s3_host_files::shown_name;
+use s3_host_files::{is_input, shown_name};
 use s3_labels::{Pack, Refusal, Refused};
 use s3_operating::Seat;
+use s3_paper_commands::PLAIN_INPUT;
 use s3_paper_commands::status::{DONE, FILE_FAILED, PASSED_OVER, PERSON_NEEDED};
 use s3_refusals::{Shown, beginning_words, pack_words, tell_holder};
 use s3_replies::Rules;
@@ -257,6 +260,9 @@ fn conflict_of(order: &Order<'_>, lists_jobs: bool) -> Option<&'static str> {
     if order.is_json && !lists_jobs {
         return Some("--json goes with --jobs");
     }
+    if order.is_input_plain && !reads_cards_from_input(order) {
+        return Some(PLAIN_INPUT);
+    }
     if order.saves_unfinished && order.save.is_none() {
         return Some("--save-unfinished needs --save FILE, which names where the pack is saved");
     }
@@ -266,6 +272,12 @@ fn conflict_of(order: &Order<'_>, lists_jobs: bool) -> Option<&'static str> {
     journal_conflict(order)
 }
 
+/// Whether a deck has the file `-`, standard input.
+fn reads_cards_from_input(order: &Order<'_>) -> bool {
+    let mut files = order.deck1.iter().chain(order.deck2.iter());
+    files.any(|file| is_input(*file))
+}
+
 /// Why the options of the journal don't go with the others, if they don't.
 fn journal_conflict(order: &Order<'_>) -> Option<&'static str> {
     if order.journal.is_some() && order.save.is_none() {
@@ -273,6 +285,11 @@ fn journal_conflict(order: &Order<'_>) -> Option<&'static str> {
     }
     if (order.does_again || order.is_once) && order.journal.is_none() {
         return Some("--again and --once go with --journal FILE");
+    }
+    if order.does_again && order.is_once {
+        return Some(
+            "--once and --again don't go together: --once does nothing if the decks are posted, --again posts them once more",
+        );
     }
     None
 }

@@ -1,17 +1,19 @@
 //! The end of a day: its pack is saved, if that is asked for, and its log gets its last lines.
 
 use crate::day::{Over, OwnDesk, test_outputs, test_written};
+use crate::status::status_of;
 use s3_cards::LevelId;
 use s3_day_files::{
     DayFault, DayJournal, KeptOutput, KeptOutputs, Order, SetAside, end_aside, take_back,
 };
 use s3_day_log::{DayOver, Event, NamedFile, checksum};
 use s3_host_files::{
-    FileFault, Limit, LockedPack, is_pack_at, lead_to_one_file, path_of, save_new_pack, save_pack,
+    FileFault, Limit, LockedPack, is_pack_at, is_saved, lead_to_one_file, path_of, save_new_pack,
+    save_pack,
 };
 use s3_journal::LevelCount;
-use s3_operating::{Lost, Verdict, Wish};
-use s3_paper_commands::status::{DONE, FILE_FAILED, PASSED_OVER, PERSON_NEEDED};
+use s3_operating::{Lost, PackEnd};
+use s3_paper_commands::status::FILE_FAILED;
 use s3_refusals::{Reason, Shown};
 use std::alloc::{AllocError, Global};
 use std::io;
@@ -23,6 +25,10 @@ const ANSWERED_NO: &'static str = ": the answer was no";
 
 /// Printed if the log of the day that is done again has that answer.
 const LOGGED_NO: &'static str = ": in the log the answer was no";
+
+/// Printed if the replies couldn't be read to their end.
+const UNHEARD: &'static str =
+    ": the replies can't be read any more; do the day again, with --redo if it has a log";
 
 /// Printed if a level isn't done, and the pack is saved only of a whole day.
 const UNFINISHED: &'static str =
@@ -50,8 +56,7 @@ pub struct Place<'n> {
     pub journal: Option<DayJournal<'n>>,
 }
 
-/// Saves the pack, if that is asked for and the day allows it, notes and reports whether it is saved, logs the end of the day, and gives the
-/// exit status.
+/// Saves the pack if the day's end allows it, notes and reports whether it is saved, logs the end of the day, and gives the exit status.
 pub fn end_day<'n>(
     rt: &HostRuntime,
     order: &Order<'n>,
@@ -63,27 +68,19 @@ pub fn end_day<'n>(
     if let Err(fault) = sync_script(rt, order, desk, kept) {
         return Err(end_unwritten(rt, order, desk, kept, fault));
     }
-    let Some(path) = order.save else {
-        if over.is_reported(order) {
-            desk.tell("nothing is saved: there is no --save\n");
+    let verdict = over.closing.verdict;
+    let end = desk.pack_end(verdict, order.save.is_some(), order.saves_unfinished)?;
+    match (end, order.save) {
+        (PackEnd::Saved, Some(path)) => {
+            let sum = checksum(rt.alloc(), &over.day.run.pack)?;
+            let saving = Saving {
+                path,
+                sum: sum.as_str(),
+            };
+            save(rt, order, desk, kept, over, place, saving)
         }
-        return end_unsaved(rt, order, desk, kept, over);
-    };
-    if over.is_unfinished() && !order.saves_unfinished {
-        report_unsaved(rt, order, path, UNFINISHED);
-        return end_unsaved(rt, order, desk, kept, over);
+        _ => end_unsaved(rt, order, desk, kept, over, end),
     }
-    match desk.wants_saved()? {
-        Wish::Save => {}
-        Wish::Leave => return end_declined(rt, order, desk, kept, path, ANSWERED_NO),
-        Wish::LeaveByLog => return end_declined(rt, order, desk, kept, path, LOGGED_NO),
-    }
-    let sum = checksum(rt.alloc(), &over.day.run.pack)?;
-    let saving = Saving {
-        path,
-        sum: sum.as_str(),
-    };
-    save(rt, order, desk, kept, over, place, saving)
 }
 
 /// Saves the pack, after the log has that it will be saved, and ends the day.
@@ -116,7 +113,7 @@ fn save<'n>(
     let pack = saved_file(rt.alloc(), saving)?;
     let path = saving.path;
     let done = saved(rt, order, path, locked, kept.limit, &over.day.run.pack);
-    over.is_saved = matches!(done, Ok(()) | Err(FileFault::Unsynced(_)));
+    over.is_saved = is_saved(&done);
     end_aside(rt, &aside, &done);
     if let Some(journal) = &journal {
         journal.end_save(rt, &done);
@@ -210,7 +207,7 @@ fn note_day<'n>(
     let Some(journal) = journal else {
         return Ok(());
     };
-    let status = status_of(over.closing.verdict);
+    let status = status_of(over.closing.verdict, PackEnd::Saved);
     let one = count_of(desk, LevelId::One)?;
     let two = count_of(desk, LevelId::Two)?;
     journal.append(rt, order, sum, status, one, two)
@@ -310,7 +307,7 @@ fn end_saved<'n>(
     if over.is_reported(order) {
         report_saved(rt, path, over);
     }
-    let status = status_of(over.closing.verdict);
+    let status = status_of(over.closing.verdict, PackEnd::Saved);
     end_over_saved(rt, order, desk, kept, status, path, pack)?;
     Ok(status)
 }
@@ -433,25 +430,30 @@ fn end_unsaved<'n>(
     desk: &mut OwnDesk<'_>,
     kept: &KeptOutputs,
     over: &Over,
+    end: PackEnd,
 ) -> Result<u8, DayFault<'n>> {
-    let status = status_of(over.closing.verdict);
+    match order.save {
+        Some(path) => report_unsaved(rt, order, path, reason_of(end)),
+        None if over.is_reported(order) => desk.tell("nothing is saved: there is no --save\n"),
+        None => {}
+    }
+    if let PackEnd::AnsweredNo | PackEnd::LoggedNo = end {
+        desk.note(Event::Declined)?;
+    }
+    let status = status_of(over.closing.verdict, end);
     log_end(rt, order, desk, kept, status, None)?;
     Ok(status)
 }
 
-/// Ends a day whose pack the operator doesn't want saved.
-fn end_declined<'n>(
-    rt: &HostRuntime,
-    order: &Order<'n>,
-    desk: &mut OwnDesk<'_>,
-    kept: &KeptOutputs,
-    path: &str,
-    why: &str,
-) -> Result<u8, DayFault<'n>> {
-    report_unsaved(rt, order, path, why);
-    desk.note(Event::Declined)?;
-    log_end(rt, order, desk, kept, PERSON_NEEDED, None)?;
-    Ok(PERSON_NEEDED)
+/// Why the pack isn't saved: the end of a sentence.
+fn reason_of(end: PackEnd) -> &'static str {
+    match end {
+        PackEnd::Unfinished => UNFINISHED,
+        PackEnd::Unheard => UNHEARD,
+        PackEnd::LoggedNo => LOGGED_NO,
+        PackEnd::AnsweredNo => ANSWERED_NO,
+        PackEnd::Saved | PackEnd::Unnamed => "",
+    }
 }
 
 /// Logs the end of the day, and brings the log to the disk.
@@ -477,13 +479,4 @@ fn saved_file(alloc: Global, saving: Saving<'_, '_>) -> Result<NamedFile, AllocE
         name: String::from_str(alloc, saving.path)?,
         sha256: String::from_str(alloc, saving.sum)?,
     })
-}
-
-/// The exit status of a day, by how its levels ended.
-pub fn status_of(verdict: Verdict) -> u8 {
-    match verdict {
-        Verdict::Clean => DONE,
-        Verdict::Passed => PASSED_OVER,
-        Verdict::Unfinished => PERSON_NEEDED,
-    }
 }

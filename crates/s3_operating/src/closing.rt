@@ -1,7 +1,8 @@
 //! How a day ended.
-ghost use Rattle.std.specs.Prelude.{is_some, OnOk};
+ghost use Rattle.std.specs.Prelude.{◌≡◌, false, true, is_some, OnOk};
 ghost use Rattle.std.specs.Option.{option_and_then};
-ghost use Rattle.s3_replay.specs.Inner.Taped.{AreKnown, HasScript};
+ghost use Rattle.s3_replay.specs.Inner.Taped.{AreKnown, BeganWith, HasScript};
+ghost use Rattle.s3_replay.specs.Inner.Written.{entries_in};
 
 use crate::clock::Clock;
 use crate::desk::Desk;
@@ -52,9 +53,12 @@ impl Ended {
 
 impl<'a, R: Read + Drop, W: Write + Drop, F: Write + Drop, C: Clock + Drop> Desk<'a, R, W, F, C> {
     /// Ends the day: the log is written up to its last line, the summary of both levels is made, and the script is written to its end.
-    /// Unless a write of the script has failed, its file then ends with the script of the entries that were performed.
+    /// Unless a write of the script has failed, its file then has what it began with, and the script of the entries that were performed.
     pub fn close(&mut self, day: &Day, performed: &Performed) -> Result<Closing, AllocError>
-        ensures { OnOk result (AreKnown F.contents → HasScript (option_and_then F.contents self.new.tape.file) (is_some self.new.tape.failure) performed.now) }
+        ensures script { OnOk result (AreKnown F.contents → HasScript (BeganWith F.contents self.old.tape.file self.old.tape.failure self.old.tape.written.items) (option_and_then F.contents self.new.tape.file) (is_some self.new.tape.failure) performed.now) }
+        ensures whole { OnOk result (is_some self.new.tape.failure ≡ false → entries_in self.new.tape.written.items ≡ performed.now) }
+        ensures kept { is_some self.new.tape.file ≡ is_some self.old.tape.file }
+        ensures failed { OnOk result (is_some self.old.tape.failure ≡ true → is_some self.new.tape.failure ≡ true) }
     {
         let closing = self.close_levels(day, performed)?;
         self.tape.finish(self.levels.alloc, performed)?;
@@ -62,7 +66,9 @@ impl<'a, R: Read + Drop, W: Write + Drop, F: Write + Drop, C: Clock + Drop> Desk
     }
 
     /// Counts all entries, closes both levels, and makes their summary.
-    fn close_levels(&mut self, day: &Day, performed: &Performed) -> Result<Closing, AllocError> {
+    fn close_levels(&mut self, day: &Day, performed: &Performed) -> Result<Closing, AllocError>
+        ensures tape { self.new.tape ≡ self.old.tape }
+    {
         self.count_all(performed)?;
         self.tell_counted()?;
         let one = self.close_level(LevelId::One, day.ends.one, &day.run.one)?;
@@ -73,7 +79,9 @@ impl<'a, R: Read + Drop, W: Write + Drop, F: Write + Drop, C: Clock + Drop> Desk
     }
 
     /// Logs what is left of a level, unless it is done.
-    fn note_left(&mut self, level: LevelId, ended: Ended) -> Result<(), AllocError> {
+    fn note_left(&mut self, level: LevelId, ended: Ended) -> Result<(), AllocError>
+        ensures tape { self.new.tape ≡ self.old.tape }
+    {
         if ended.is_done() {
             Ok(())
         } else {
@@ -87,7 +95,9 @@ impl<'a, R: Read + Drop, W: Write + Drop, F: Write + Drop, C: Clock + Drop> Desk
         level: LevelId,
         end: End,
         printed: &LevelLines,
-    ) -> Result<Ended, AllocError> {
+    ) -> Result<Ended, AllocError>
+        ensures tape { self.new.tape ≡ self.old.tape }
+    {
         let ended = self.levels.close(level, end, printed, self.is_stopped);
         self.log_level(level)?;
         if !ended.is_done() {

@@ -1,16 +1,18 @@
 //! The operator of the command.
 ghost use Rattle.std.specs.Prelude.{◌≡◌, is_some};
+ghost use Rattle.s3_replay.specs.Inner.Taped.{counted_bytes};
 
 use crate::answers::Answer;
-use crate::changes::has_changed;
+use crate::changes::is_grave;
 use crate::clock::Clock;
 use crate::journal::Journal;
 use crate::levels::{Levels, Said};
 use crate::message::Message;
+use crate::pack_end::{EndedDay, PackEnd};
 use crate::seat::Seat;
 use s3_bureau::{Bureau, Halt};
 use s3_cards::LevelId;
-use s3_day_log::{Begun, DayLog, Event};
+use s3_day_log::{Begun, DayLog, Event, Verdict};
 use s3_desk::{Bounds, Evidence, Operator, Papers};
 use s3_operator::HaltCode;
 use s3_replay::{Performed, Tape};
@@ -59,17 +61,6 @@ pub enum Questioned {
     Person,
 }
 
-/// Whether the pack of a day that is over is to be saved.
-#[derive(Clone, Copy)]
-pub enum Wish {
-    /// It is.
-    Save,
-    /// It isn't: a person answered so.
-    Leave,
-    /// It isn't: the log has that answer.
-    LeaveByLog,
-}
-
 /// How a day is operated.
 #[derive(Clone, Copy)]
 pub struct Settings<'a> {
@@ -109,6 +100,8 @@ pub struct Desk<'a, R: Read + Drop, W: Write + Drop, F: Write + Drop, C: Clock +
     /// How many turns both levels had taken when the clock was looked at last.
     turns_then: u64,
     has_ended: bool,
+    /// The replies can't be read any more.
+    has_lost_input: bool,
     pub(crate) is_stopped: bool,
     is_out_of_memory: bool,
     /// The day was ended because an output can't be written.
@@ -128,7 +121,10 @@ impl<'a, R: Read + Drop, W: Write + Drop, F: Write + Drop, C: Clock + Drop> Desk
         journal: Journal<F>,
         opening: Begun,
         clock: C,
-    ) -> Desk<'a, R, W, F, C> {
+    ) -> Desk<'a, R, W, F, C>
+        ensures tape { result.tape ≡ tape }
+        ensures journal { result.journal ≡ journal }
+    {
         let mut desk = Desk {
             levels: Levels::new(alloc, settings, one, two),
             tape,
@@ -143,6 +139,7 @@ impl<'a, R: Read + Drop, W: Write + Drop, F: Write + Drop, C: Clock + Drop> Desk
             told_at: 0,
             turns_then: 0,
             has_ended: false,
+            has_lost_input: false,
             is_stopped: false,
             is_out_of_memory: false,
             has_given_up: false,
@@ -174,12 +171,16 @@ impl<'a, R: Read + Drop, W: Write + Drop, F: Write + Drop, C: Clock + Drop> Desk
     }
 
     /// How many bytes the script has, once the desk is closed.
-    pub fn script_len(&self) -> u64 {
+    pub fn script_len(&self) -> u64
+        ensures { result ≡ counted_bytes self.now.tape.written.items }
+    {
         self.tape.bytes()
     }
 
     /// Whether a script is written.
-    pub fn has_script(&self) -> bool {
+    pub fn has_script(&self) -> bool
+        ensures { result ≡ is_some self.now.tape.file }
+    {
         self.tape.is_kept()
     }
 
@@ -194,20 +195,26 @@ impl<'a, R: Read + Drop, W: Write + Drop, F: Write + Drop, C: Clock + Drop> Desk
     }
 
     /// Prints a text for the operator, whatever the writer answers.
-    pub fn tell(&mut self, text: &str) {
+    pub fn tell(&mut self, text: &str)
+        ensures tape { self.new.tape ≡ self.old.tape }
+    {
         let _ = self.messages.write_all(text.as_bytes());
         let _ = self.messages.flush();
     }
 
     /// Prints a message.
-    fn tell_message(&mut self, message: Message) -> Result<(), AllocError> {
+    fn tell_message(&mut self, message: Message) -> Result<(), AllocError>
+        ensures tape { self.new.tape ≡ self.old.tape }
+    {
         let text = message.finish()?;
         self.tell(text.as_str());
         Ok(())
     }
 
     /// Reports the replies of rules and of a log that were only counted.
-    pub(crate) fn tell_counted(&mut self) -> Result<(), AllocError> {
+    pub(crate) fn tell_counted(&mut self) -> Result<(), AllocError>
+        ensures tape { self.new.tape ≡ self.old.tape }
+    {
         let message = self.levels.counted();
         self.tell_message(message)
     }
@@ -231,7 +238,9 @@ impl<'a, R: Read + Drop, W: Write + Drop, F: Write + Drop, C: Clock + Drop> Desk
     }
 
     /// Begins the day, once: reports decks that can't be read, and begins the log. `Err` is also returned for a day that is refused.
-    fn begin(&mut self) -> Result<(), AllocError> {
+    fn begin(&mut self) -> Result<(), AllocError>
+        ensures tape { self.new.tape ≡ self.old.tape }
+    {
         if self.has_begun {
             return Ok(());
         }
@@ -243,7 +252,9 @@ impl<'a, R: Read + Drop, W: Write + Drop, F: Write + Drop, C: Clock + Drop> Desk
     }
 
     /// Reports a deck that can't be read, and refuses a day that wants it.
-    fn tell_unread(&mut self, level: LevelId) -> Result<(), AllocError> {
+    fn tell_unread(&mut self, level: LevelId) -> Result<(), AllocError>
+        ensures tape { self.new.tape ≡ self.old.tape }
+    {
         let Some(fault) = self.levels.seat(level).unread else {
             return Ok(());
         };
@@ -347,7 +358,7 @@ impl<'a, R: Read + Drop, W: Write + Drop, F: Write + Drop, C: Clock + Drop> Desk
         };
         match answer {
             Some(answer) => {
-                let is_spoilt = answer.digit != 0 && has_changed(machine.level(level));
+                let is_spoilt = is_grave(answer.digit, machine.level(level).files());
                 self.take(level, code, answer, is_spoilt)?;
                 Ok(Some(answer.digit))
             }
@@ -478,7 +489,11 @@ impl<'a, R: Read + Drop, W: Write + Drop, F: Write + Drop, C: Clock + Drop> Desk
                 self.tell_line_number()?;
                 return Ok(self.ended(TOO_LONG));
             }
-            Listed::Ended | Listed::Failed => return Ok(self.ended("(no more replies)\n")),
+            Listed::Ended => return Ok(self.ended("(no more replies)\n")),
+            Listed::Failed => {
+                self.has_lost_input = true;
+                return Ok(self.ended("(the replies can't be read any more)\n"));
+            }
         };
         if self.is_too_soon(asked_at) {
             self.tell(before);
@@ -517,20 +532,28 @@ impl<'a, R: Read + Drop, W: Write + Drop, F: Write + Drop, C: Clock + Drop> Desk
         Ok(false)
     }
 
-    /// Whether the pack is to be saved. If a reply ended a job after it had changed files, the answer of the log counts, if it has one;
-    /// otherwise a person is asked.
-    pub fn wants_saved(&mut self) -> Result<Wish, AllocError> {
-        if !self.levels.has_spoilt() {
-            return Ok(Wish::Save);
+    /// What becomes of the pack of a day that is over, given what became of the day, whether a file is named for the pack, and whether it
+    /// is saved even if a level isn't done. A person is asked if the answer counts.
+    pub fn pack_end(
+        &mut self,
+        verdict: Verdict,
+        has_place: bool,
+        saves_unfinished: bool,
+    ) -> Result<PackEnd, AllocError> {
+        let mut day = EndedDay {
+            verdict,
+            has_place,
+            saves_unfinished,
+            has_lost_replies: self.has_lost_input,
+            is_spoilt: self.levels.has_spoilt(),
+            is_declined: self.levels.is_declined_in_log(),
+        };
+        if !day.counts_answer() || !self.levels.is_person_asked() {
+            return Ok(day.pack_end(None));
         }
-        if self.levels.is_declined_in_log() {
-            return Ok(Wish::LeaveByLog);
-        }
-        if !self.levels.is_person_asked() || self.agrees(SAVE)? {
-            Ok(Wish::Save)
-        } else {
-            Ok(Wish::Leave)
-        }
+        let agrees = self.agrees(SAVE)?;
+        day.has_lost_replies = self.has_lost_input;
+        Ok(day.pack_end(Some(agrees)))
     }
 
     /// Reports a log or a script that can't be written. A person may choose to continue without it; else the day ends, which is
@@ -630,7 +653,9 @@ impl<'a, R: Read + Drop, W: Write + Drop, F: Write + Drop, C: Clock + Drop> Desk
     }
 
     /// Counts all entries that were performed.
-    pub(crate) fn count_all(&mut self, performed: &Performed) -> Result<(), AllocError> {
+    pub(crate) fn count_all(&mut self, performed: &Performed) -> Result<(), AllocError>
+        ensures tape { self.new.tape ≡ self.old.tape }
+    {
         self.begin()?;
         self.levels.tally.count(performed.parts());
         Ok(())

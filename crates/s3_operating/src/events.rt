@@ -1,4 +1,8 @@
 //! What is logged of a day.
+ghost use Rattle.std.specs.Prelude.{◌≡◌, is_some, OnOk};
+ghost use Rattle.std.specs.Option.{option_and_then};
+ghost use Rattle.s3_day_log.specs.Inner.Events.{said_of};
+ghost use Rattle.s3_operating.specs.Inner.Times.{IsNotedAt};
 
 use crate::answers::Answer;
 use crate::clock::Clock;
@@ -15,12 +19,18 @@ use std::io::{Read, Write};
 
 impl<'a, R: Read + Drop, W: Write + Drop, F: Write + Drop, C: Clock + Drop> Desk<'a, R, W, F, C> {
     /// Logs an event, if a log is kept.
-    pub fn note(&mut self, event: Event) -> Result<(), AllocError> {
+    pub fn note(&mut self, event: Event) -> Result<(), AllocError>
+        ensures noted { OnOk result (IsNotedAt (λ second. C.shows self.old.clock second self.new.clock) (option_and_then F.contents self.old.journal.file) (option_and_then F.contents self.new.journal.file) (is_some self.new.journal.failure) (said_of event)) }
+        ensures kept { is_some self.new.journal.file ≡ is_some self.old.journal.file }
+        ensures tape { self.new.tape ≡ self.old.tape }
+    {
         self.journal.note(self.levels.alloc, &mut self.clock, event)
     }
 
     /// Logs with what the day is begun.
-    pub(crate) fn log_opening(&mut self) -> Result<(), AllocError> {
+    pub(crate) fn log_opening(&mut self) -> Result<(), AllocError>
+        ensures tape { self.new.tape ≡ self.old.tape }
+    {
         match self.opening.take() {
             Some(day) => self.note(Event::Begin { day }),
             None => Ok(()),
@@ -28,7 +38,9 @@ impl<'a, R: Read + Drop, W: Write + Drop, F: Write + Drop, C: Clock + Drop> Desk
     }
 
     /// Logs the events of a level since the last call, in order.
-    pub(crate) fn log_level(&mut self, level: LevelId) -> Result<(), AllocError> {
+    pub(crate) fn log_level(&mut self, level: LevelId) -> Result<(), AllocError>
+        ensures tape { self.new.tape ≡ self.old.tape }
+    {
         if !self.journal.is_kept() {
             return Ok(());
         }
@@ -44,7 +56,9 @@ impl<'a, R: Read + Drop, W: Write + Drop, F: Write + Drop, C: Clock + Drop> Desk
     }
 
     /// Logs what is left of a level that isn't done.
-    pub(crate) fn log_left(&mut self, level: LevelId) -> Result<(), AllocError> {
+    pub(crate) fn log_left(&mut self, level: LevelId) -> Result<(), AllocError>
+        ensures tape { self.new.tape ≡ self.old.tape }
+    {
         if !self.journal.is_kept() {
             return Ok(());
         }

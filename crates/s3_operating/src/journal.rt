@@ -1,8 +1,9 @@
 //! The log as it is written, event by event.
-ghost use Rattle.std.specs.Prelude.{is_some, OnOk};
+ghost use Rattle.std.specs.Prelude.{◌≡◌, None, is_some, OnOk};
 ghost use Rattle.std.specs.Option.{option_and_then};
 ghost use Rattle.s3_day_log.specs.Inner.Events.{said_of};
 ghost use Rattle.s3_day_log.specs.Inner.Times.{IsNoted};
+ghost use Rattle.s3_operating.specs.Inner.Times.{IsNotedAt};
 
 use crate::clock::Clock;
 use s3_day_log::{Event, line_at};
@@ -20,7 +21,10 @@ pub struct Journal<F: Write + Drop> {
 
 impl<F: Write + Drop> Journal<F> {
     /// A log that is written to a file, or to none.
-    pub fn new(file: Option<F>) -> Journal<F> {
+    pub fn new(file: Option<F>) -> Journal<F>
+        ensures file { result.file ≡ file }
+        ensures works { result.failure ≡ None }
+    {
         Journal {
             file,
             failure: None,
@@ -28,19 +32,23 @@ impl<F: Write + Drop> Journal<F> {
     }
 
     /// Whether a log is written.
-    pub fn is_kept(&self) -> bool {
+    pub fn is_kept(&self) -> bool
+        ensures { result ≡ is_some self.now.file }
+    {
         self.file.is_some()
     }
 
     /// Writes an event, at the time that it is now. After a failure nothing more is written.
-    #[tactic(auto, using(crate::proofs::Noting::after_failure, crate::proofs::Noting::no_log, crate::proofs::Noting::noted))]
+    #[tactic(auto, using(crate::proofs::Noting::after_failure, crate::proofs::Noting::no_log, crate::proofs::Noting::no_log_at, crate::proofs::Noting::noted, crate::proofs::Noting::noted_after_failure, crate::proofs::Noting::noted_at))]
     pub fn note<C: Clock>(
         &mut self,
         alloc: Global,
         clock: &mut C,
         event: Event,
     ) -> Result<(), AllocError>
-        ensures { OnOk result (IsNoted (option_and_then F.contents self.old.file) (option_and_then F.contents self.new.file) (is_some self.new.failure) (said_of event)) }
+        ensures time { OnOk result (IsNotedAt (λ second. C.shows clock.old second clock.new) (option_and_then F.contents self.old.file) (option_and_then F.contents self.new.file) (is_some self.new.failure) (said_of event)) }
+        ensures kept { is_some self.new.file ≡ is_some self.old.file }
+        ensures line { OnOk result (IsNoted (option_and_then F.contents self.old.file) (option_and_then F.contents self.new.file) (is_some self.new.failure) (said_of event)) }
     {
         if self.file.is_none() || self.failure.is_some() {
             return Ok(());
@@ -56,7 +64,9 @@ impl<F: Write + Drop> Journal<F> {
     }
 
     /// Whether something couldn't be written.
-    pub fn has_failed(&self) -> bool {
+    pub fn has_failed(&self) -> bool
+        ensures { result ≡ is_some self.now.failure }
+    {
         self.failure.is_some()
     }
 

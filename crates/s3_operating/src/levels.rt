@@ -2,7 +2,7 @@
 
 use crate::answers::{Answer, Giver, logged, ruled, to_another};
 use crate::asking::{is_allowed, push_help, push_last_lines, push_words};
-use crate::changes::{has_changed, push_changes};
+use crate::changes::{is_grave, push_changes};
 use crate::desk::{Questioned, Settings};
 use crate::given::Given;
 use crate::lost::Lost;
@@ -417,7 +417,7 @@ impl<'a> Levels<'a> {
         to: LevelId,
         digit: u8,
     ) -> bool {
-        self.is_person_asked() && digit != 0 && has_changed(machine.level(to))
+        self.is_person_asked() && is_grave(digit, machine.level(to).files())
     }
 
     /// What a person is asked once more: `2 ends PAY; 3 records are added to CHECKS: 2 again to end it, another line to go back? `.

@@ -2,10 +2,12 @@
 //! person at a terminal; what is printed meanwhile; the script and the log as they are written; and the summary of a day.
 //! docs/OPERATING.md has all of it.
 //!
-//! Each call is proved to be safe and to return. Unless a write has failed, `Desk::close` is proved to end the script's file with the
-//! script of the entries that it gets (`HasScript`), and `Journal::note` to add to the log the line of its event (`IsNoted`). `Lost::find`
-//! is proved to find why a file no longer keeps what is written to it. Tested: which
-//! events are logged, what is printed, and that the program gives `close` what `operate_printing` has performed. The other proved
+//! Each call is proved to be safe and to return. Unless a write has failed, `Desk::close` is proved to leave in the script's file what it
+//! began with and the script of the entries that it gets, and nothing else (`HasScript`), and not to give up that file. `Journal::note`
+//! is proved to add to the log the line of its event (`IsNoted`), at a second that the clock gave in that call (`IsNotedAt`). `Lost::find`
+//! is proved to find why a file no longer keeps what is written to it, and `EndedDay` whether the pack is saved, if not, why, and whether
+//! a person is asked about it. Tested: which events are logged, what is printed, and that the program gives `close` what
+//! `operate_printing` has performed. The other proved
 //! parts of the operator are in other crates: lines of replies and rules in `s3_replies`, the reports in `s3_reports` and
 //! `s3_desk` (`Printing`), and which jobs of a day have begun and how they ended in `s3_day_log`. What a day gives, for this
 //! operator as for any, is proved in `s3_desk`.
@@ -26,6 +28,7 @@ mod levels;
 mod lost;
 mod message;
 mod noted;
+mod pack_end;
 mod printed;
 mod progress;
 mod seat;
@@ -35,10 +38,11 @@ mod unread;
 pub use clock::Clock;
 pub use closing::Closing;
 pub use day_deck::{DayDeck, JoinedFiles};
-pub use desk::{Desk, Questioned, Settings, Wish};
+pub use desk::{Desk, Questioned, Settings};
 pub use journal::Journal;
 pub use lost::{AtOutput, Lost};
 pub use noted::{JobTurns, NotedHalt};
+pub use pack_end::PackEnd;
 pub use printed::PrintedJob;
 pub use s3_day_log::{LevelEnd, Replier, Verdict};
 pub use s3_replay::Tape;

@@ -15,10 +15,16 @@ use std::io::{Read, Write};
 pub struct NotedHalt {
     /// The number of its job in the level, from 1.
     pub job: usize,
+    /// Its two letters, in ASCII.
+    pub letters: [u8; 2],
+    /// How many turns both levels had taken when it came.
+    pub turn: u64,
     /// Its block.
     pub block: String,
     /// The digit of the reply and who gave it, if it has one.
     pub reply: Option<(u8, Replier)>,
+    /// How many turns both levels had taken when the reply was given, if it has one.
+    pub replied: Option<u64>,
 }
 
 /// When a job was at work, as the number of turns that both levels had taken.

@@ -11,7 +11,7 @@ use s3_day_log::{Event, Ledger, LoggedHalt, Replier};
 use s3_decks::{DeckText, JobEntry};
 use s3_evidence::Begun as JobsOfHalts;
 use s3_level::Level;
-use s3_operator::{HaltCode, is_at_start};
+use s3_operator::{HaltCode, is_at_start, letters};
 use std::alloc::{AllocError, Global};
 
 /// A level as the desk sees it: its deck, its jobs, and the halt that waits there.
@@ -54,6 +54,8 @@ pub struct Seat<'a> {
     pub(crate) over_at: Vec<u64>,
     /// How many turns both levels had taken when the last reply was given.
     pub(crate) replied_at: u64,
+    /// How many turns both levels had taken when `follow` was called last.
+    followed_at: u64,
     /// The halts, if they are noted.
     pub(crate) noted: Vec<NotedHalt>,
 }
@@ -87,6 +89,7 @@ impl<'a> Seat<'a> {
             spoilt: Vec::new(alloc),
             over_at: Vec::new(alloc),
             replied_at: 0,
+            followed_at: 0,
             noted: Vec::new(alloc),
         }
     }
@@ -134,6 +137,7 @@ impl<'a> Seat<'a> {
     ) -> Result<(), AllocError> {
         self.is_idle = may_print_all && is_idle(held);
         self.ledger.follow(held, lines)?;
+        self.followed_at = turns;
         self.note_ends(turns)
     }
 
@@ -145,13 +149,19 @@ impl<'a> Seat<'a> {
         Ok(())
     }
 
-    /// Notes the halt that waits, given its block.
+    /// Notes the halt that waits, given its block. It came when `follow` was called last.
     pub(crate) fn note_halt(&mut self, block: String) -> Result<(), AllocError> {
+        let Some(code) = self.waits else {
+            return Ok(());
+        };
         let job = self.ledger.begun().len();
         self.noted.push(NotedHalt {
             job,
+            letters: letters(code),
+            turn: self.followed_at,
             block,
             reply: None,
+            replied: None,
         })?;
         Ok(())
     }
@@ -197,6 +207,9 @@ impl<'a> Seat<'a> {
     pub(crate) fn take_reply(&mut self, code: HaltCode, digit: u8, turns: u64) {
         self.replies = self.replies.saturating_add(1);
         self.replied_at = turns;
+        if let Some(noted) = self.noted.last_mut() {
+            noted.replied = Some(turns);
+        }
         self.waits = None;
         self.shown = None;
         self.ledger.reply(code, digit);

@@ -263,7 +263,7 @@ dated date p old year day month new y d m u ny nd nm nu is_ny is_nd is_nm is_nu 
 abbrev blank_entry : Name × Shape → List ℕ
 blank_entry entry = replicate (length_in entry) BLANK
 
-blank_entries : (fields : List (Defined Shape)) → blank_texts fields ≡ map blank_entry (map entry_of fields)
+pub blank_entries : (fields : List (Defined Shape)) → blank_texts fields ≡ map blank_entry (map entry_of fields)
 blank_entries [] = refl
 blank_entries (f ∷ fs) = λ i. one f.name f.meaning i ∷ blank_entries fs i
   where

@@ -1,3 +1,4 @@
+pub mod AgainLemmas
 pub mod BeginLemmas
 pub mod ChangeLemmas
 pub mod ConstantLemmas

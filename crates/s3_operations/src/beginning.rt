@@ -1,5 +1,5 @@
 //! The values at the start of a job.
-ghost use Rattle.std.specs.Prelude.{◌≡◌, ◌+◌, ◌^◌, ◌<◌, ◌≤◌, true, pos, IfOk};
+ghost use Rattle.std.specs.Prelude.{◌≡◌, ◌+◌, ◌^◌, ◌<◌, ◌≤◌, true, pos, length, replicate, IfOk};
 ghost use Rattle.s3_lines.specs.Ranges.{shape_in_range};
 ghost use Rattle.s3_meaning.specs.Environment.{date_part as date_part_spec};
 ghost use Rattle.s3_operations.specs.Inner.Held.{IsSound, Changes, digits_and_decimals, form_in_shape};
@@ -7,7 +7,7 @@ ghost use Rattle.s3_operations.specs.Inner.Beginning.{Begins, IsDate, IsZeros, a
 
 use crate::constants::{add_constants, slots_of};
 use crate::indicators::Indicators;
-use crate::texts::Texts;
+use crate::texts::{Span, Texts};
 use crate::values::Values;
 use s3_decimal::{Dec, Form};
 use s3_lines::sheet::Shape;
@@ -55,6 +55,13 @@ fn zeros(
     Ok((numbers, forms))
 }
 
+/// Makes numbers zero.
+fn clear(numbers: &mut [i64])
+    ensures { numbers.new ≡ replicate (length numbers.old) (pos 0) }
+{
+    numbers.fill(0);
+}
+
 /// The number that two bytes of a date write.
 fn date_part(date: &[u8; 6], at: usize) -> u32
     requires { at + 1 < 6 }
@@ -80,6 +87,11 @@ fn whole(value: u32, digits: u8) -> Dec
 }
 
 impl Values {
+    ghost use Rattle.std.specs.Prelude.{◌≡◌, ◌<◌, ◌≤◌, ◌++◌, Some, drop, length, pos, replicate, slice_get};
+    ghost use Rattle.s3_cards.specs.declared.ebcdic.TheConstants.{BLANK};
+    ghost use Rattle.s3_operations.specs.Inner.Texts.{with_part};
+    ghost use Rattle.s3_operations.specs.declared.texts.Span.{Span};
+
     /// The fields of the date get their numbers.
     fn put_date(&mut self, program: &Program, date: &[u8; 6])
         requires sound { IsSound program.now self.old }
@@ -118,5 +130,38 @@ impl Values {
         };
         values.put_date(program, &date);
         Ok(values)
+    }
+
+    /// The values at the start of another job of the same program, with its switches and its date. It takes no memory.
+    pub fn begin_again(&mut self, program: &Program, switches: u8, date: [u8; 6])
+        requires sound { IsSound program.now self.old }
+        requires date { IsDate date }
+        ensures { Begins program.now switches date self.new }
+    {
+        let fields = program.fields.len();
+        self.zero_before(fields);
+        self.blank_before(fields);
+        self.indicators = Indicators::at_first(switches);
+        self.division = None;
+        self.put_date(program, &date);
+    }
+
+    /// Makes the numbers of the slots before another one zero.
+    fn zero_before(&mut self, slot: usize)
+        requires { slot ≤ length self.old.numbers.items }
+        ensures zeros { self.new.numbers.items ≡ replicate slot (pos 0) ++ drop slot self.old.numbers.items }
+        ensures alone { self.new ≡ record self.old { numbers = self.new.numbers } }
+    {
+        clear(&mut self.numbers[0..slot]);
+    }
+
+    /// Makes the texts of the slots before another one blank. They lie before the text of that slot.
+    fn blank_before(&mut self, slot: usize)
+        requires { slot < length self.old.texts.spans }
+        ensures blank { (span : Span) → slice_get self.old.texts.spans slot ≡ Some span → self.new.texts ≡ with_part self.old.texts (record { from = 0; to = span.from }) (replicate span.from BLANK) }
+        ensures alone { self.new ≡ record self.old { texts = self.new.texts } }
+    {
+        let end = self.texts.span(slot).from;
+        self.texts.clear(Span { from: 0, to: end });
     }
 }

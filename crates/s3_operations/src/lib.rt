@@ -2,7 +2,8 @@
 //!
 //! Proved:
 //!
-//! - `Values::new` begins as the reference model's first environment of a job. Zero and the literals of its cards follow its fields.
+//! - `Values::new` and `begin_again` begin as the reference model's first environment of a job. Zero and the literals of its cards
+//!   follow its fields.
 //! - `number`, `put_number` and `forget_remainder` keep of a number what the reference model keeps. `Texts::text`, `put`, `copy`,
 //!   `put_number` and `clear` keep each text in the place of its slot.
 //! - `place_of`: each indicator has a place of its own; switches from U8 on share that of U8.

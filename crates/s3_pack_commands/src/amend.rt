@@ -9,24 +9,24 @@ use s3_cards::Name;
 use s3_data_commands::cells::{Reading, with_cells};
 use s3_data_commands::fault::Fault;
 use s3_data_commands::filled::Words;
-use s3_data_commands::inputs::typed_layout_of;
+use s3_data_commands::inputs::{test_plain_text, typed_layout_of};
 use s3_data_commands::journaling::{journal_for, unmade_if_refused};
 use s3_data_commands::pack_words::{
     Save, area_number, keep_input, label_of, label_words, mount_words, pack_to_change, refused,
     saved, tell_done, wrong_words,
 };
-use s3_data_commands::sentences::output_sentence;
 use s3_data_commands::words::{
-    AGAIN, AREA, DATE_FIELDS, DECIMAL, JOURNAL, LABEL, LAYOUT, LAYOUT_FILE, LAYOUT_TYPE,
-    LEVEL_ALIAS, MOST_RECORDS, OVERWRITE, PACK, SAVE, THOUSANDS,
+    AGAIN, AREA, DATE_FIELDS, DECIMAL, JOURNAL, LABEL, LAYOUT, LAYOUT_FILE, LAYOUT_PLAIN,
+    LAYOUT_TYPE, LEVEL_ALIAS, MOST_RECORDS, OVERWRITE, PACK, SAVE, THOUSANDS,
 };
-use s3_host_files::StandardOutput;
+use s3_host_files::{StandardOutput, is_input};
 use s3_journal::{Posting, Work};
 use s3_layout::SourceLayout;
 use s3_paper_commands::status::{DONE, FILE_WRONG, NOTHING_SAVED, OPTIONS_WRONG, PACK_SAVED};
 use s3_paper_commands::words::{CommandWords, Example, Takes, Word, value_of};
 use s3_refusals::Shown;
 use std::alloc::{AllocError, Global};
+use std::io;
 use std::io::Write;
 
 /// What a person may expect, and no file has.
@@ -55,6 +55,7 @@ pub const AMEND: CommandWords = CommandWords {
             takes: Takes::Needed("FILE"),
             ..LAYOUT
         },
+        LAYOUT_PLAIN,
         LAYOUT_FILE,
         Word {
             help: "The type of the record, if the file has several",
@@ -198,6 +199,7 @@ fn amend_record(rt: &HostRuntime, matches: &ArgMatches<'_>) -> Result<(), Fault>
         ));
     }
     let asked = Asked::read(rt, matches)?;
+    test_plain_text(rt, matches, is_input(asked.source))?;
     let settings = settings_of(rt, matches)?;
     let layout = amended_layout(rt, matches, asked.source)?;
     let (pack, locked) = pack_to_change(rt, matches, asked.path, asked.save)?;
@@ -294,19 +296,21 @@ fn refuse_mistakes(rt: &HostRuntime, asked: &Asked<'_>, mistakes: &[Mistake]) ->
     )
 }
 
-/// Which record was amended.
+/// Which record was amended, or stays as it was.
 fn done_sentence(
     alloc: Global,
     asked: &Asked<'_>,
     record: &AmendedRecord,
 ) -> Result<String, AllocError> {
     let number = u64::from(record.place) + 1;
+    let sentence = if record.before.as_slice() == record.after.as_slice() {
+        "record {number} of {label} in area {area} of {path} has these values already: it stays as it was"
+    } else {
+        "record {number} of {label} in area {area} of {path} is amended"
+    };
     Words::of_file(asked.save, asked.area, asked.label)
         .with_number(number)
-        .fill(
-            alloc,
-            "record {number} of {label} in area {area} of {path} is amended",
-        )
+        .fill(alloc, sentence)
 }
 
 /// Prints the record on standard output: a line for each field, with its value, or with the values before and after.
@@ -325,6 +329,13 @@ fn print_record(
     )?;
     match StandardOutput::new(rt).write_all(text.as_slice()) {
         Ok(()) => Ok(()),
-        Err(error) => Err(Fault::File(output_sentence(rt.alloc(), Some(error))?)),
+        Err(error) => Err(Fault::File(unprinted_sentence(rt.alloc(), error)?)),
     }
+}
+
+/// That the record can't be printed, which is amended.
+fn unprinted_sentence(alloc: Global, error: io::Error) -> Result<String, AllocError> {
+    format!(in alloc;
+        "the record is amended, but can't be printed, because standard output can't be written: {error}"
+    )
 }

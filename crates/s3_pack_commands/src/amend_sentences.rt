@@ -4,7 +4,7 @@ use s3_amend::Mistake;
 use s3_cards::Name;
 use s3_cells::CellFault;
 use s3_data_commands::filled::{Words, push_name};
-use s3_data_commands::load_sentences::{push_quoted, words_of};
+use s3_data_commands::load_sentences::{hint_of, push_quoted, words_of};
 use std::alloc::{AllocError, Global};
 
 /// The sentence about a mistake, given the text of --key and whether numbers have a comma before their decimals.
@@ -55,7 +55,8 @@ fn push_refused(
     push_name(text, Some(name))?;
     text.push_str(": ")?;
     push_quoted(text, value)?;
-    text.push_str(words_of(fault, has_comma))
+    text.push_str(words_of(fault, has_comma))?;
+    text.push_str(hint_of(fault, has_comma, value))
 }
 
 /// Appends a sentence whose values are numbers and names.

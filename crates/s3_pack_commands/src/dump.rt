@@ -10,7 +10,7 @@ use s3_data_commands::pack_words::{
 };
 use s3_data_commands::sentences::{output_sentence, unread_sentence};
 use s3_data_commands::standard_input::{InputFault, read_input};
-use s3_data_commands::words::{OVERWRITE, PACK, SAVE};
+use s3_data_commands::words::{LAYOUT_PLAIN, OVERWRITE, PACK, SAVE};
 use s3_dump::{RestoreFault, Unlaid};
 use s3_host_files::{StandardOutput, keep_save_apart, save_new_pack};
 use s3_journal::Work;
@@ -69,6 +69,7 @@ pub const DUMP: CommandWords = CommandWords {
             takes: Takes::Values("[AREA:]LABEL=FILE"),
             help: "A file whose fields are printed, and a deck with the RPG source whose I sheet has them",
         },
+        LAYOUT_PLAIN,
     ],
 };
 
@@ -108,7 +109,7 @@ pub fn dump_pack(rt: &HostRuntime, matches: &ArgMatches<'_>) -> u8
 fn print_dump(rt: &HostRuntime, matches: &ArgMatches<'_>, path: &str) -> Result<(), Fault> {
     let asked = asked_files(rt, matches)?;
     let pack = pack_of(rt, path)?;
-    let found = layouts_found(rt, path, &pack, &asked)?;
+    let found = layouts_found(rt, matches, path, &pack, &asked)?;
     let layouts = file_layouts(rt.alloc(), &found)?;
     let dump = s3_dump::dump(rt.alloc(), &pack, &layouts)?;
     let notes = missing_notes(rt.alloc(), &found)?;
@@ -357,10 +358,10 @@ fn encoding_cure(text: &[u8]) -> Option<&'static str> {
         );
     }
     match wide_text(text)? {
-        WideText::Utf16Low | WideText::Utf16High => Some(
+        WideText::Utf16Marked | WideText::Utf16Low | WideText::Utf16High => Some(
             "standard input is text in UTF-16; convert it by `iconv -f UTF-16 -t UTF-8 DUMP`",
         ),
-        WideText::Utf32Low | WideText::Utf32High => Some(
+        WideText::Utf32Marked | WideText::Utf32Low | WideText::Utf32High => Some(
             "standard input is text in UTF-32; convert it by `iconv -f UTF-32 -t UTF-8 DUMP`",
         ),
     }

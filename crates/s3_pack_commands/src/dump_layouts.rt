@@ -4,11 +4,11 @@ use clap::ArgMatches;
 use s3_cards::Name;
 use s3_data_commands::fault::Fault;
 use s3_data_commands::filled::Words;
-use s3_data_commands::inputs::layouts_of;
+use s3_data_commands::inputs::{layouts_of, test_plain_text};
 use s3_data_commands::pack_words::{area_number, label_of, mount_words, refused, tell};
 use s3_data_commands::sentences::unload_sentence;
 use s3_dump::FileLayout;
-use s3_host_files::is_standard_error;
+use s3_host_files::{is_input, is_standard_error};
 use s3_labels::AreaSlots;
 use s3_layout::SourceLayout;
 use s3_listing::{ListFault, mount_slots};
@@ -123,6 +123,7 @@ pub fn asked_files<'a>(
         }
     }
     faults.result(rt.alloc())?;
+    test_plain_text(rt, matches, asked.iter().any(|one| is_input(one.deck)))?;
     Ok(asked)
 }
 
@@ -192,6 +193,7 @@ fn is_same_file(one: &Asked<'_>, other: &Asked<'_>) -> bool {
 /// layout for its records is reported and refused.
 pub fn layouts_found(
     rt: &HostRuntime,
+    matches: &ArgMatches<'_>,
     path: &str,
     pack: &[u8],
     asked: &[Asked<'_>],
@@ -217,7 +219,7 @@ pub fn layouts_found(
         };
         // a deck's diagnostics come after the faults before
         faults = faults.reported(rt);
-        match deck_layouts(rt, path, one, lengths) {
+        match deck_layouts(rt, matches, path, one, lengths) {
             Ok(layouts) => found.push(layouts)?,
             Err(fault) => faults = faults.add(rt, fault),
         }
@@ -303,11 +305,12 @@ pub fn missing_notes(alloc: Global, found: &[DeckLayouts]) -> Result<String, All
 /// The layouts of a deck for files with records of these lengths. Each file with records of another length is reported.
 fn deck_layouts(
     rt: &HostRuntime,
+    matches: &ArgMatches<'_>,
     path: &str,
     asked: &Asked<'_>,
     lengths: [Option<u16>; 3],
 ) -> Result<DeckLayouts, Fault> {
-    let layouts = layouts_of(rt, asked.deck, asked.label, asked.name)?;
+    let layouts = layouts_of(rt, matches, asked.deck, asked.label, asked.name)?;
     let mut faults = Faults::none();
     for area in 0..AREAS {
         if let Some(length) = lengths[usize::from(area)] {

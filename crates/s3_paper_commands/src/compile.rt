@@ -1,7 +1,7 @@
 //! `bureau compile`: the listing of each source of a deck (docs/LISTINGS.md).
 ghost use Rattle.std.specs.Prelude.{◌≤◌};
 
-use crate::deck::{ReadFiles, read_deck};
+use crate::deck::{PLAIN_INPUT, ReadFiles, read_deck};
 use crate::fault::CommandFault;
 use crate::messages::{Report, write_messages};
 use crate::programs::write_programs;
@@ -12,7 +12,7 @@ use crate::words::{CommandWords, Example, Status, Takes, Word};
 use clap::ArgMatches;
 use s3_cards::{Deck, DeckFault};
 use s3_decks::DeckText;
-use s3_host_files::StandardOutput;
+use s3_host_files::{StandardOutput, is_input};
 use s3_source_listing::{Outcome, write_listing};
 use std::alloc::{AllocError, Global};
 use std::io::Write;
@@ -78,6 +78,11 @@ pub const COMPILE: CommandWords = CommandWords {
             takes: Takes::Nothing,
             help: "Prints instead a JSON object for each program, a line each: its messages, files, fields, indicators and labels",
         },
+        Word {
+            name: "plain-text",
+            takes: Takes::Nothing,
+            help: "Standard input, the file -, is plain text",
+        },
     ],
 };
 
@@ -120,6 +125,8 @@ struct Order {
     has_references: bool,
     /// A source with warnings waits for a person, as one with diagnostics does.
     is_strict: bool,
+    /// Standard input is plain text.
+    is_input_plain: bool,
     /// What is printed.
     form: Form,
 }
@@ -129,9 +136,20 @@ impl Order {
         Ok(Order {
             has_references: matches.get_flag("cross-reference"),
             is_strict: matches.get_flag("strict"),
+            is_input_plain: is_input_plain(matches)?,
             form: Form::of(matches)?,
         })
     }
+}
+
+/// Whether standard input is plain text. It must be one of the files then.
+fn is_input_plain<'a>(matches: &ArgMatches<'_>) -> Result<bool, CommandFault<'a>> {
+    let files = matches.get_strs("file").unwrap_or(&[]);
+    let is_plain = matches.get_flag("plain-text");
+    if is_plain && !files.iter().any(|file| is_input(*file)) {
+        return Err(CommandFault::Options(PLAIN_INPUT));
+    }
+    Ok(is_plain)
 }
 
 /// Does what the options of `bureau compile` ask, and gives the exit status: 0 if every source compiles, 4 if a source has diagnostics or a
@@ -150,7 +168,7 @@ pub fn compile_files<'a>(rt: &'a HostRuntime, matches: &ArgMatches<'a>) -> u8
 fn list_deck<'a>(rt: &'a HostRuntime, matches: &ArgMatches<'a>) -> Result<u8, CommandFault<'a>> {
     let order = Order::of(matches)?;
     let files = matches.get_strs("file").unwrap_or(&[]);
-    match read_deck(rt, files, order.form.report())? {
+    match read_deck(rt, files, order.is_input_plain, order.form.report())? {
         ReadFiles::Deck(text, typed) => list_text(rt, &text, &typed, order, files.len() == 1),
         ReadFiles::Faulty => Ok(REFUSED),
         ReadFiles::Unread => Ok(FILE_FAILED),

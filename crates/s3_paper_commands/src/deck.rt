@@ -42,9 +42,14 @@ struct Standing {
     is_faulty: bool,
 }
 
-/// Whether a file has plain text, of which a deck is punched: its name ends in `.rpg` or `.punch`, in capitals or small letters.
-pub fn is_plain_text(path: &str) -> bool {
-    ends_in(path, b".rpg") || ends_in(path, b".punch")
+/// Why `--plain-text` isn't taken.
+pub const PLAIN_INPUT: &str =
+    "--plain-text goes with the file -, standard input; a file whose name ends in .rpg or .punch is plain text";
+
+/// Whether a file has plain text, of which a deck is punched: its name ends in `.rpg` or `.punch`, in capitals or small
+/// letters; standard input if it is said to be so.
+pub fn is_plain_text(path: &str, is_input_plain: bool) -> bool {
+    ends_in(path, b".rpg") || ends_in(path, b".punch") || (is_input_plain && is_input(path))
 }
 
 /// Whether a name ends in these characters, in capitals or small letters.
@@ -57,10 +62,12 @@ fn ends_in(path: &str, end: &[u8]) -> bool {
     }
 }
 
-/// The deck of some files, one after another. Each file that can't be read is reported, and all errors of those of plain text.
+/// The deck of some files, one after another, given whether standard input has plain text. Each file that can't be read is reported, and all
+/// errors of those of plain text.
 pub fn read_deck<'a>(
     rt: &'a HostRuntime,
     paths: &[&'a str],
+    is_input_plain: bool,
     report: Report,
 ) -> Result<ReadFiles<'a>, CommandFault<'a>> {
     let mut deck = ReadDeck {
@@ -80,14 +87,10 @@ pub fn read_deck<'a>(
                     tell_encoding(rt, report, shown_name(name), words);
                     standing.is_faulty = true;
                 }
-                None => standing = add_file(
-                    rt,
-                    &mut deck,
-                    standing,
-                    report,
-                    shown_name(name),
-                    bytes,
-                )?,
+                None if is_plain_text(name, is_input_plain) => {
+                    standing = add_text(rt, &mut deck, standing, report, shown_name(name), bytes)?;
+                }
+                None => standing = add_cards(&mut deck, standing, shown_name(name), bytes)?,
             },
             Err(CommandFault::File(name, error)) => {
                 let _ = CommandFault::File(name, error).tell(&mut rt.stderr());
@@ -154,21 +157,16 @@ fn text_of<'a>(read: io::Result<Vec<u8>>, name: &'a str) -> Result<Vec<u8>, Comm
     }
 }
 
-/// Puts a file after those of a deck, without the blank lines at its end.
-fn add_file<'a>(
-    rt: &HostRuntime,
+/// Puts a file of cards after those of a deck, without the blank lines at its end.
+fn add_cards<'a>(
     deck: &mut ReadDeck<'a>,
     standing: Standing,
-    report: Report,
     name: &'a str,
     bytes: Vec<u8>,
 ) -> Result<Standing, AllocError>
     requires { standing.begun.cards ≤ 9999 }
     ensures { IfOk result (λ after. after.begun.cards ≤ 9999) }
 {
-    if is_plain_text(name) {
-        return add_text(rt, deck, standing, report, name, bytes);
-    }
     let mut bytes = bytes;
     bytes.truncate(cards_len(&bytes));
     let begun = standing.begun.behind_deck(&bytes);

@@ -19,9 +19,10 @@ pub fn encoding_words(bytes: &[u8]) -> Option<&'static str> {
 /// The words for a text with two or four bytes a character.
 fn wide_words(wide: Option<WideText>) -> &'static str {
     match wide {
-        Some(WideText::Utf32Low | WideText::Utf32High) =>
+        Some(WideText::Utf32Marked | WideText::Utf32Low | WideText::Utf32High) =>
             "is text in UTF-32; save it as plain text, or as UTF-8 without a byte order mark",
-        Some(WideText::Utf16Low | WideText::Utf16High) | None => Encoding::Utf16.words(),
+        Some(WideText::Utf16Marked | WideText::Utf16Low | WideText::Utf16High) | None =>
+            Encoding::Utf16.words(),
     }
 }
 

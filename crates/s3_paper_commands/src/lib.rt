@@ -25,7 +25,7 @@ mod unread;
 pub mod words;
 
 pub use compile::{COMPILE, compile_files};
-pub use deck::{is_plain_text, tell_waiting};
+pub use deck::{PLAIN_INPUT, is_plain_text, tell_waiting};
 pub use encodings::{deck_encoding_words, encoding_words};
 pub use entries::{ENTRIES, list_entries};
 pub use output_reason::OutputReason;

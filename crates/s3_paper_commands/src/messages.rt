@@ -7,7 +7,7 @@ use s3_decks::{DeckText, FilePlace};
 use s3_host_files::StandardOutput;
 use s3_punch::CardColumns;
 use s3_refusals::Shown;
-use s3_source_listing::{CardMessage, Outcome, messages_of_deck};
+use s3_source_listing::{CardMessage, HIDDEN, Outcome, messages_of_deck};
 use std::alloc::{AllocError, Global};
 use std::io::Write;
 
@@ -65,8 +65,12 @@ pub fn write_messages<'a>(
     for message in &found.messages {
         push_message(&mut text, alloc, files, typed, message)?;
     }
-    match StandardOutput::new(rt).write_all(text.as_bytes()) {
-        Ok(()) => Ok(found.outcome),
-        Err(error) => Err(CommandFault::of_output(&error)),
+    if let Err(error) = StandardOutput::new(rt).write_all(text.as_bytes()) {
+        return Err(CommandFault::of_output(&error));
     }
+    if found.hides_others {
+        // a line without a place, so that no editor goes there
+        let _ = writeln!(rt.stderr(), "{HIDDEN}");
+    }
+    Ok(found.outcome)
 }

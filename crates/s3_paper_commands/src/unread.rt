@@ -7,7 +7,7 @@ use s3_cards::{COLUMNS, code_of_byte, first_line, to_ebcdic};
 use s3_decks::{CardPlace, DeckText, FilePlace};
 use s3_host_files::SHOWN_INPUT;
 use s3_punch::PunchReason;
-use s3_refusals::{Shown, is_shown};
+use s3_refusals::{Quoted, Shown, is_shown};
 use std::alloc::{AllocError, Global};
 
 /// The most cards that are reported one by one.
@@ -244,16 +244,17 @@ fn push_surplus(text: &mut String, report: Report, deck: &DeckText<'_>) -> Resul
 fn push_cure(text: &mut String, file: &str, is_one_file: bool) -> Result<(), AllocError> {
     if file == SHOWN_INPUT {
         return text.push_str(
-            "Small letters, tabs and marked letters are punched as cards have them by bureau punch -.\n",
+            "Small letters, tabs and marked letters are punched as cards have them by `bureau punch -`.\n",
         );
     }
-    let file = Shown(file);
+    let shown = Shown(file);
     write!(
         text,
-        "Small letters, tabs and marked letters are punched as cards have them if a file's name ends in .rpg: rename {file} so"
+        "Small letters, tabs and marked letters are punched as cards have them if a file's name ends in .rpg: rename {shown} so"
     )?;
     if is_one_file {
-        write!(text, ", or make a deck of it with bureau punch {file}")?;
+        let file = Quoted(file);
+        write!(text, ", or make a deck of it by `bureau punch {file}`")?;
     }
     text.push_str(".\n")
 }

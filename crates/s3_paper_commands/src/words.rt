@@ -97,6 +97,10 @@ pub enum Takes {
     Following(&'static str),
     /// Nothing: the command refuses the option, which no help lists, and says what to do instead.
     Refused,
+    /// Nothing: an older name of what another option does, which no help lists.
+    Unlisted,
+    /// The name of a file that the launcher gives; no help lists it.
+    UnlistedFile,
 }
 
 impl CommandWords {
@@ -136,7 +140,8 @@ impl CommandWords {
 
     /// The option that the command refuses, if it has one.
     fn refused(&self) -> Option<&'static str> {
-        let refused = self.words.iter().find(|word| word.takes.is_hidden())?;
+        let mut words = self.words.iter();
+        let refused = words.find(|word| matches!(word.takes, Takes::Refused))?;
         Some(refused.name)
     }
 
@@ -235,10 +240,10 @@ impl Takes {
         }
     }
 
-    /// The placeholder of the value, if the word takes one.
+    /// The placeholder of the value that help shows, if the word takes one.
     pub fn shown(self) -> Option<&'static str> {
         match self {
-            Takes::Nothing | Takes::Refused => None,
+            Takes::Nothing | Takes::Refused | Takes::Unlisted | Takes::UnlistedFile => None,
             Takes::Files | Takes::FollowingFiles => Some("FILE"),
             Takes::Value(shown)
             | Takes::Needed(shown)
@@ -270,14 +275,14 @@ impl Takes {
 
     /// Whether no help lists the word.
     pub fn is_hidden(self) -> bool {
-        matches!(self, Takes::Refused)
+        matches!(self, Takes::Refused | Takes::Unlisted | Takes::UnlistedFile)
     }
 
     /// Whether what is given is the name of a file or a folder.
     pub fn is_file(self) -> bool {
         match self {
             Takes::Value(shown) | Takes::Needed(shown) => FILES.contains(&shown),
-            Takes::Files | Takes::FollowingFiles => true,
+            Takes::Files | Takes::FollowingFiles | Takes::UnlistedFile => true,
             _ => false,
         }
     }
@@ -286,7 +291,8 @@ impl Takes {
     fn given_with<'a>(self, argument: Arg<'a>) -> Arg<'a> {
         match self {
             Takes::Nothing => argument.action(ArgAction::SetTrue),
-            Takes::Refused => argument.action(ArgAction::SetTrue).hide(true),
+            Takes::Refused | Takes::Unlisted => argument.action(ArgAction::SetTrue).hide(true),
+            Takes::UnlistedFile => argument.value_name("FILE").hide(true),
             Takes::Value(shown) | Takes::OneOf(shown, _) => argument.value_name(shown),
             Takes::Needed(shown) | Takes::NeededOneOf(shown, _) => {
                 argument.value_name(shown).required(true)

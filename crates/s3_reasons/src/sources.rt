@@ -22,16 +22,22 @@ const MISFIT: u8 = 8;
 /// The number of a name that isn't defined.
 const UNDEFINED: u8 = 5;
 
+/// The number of a file that can't be so, which the RUN card has if the program doesn't have one primary file.
+const WRONG_FILE: u8 = 12;
+
 /// For how many cards similar names are looked for, since each takes a walk over all lines.
 const MOST_SEARCHES: usize = 20;
 
-/// Why cards of a source have a diagnostic 01, 05 or 08, as far as words say more than the diagnostic does; by the cards' numbers.
+/// Why cards of a source have a diagnostic 01, 05 or 08, and its RUN card 12, as far as words say more than the diagnostic does; by the
+/// cards' numbers.
 #[derive(Drop)]
 pub struct Reasons {
     /// Those of 01 and 08. A card has one of them at most.
     by_card: IndexMap<u16, String>,
     /// Those of 05.
     similar: IndexMap<u16, String>,
+    /// That of 12 on the RUN card.
+    primary: IndexMap<u16, String>,
 }
 
 impl Reasons {
@@ -40,6 +46,7 @@ impl Reasons {
         Reasons {
             by_card: IndexMap::new(alloc),
             similar: IndexMap::new(alloc),
+            primary: IndexMap::new(alloc),
         }
     }
 
@@ -48,6 +55,7 @@ impl Reasons {
         let found = match number {
             OUT_OF_ORDER | MISFIT => self.by_card.get(&card),
             UNDEFINED => self.similar.get(&card),
+            WRONG_FILE => self.primary.get(&card),
             _ => None,
         };
         match found {
@@ -69,11 +77,25 @@ pub fn reasons_of(
 ) -> Result<Reasons, AllocError> {
     let mut reasons = Reasons::none(alloc);
     add_statements(alloc, deck, told, &mut reasons)?;
-    let is_wanted = told.iter().any(|found| found.number == MISFIT || found.number == UNDEFINED);
+    let is_wanted = told.iter().any(|found| is_explained(found, from));
     if from <= to && to <= deck.len() && is_wanted {
-        add_by_lines(alloc, deck, from, to, entries, &mut reasons)?;
+        add_by_lines(alloc, deck, from, to, told, entries, &mut reasons)?;
     }
     Ok(reasons)
+}
+
+/// Whether the lines of a source from a place on explain a diagnostic. The place is the number of the RUN card.
+fn is_explained(found: &Diagnostic, from: usize) -> bool {
+    match found.number {
+        MISFIT | UNDEFINED => true,
+        WRONG_FILE => is_of_run_card(found, from),
+        _ => false,
+    }
+}
+
+/// Whether a diagnostic is of the card before the source that begins at a place: of the RUN card.
+fn is_of_run_card(found: &Diagnostic, from: usize) -> bool {
+    usize::from(found.card) == from
 }
 
 /// Adds the reason of each statement that is read as a card of the source.
@@ -108,12 +130,13 @@ fn card_of(deck: &Deck, number: u16) -> Option<&Card> {
     deck.card(usize::from(number).checked_sub(1)?)
 }
 
-/// Adds the reasons of the diagnostics 05 and 08.
+/// Adds the reasons of the diagnostics 05 and 08, and of 12 on the RUN card.
 fn add_by_lines(
     alloc: Global,
     deck: &Deck,
     from: usize,
     to: usize,
+    told: &[Diagnostic],
     entries: &[FaultyEntry],
     reasons: &mut Reasons,
 ) -> Result<(), AllocError>
@@ -125,6 +148,7 @@ fn add_by_lines(
         Err(SheetFault::NoMemory) => return Err(AllocError),
         Err(SheetFault::Diagnostics(_)) => return Ok(()),
     };
+    add_primary(alloc, told, from, &lines, reasons)?;
     let known = Known::of(alloc, &lines)?;
     let mut rest = entries;
     for line in &lines {
@@ -133,6 +157,43 @@ fn add_by_lines(
         add_similar(alloc, deck, line, &lines, rest, reasons)?;
     }
     Ok(())
+}
+
+/// Adds how many primary files the lines of a source have, if its RUN card has 12. The source begins at place `from`.
+fn add_primary(
+    alloc: Global,
+    told: &[Diagnostic],
+    from: usize,
+    lines: &[Line],
+    reasons: &mut Reasons,
+) -> Result<(), AllocError> {
+    for found in told {
+        if found.number == WRONG_FILE && is_of_run_card(found, from) {
+            let words = primary_words(alloc, lines)?;
+            reasons.primary.insert(found.card, words)?;
+        }
+    }
+    Ok(())
+}
+
+/// How many primary files lines have, and how many a program has.
+fn primary_words(alloc: Global, lines: &[Line]) -> Result<String, AllocError> {
+    match lines.iter().filter(|line| is_primary(line)).count() {
+        0 => String::from_str(
+            alloc,
+            "no F card has P in column 16: one file must be primary",
+        ),
+        count => format!(in alloc;
+            "{count} F cards have P in column 16: only one file may be primary"
+        ),
+    }
+}
+
+fn is_primary(line: &Line) -> bool {
+    match &line.sheet {
+        SheetLine::File(file) => file.is_primary(),
+        _ => false,
+    }
 }
 
 /// Adds which names are similar to those of a line that aren't defined. The entries to blame begin with those of the line's card.

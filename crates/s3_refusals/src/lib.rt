@@ -19,5 +19,5 @@ pub use holder::{holder_of, tell_holder};
 pub use packs::{beginning_words, begins_as_pack, pack_words};
 pub use reasons::{Holder, Reason, call_words};
 pub use refused::{FileWork, Refused, Work};
-pub use s3_decks::{Shown, is_shown};
+pub use s3_decks::{Quoted, Shown, is_shown};
 pub use wide::{WideText, wide_text};

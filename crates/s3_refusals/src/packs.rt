@@ -41,6 +41,7 @@ pub fn pack_words(fault: MountFault) -> &'static str
             "it doesn't begin as a pack does, or its quotas are those of no pack"
         }
         MountFault::BadRegions => "its regions aren't whole tracks within it, or they meet",
-        MountFault::Short => "it has fewer sectors than its header says, or than 168",
+        MountFault::Short =>
+            "it is no pack, or it isn't whole: it has fewer sectors than its header says, or than 168",
     }
 }

@@ -13,7 +13,7 @@ pub fn call_words(kind: ErrorKind) -> &'static str
     match kind {
         ErrorKind::NotFound => "there is no such file or folder; check the name",
         ErrorKind::PermissionDenied => {
-            "permission is denied; have its owner allow it, or use another file"
+            "permission is denied, by it or by its folder; have the owner allow it, or use another file"
         }
         ErrorKind::IsADirectory => "it is a folder; give the name of a file",
         ErrorKind::NotADirectory => "there is a file in place of a folder; check the name",
@@ -21,12 +21,19 @@ pub fn call_words(kind: ErrorKind) -> &'static str
         ErrorKind::StorageFull => "its disk is full; make space there, and try again",
         ErrorKind::QuotaExceeded =>
             "your share of its disk is full; make space there, and try again",
-        ErrorKind::FilesystemLoop => "its links lead in a circle; give the file's own name",
+        ErrorKind::FileTooLarge =>
+            "a file may not be so large here; raise the shell's limit (ulimit -f), and try again",
+        ErrorKind::FilesystemLoop =>
+            "its links lead in a circle, or there are too many; give the file's own name",
         _ => "",
     }
 }
 
-/// Why a call on a file failed, in words, with what to do; for a failure without words of its own, what the system says.
+/// What to do after a failure without words of its own.
+const ANY_CURE: &str = "see whether its disk is at work, or take another one";
+
+/// Why a call on a file failed, in words, with what to do; for a failure without words of its own, what the system says, with a cure
+/// that may always help.
 #[derive(Clone, Copy)]
 pub struct Reason(pub io::Error);
 
@@ -35,7 +42,7 @@ impl Display for Reason {
         let error = self.0;
         let words = call_words(error.kind());
         if words.is_empty() {
-            write!(f, "{error}")
+            write!(f, "{error}; {ANY_CURE}")
         } else {
             write!(f, "{words}")
         }

@@ -1,8 +1,10 @@
 //! The script as it is written, reply by reply.
-ghost use Rattle.std.specs.Prelude.{◌≡◌, ◌++◌, [], None, true, is_some, IfSome, MatchOption, OnOk, ⊤};
+ghost use Rattle.std.specs.Prelude.{◌≡◌, ◌≤◌, ◌-◌, ◌++◌, [], None, Some, ℕ, List, false, true, is_some, length, slice_range, IfSome, MatchOption, OnOk, ⊤};
+ghost use Rattle.std.specs.List.{list_any};
 ghost use Rattle.std.specs.Option.{option_and_then};
 ghost use Rattle.std.specs.Io.KnownBytes.{Appends};
-ghost use Rattle.s3_replay.specs.Inner.Taped.{AreKnown, HasScript, IsOnTape, Tapes};
+ghost use Rattle.s3_replay.specs.Inner.Taped.{AreKnown, AreRepliesWritten, BeganWith, HasScript, IsOnTape, KeepsFirst, Tapes, counted_bytes, is_reply_part};
+ghost use Rattle.s3_replay.specs.Inner.Written.{entries_in};
 
 use crate::performed::{Performed, Repeated, are_same};
 use crate::script::script_text;
@@ -12,8 +14,8 @@ use std::io;
 use std::io::{ErrorKind, Write};
 
 /// Where the script of a day is written. Unless a write has failed, the bytes of the file end with the script of the parts that are
-/// written, if these bytes are known. Each call appends just the text of the parts that it writes: a file that was empty has only the
-/// script.
+/// written, if these bytes are known. Each call appends just the text of the parts that it writes. So the file has what it began with
+/// (`BeganWith`), and then the script: a file that was empty has only the script.
 #[derive(Drop)]
 pub struct Tape<F: Write + Drop> {
     file: Option<F>,
@@ -25,14 +27,18 @@ pub struct Tape<F: Write + Drop> {
     bytes: u64,
     failure: Option<io::Error>,
     ghost is_script: { IsOnTape F.contents file failure written.items },
+    ghost are_counted: { bytes ≡ counted_bytes written.items },
 }
 
 impl<F: Write + Drop> Tape<F> {
     /// A script that is written to a file, or to none.
-    #[tactic(auto, using(crate::proofs::Taping::nothing_yet))]
+    #[tactic(auto, using(crate::proofs::Taping::begins, crate::proofs::Taping::nothing_yet))]
     pub fn new(alloc: Global, file: Option<F>) -> Tape<F>
         ensures file { result.file ≡ file }
         ensures nothing { result.written.items ≡ [] }
+        ensures unseen { result.seen ≡ 0 }
+        ensures works { result.failure ≡ None }
+        ensures first { (first : List ℕ) → option_and_then F.contents file ≡ Some first → BeganWith F.contents result.file result.failure result.written.items first }
     {
         Tape {
             file,
@@ -45,8 +51,8 @@ impl<F: Write + Drop> Tape<F> {
 
     /// Writes what was performed up to the last reply, if there is a new one. If a level halts and nothing is written yet, writes what
     /// was performed up to there, so that a script that can't be written is found before the first reply. The last part isn't written:
-    /// it may still grow.
-    #[tactic(auto, using(crate::proofs::Taping::tapes_nothing))]
+    /// it may still grow. Of the other parts, each reply is then written, if the parts that were looked at before had no other reply.
+    #[tactic(auto, using(crate::proofs::Taping::all_written, crate::proofs::Taping::keeps_same, crate::proofs::Taping::none_new, crate::proofs::Taping::tapes_nothing))]
     pub fn follow(
         &mut self,
         alloc: Global,
@@ -54,7 +60,11 @@ impl<F: Write + Drop> Tape<F> {
         is_halted: bool,
     ) -> Result<(), AllocError>
         ensures tapes { OnOk result (Tapes F.contents self.old.file self.new.file self.new.failure self.old.written.items self.new.written.items) }
+        ensures kept { is_some self.new.file ≡ is_some self.old.file }
+        ensures first { KeepsFirst F.contents self.old.file self.new.file self.old.failure self.new.failure self.old.written.items self.new.written.items }
         ensures failed { OnOk result (is_some self.old.failure ≡ true → is_some self.new.failure ≡ true) }
+        ensures replies { OnOk result (AreRepliesWritten self.old.written.items self.old.seen parts.now → AreRepliesWritten self.new.written.items (length parts.now - 1) parts.now) }
+        ensures seen { OnOk result (AreRepliesWritten self.old.written.items self.old.seen parts.now → AreRepliesWritten self.new.written.items self.new.seen parts.now) }
     {
         let whole = parts.len().saturating_sub(1);
         let from = self.seen.max(self.written.len());
@@ -69,13 +79,16 @@ impl<F: Write + Drop> Tape<F> {
         Ok(())
     }
 
-    /// Writes all that was performed. Unless a write has failed, the file then ends with the script that asks for just that. If the
-    /// parts that are written aren't the first ones of these, that counts as a failure.
-    #[tactic(auto, using(crate::proofs::Taping::has_script, crate::proofs::Taping::has_failed, crate::proofs::Taping::after_failure, crate::proofs::Taping::tapes_nothing))]
+    /// Writes all that was performed. Unless a write has failed, the file then has what it began with, and the script that asks for just
+    /// what was performed. If the parts that are written aren't the first ones of these, that counts as a failure.
+    #[tactic(auto, using(crate::proofs::Taping::has_script, crate::proofs::Taping::has_failed, crate::proofs::Taping::after_failure, crate::proofs::Taping::keeps_failed, crate::proofs::Taping::keeps_same, crate::proofs::Taping::tapes_nothing))]
     pub fn finish(&mut self, alloc: Global, performed: &Performed) -> Result<(), AllocError>
         ensures tapes { OnOk result (Tapes F.contents self.old.file self.new.file self.new.failure self.old.written.items self.new.written.items) }
+        ensures kept { is_some self.new.file ≡ is_some self.old.file }
+        ensures first { KeepsFirst F.contents self.old.file self.new.file self.old.failure self.new.failure self.old.written.items self.new.written.items }
         ensures failed { OnOk result (is_some self.old.failure ≡ true → is_some self.new.failure ≡ true) }
-        ensures script { OnOk result (AreKnown F.contents → HasScript (option_and_then F.contents self.new.file) (is_some self.new.failure) performed.now) }
+        ensures script { OnOk result (AreKnown F.contents → HasScript (BeganWith F.contents self.old.file self.old.failure self.old.written.items) (option_and_then F.contents self.new.file) (is_some self.new.failure) performed.now) }
+        ensures whole { OnOk result (is_some self.new.failure ≡ false → entries_in self.new.written.items ≡ performed.now) }
     {
         let parts = performed.parts();
         match unwritten(parts, &self.written) {
@@ -88,11 +101,14 @@ impl<F: Write + Drop> Tape<F> {
     }
 
     /// Writes further parts. After a failure nothing more is written.
-    #[tactic(auto, using(crate::proofs::Taping::after_failure, crate::proofs::Taping::one_more, crate::proofs::Taping::tapes_more, crate::proofs::Taping::tapes_failed))]
+    #[tactic(auto, using(crate::proofs::Taping::after_failure, crate::proofs::Taping::counted_more, crate::proofs::Taping::keeps_failed, crate::proofs::Taping::keeps_same, crate::proofs::Taping::keeps_more, crate::proofs::Taping::one_more, crate::proofs::Taping::tapes_more, crate::proofs::Taping::tapes_failed))]
     fn write(&mut self, alloc: Global, next: &[Repeated]) -> Result<(), AllocError>
         ensures tapes { OnOk result (Tapes F.contents self.old.file self.new.file self.new.failure self.old.written.items self.new.written.items) }
+        ensures kept { is_some self.new.file ≡ is_some self.old.file }
+        ensures first { KeepsFirst F.contents self.old.file self.new.file self.old.failure self.new.failure self.old.written.items self.new.written.items }
         ensures failed { OnOk result (is_some self.old.failure ≡ true → is_some self.new.failure ≡ true) }
         ensures written { OnOk result (self.new.written.items ≡ self.old.written.items ++ next.now) }
+        ensures seen { self.new.seen ≡ self.old.seen }
     {
         let text = script_text(alloc, next)?;
         self.written.extend_from_slice(next)?;
@@ -104,12 +120,16 @@ impl<F: Write + Drop> Tape<F> {
     }
 
     /// Whether a script is written.
-    pub fn is_kept(&self) -> bool {
+    pub fn is_kept(&self) -> bool
+        ensures { result ≡ is_some self.now.file }
+    {
         self.file.is_some()
     }
 
-    /// How many bytes the script has, once it is finished.
-    pub fn bytes(&self) -> u64 {
+    /// How many bytes the script has so far; all of it, once it is finished. Past the largest number of 64 bits, that number.
+    pub fn bytes(&self) -> u64
+        ensures { result ≡ counted_bytes self.now.written.items }
+    {
         self.bytes
     }
 
@@ -128,7 +148,8 @@ impl<F: Write + Drop> Tape<F> {
     /// From now on no script is written.
     #[tactic(auto, using(crate::proofs::Taping::no_file))]
     pub fn give_up(&mut self)
-        ensures { self.new.file ≡ None }
+        ensures file { self.new.file ≡ None }
+        ensures works { self.new.failure ≡ None }
     {
         self.file = None;
         self.failure = None;
@@ -182,7 +203,9 @@ fn write_out<F: Write>(file: &mut F, bytes: &[u8]) -> io::Result<()>
 }
 
 /// The parts from one place to another.
-fn between(parts: &[Repeated], from: usize, to: usize) -> &[Repeated] {
+fn between(parts: &[Repeated], from: usize, to: usize) -> &[Repeated]
+    ensures { from ≤ to → to ≤ length parts.now → result.now ≡ slice_range parts.now from to }
+{
     match parts.get(from..to) {
         Some(between) => between,
         None => &[],
@@ -190,7 +213,9 @@ fn between(parts: &[Repeated], from: usize, to: usize) -> &[Repeated] {
 }
 
 /// Whether one of some parts is a reply.
-fn has_reply(parts: &[Repeated]) -> bool {
+fn has_reply(parts: &[Repeated]) -> bool
+    ensures { result ≡ list_any is_reply_part parts.now }
+{
     parts
         .iter()
         .any(|part| matches!(part.entry.action, Action::Reply(_)))

@@ -3,7 +3,7 @@ ghost use Rattle.std.specs.Prelude.{◌≤◌, length};
 
 use crate::listing::{Outcome, columns_of_statement, is_bare_source};
 use crate::messages::{ErrorMessage, RunCard, WarningMessage, messages_of};
-use crate::source::SourceRange;
+use crate::source::{SourceRange, hides};
 use s3_blame::diagnostic_words;
 use s3_cards::Deck;
 use s3_decks::{Columns, JobEntry, Statements, jobs_of, keyword_columns};
@@ -63,6 +63,8 @@ pub struct DeckMessages {
     pub messages: Vec<CardMessage>,
     /// How many sources, errors and warnings the deck has.
     pub outcome: Outcome,
+    /// Whether diagnostics of a source hide others.
+    pub hides_others: bool,
 }
 
 /// Appends to the reason of a faulty job where a source belongs.
@@ -130,6 +132,7 @@ impl DeckMessages {
         let found = messages_of(alloc, deck, range, run)?;
         self.outcome.sources = self.outcome.sources.saturating_add(1);
         for error in &found.errors {
+            self.hides_others = self.hides_others || hides(error.number);
             self.add_error(alloc, run.number, &found.reasons, error)?;
         }
         for warning in &found.warnings {
@@ -220,6 +223,7 @@ fn no_messages(alloc: Global) -> DeckMessages {
     DeckMessages {
         messages: Vec::new(alloc),
         outcome: Outcome::NONE,
+        hides_others: false,
     }
 }
 

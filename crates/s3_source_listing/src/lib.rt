@@ -32,4 +32,4 @@ pub use listing::{Outcome, write_listing};
 pub use messages::{ErrorMessage, RunCard, SourceMessages, WarningMessage, messages_of};
 pub use names::Sort;
 pub use notes::{CardNotes, Note, notes_of_cards, notes_under};
-pub use source::SourceRange;
+pub use source::{HIDDEN, SourceRange};

@@ -74,9 +74,12 @@ pub fn push_program(text: &mut String, cards: &[Card]) -> Result<(), AllocError>
     push_characters(text, trim_end(&program_of(cards).codes))
 }
 
-/// Whether a number is one of those that hide the others.
-fn hides(diagnostic: &Diagnostic) -> bool {
-    diagnostic.number < 5 || diagnostic.number == 13
+/// What is printed if diagnostics hide others.
+pub const HIDDEN: &str = "05 to 12 are hidden: they are looked for once 01 to 04 and 13 are mended";
+
+/// Whether the diagnostic of a number is one of those that hide the others.
+pub(crate) fn hides(number: u8) -> bool {
+    number < 5 || number == 13
 }
 
 /// Appends what is wrong with a card, by its number from 1.
@@ -93,6 +96,25 @@ fn push_notes(
     Ok(())
 }
 
+/// Appends the name of the file of a card, by its number from 1, if the card before it is of another file.
+fn push_next_file(
+    text: &mut String,
+    files: &DeckText<'_>,
+    number: usize,
+) -> Result<(), AllocError> {
+    let (Some(place), Some(before)) = (
+        files.place_of(number).place,
+        files.place_of(number.saturating_sub(1)).place,
+    ) else {
+        return Ok(());
+    };
+    if place.file == before.file {
+        return Ok(());
+    }
+    let file = place.file;
+    writeln!(text, "{file}:")
+}
+
 /// Appends a card of a deck, by its number from 1, and what is wrong with it.
 fn push_source_card(
     text: &mut String,
@@ -106,6 +128,7 @@ fn push_source_card(
         return Ok(());
     };
     let margin = cards.margin;
+    push_next_file(text, cards.files, number_in_deck)?;
     push_card(text, margin, Numbers::of(cards.files, number_in_deck), card)?;
     push_notes(text, margin, notes, number)?;
     push_warnings(text, alloc, margin, &notes.warnings, number)
@@ -131,11 +154,11 @@ fn push_cards(
 fn push_run(
     text: &mut String,
     cards: &NumberedCards<'_>,
-    notes: &CardNotes,
+    notes: &SourceNotes,
     run_card: u16,
 ) -> Result<(), AllocError> {
-    let notes = notes_under(notes, run_card);
-    if notes.is_empty() {
+    let found = notes_under(&notes.diagnostics, run_card);
+    if found.is_empty() {
         return Ok(());
     }
     let number = usize::from(run_card);
@@ -144,8 +167,9 @@ fn push_run(
     };
     let margin = cards.margin;
     push_card(text, margin, Numbers::of(cards.files, number), card)?;
-    for note in notes {
+    for note in found {
         push_diagnostic(text, margin, note.number, &[keyword_columns(card)])?;
+        push_reason(text, margin, notes.reasons.of(run_card, note.number))?;
     }
     Ok(())
 }
@@ -158,10 +182,10 @@ fn push_count(text: &mut String, found: &[Diagnostic]) -> Result<(), AllocError>
         1 => text.push_str("\n1 diagnostic\n")?,
         _ => writeln!(text, "\n{count} diagnostics")?,
     }
-    if !found.iter().any(|diagnostic| hides(diagnostic)) {
+    if !found.iter().any(|diagnostic| hides(diagnostic.number)) {
         return Ok(());
     }
-    text.push_str("05 to 12 are hidden: they are looked for once 01 to 04 and 13 are mended\n")
+    writeln!(text, "{HIDDEN}")
 }
 
 /// Appends how many warnings there are, if any.
@@ -230,7 +254,7 @@ fn push_noted_cards(
     requires { range.to ≤ 9_999 }
 {
     push_ruler(text, cards.margin)?;
-    push_run(text, cards, &notes.diagnostics, run_card)?;
+    push_run(text, cards, notes, run_card)?;
     push_cards(text, alloc, cards, range, notes)
 }
 

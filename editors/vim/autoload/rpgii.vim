@@ -60,11 +60,30 @@ function! rpgii#Kind(card) abort
   return l:sheet . " field"
 endfunction
 
+" Whether nothing of a card shows yet whether it is one of a record or of a field. Its kind is then that of a field.
+function! s:IsUndecided(card) abort
+  let l:first = get(g:rpgii_entries#fields, strcharpart(a:card, 5, 1), 75)
+  return rpgii#Kind(a:card) =~# ' field$' && strcharpart(a:card, l:first - 1, 75 - l:first) !~# '\S'
+endfunction
+
+" The entries of a card. One that isn't decided has those of a record too, except in columns of a field's entries.
+function! s:Entries(card) abort
+  let l:entries = get(g:rpgii_entries#cards, rpgii#Kind(a:card), [])
+  if !s:IsUndecided(a:card)
+    return l:entries
+  endif
+  let l:others = copy(g:rpgii_entries#cards[strcharpart(a:card, 5, 1) . " record"])
+  for l:entry in l:entries
+    call filter(l:others, 'v:val.to < l:entry.from || l:entry.to < v:val.from')
+  endfor
+  return l:others + l:entries
+endfunction
+
 " The entry of a column of a card; empty if it has none. If two entries share the column, it is the one whose values the card has, or the
 " later one.
 function! rpgii#EntryAt(card, column) abort
   let l:found = {}
-  for l:entry in get(g:rpgii_entries#cards, rpgii#Kind(a:card), [])
+  for l:entry in s:Entries(a:card)
     if l:entry.from <= a:column && a:column <= l:entry.to
       let l:found = l:entry
       if index(l:entry.values, trim(strcharpart(a:card, l:entry.from - 1, l:entry.to - l:entry.from + 1))) >= 0

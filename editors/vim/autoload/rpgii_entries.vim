@@ -3,6 +3,9 @@
 " the columns that a tab goes to, by sheet
 let g:rpgii_entries#stops = {'H': [7, 75], 'F': [7, 15, 16, 17, 18, 19, 20, 24, 28, 29, 31, 32, 33, 35, 40, 66, 71, 75], 'I': [7, 15, 19, 21, 25, 26, 27, 28, 32, 33, 34, 35, 39, 40, 41, 43, 44, 48, 52, 53, 59, 61, 63, 65, 67, 69, 75], 'C': [7, 9, 12, 15, 18, 28, 33, 43, 49, 52, 53, 54, 56, 58, 60, 75], 'O': [7, 15, 16, 18, 19, 21, 23, 26, 29, 32, 38, 39, 40, 44, 45, 75]}
 
+" the first column that only a card of a field has, by sheet
+let g:rpgii_entries#fields = {'I': 42, 'O': 32}
+
 " the entries of each kind of card
 let g:rpgii_entries#cards = {}
 let g:rpgii_entries#cards['H card'] = [

@@ -30,10 +30,3 @@ are_of card number entries marked = list_all (is_of card number entries) marked
 -- an entry is one of the table's for its number on this line
 abbrev pub is_listed_on : FaultyEntry → Line → Bool
 is_listed_on entry line = is_of line.card entry.number (entries_on line.sheet entry.number) entry
-
-abbrev pub are_listed_on : Line → List FaultyEntry → Bool
-are_listed_on line marked = list_all (λ entry. is_listed_on entry line) marked
-
--- .. on one of some lines
-abbrev pub is_listed : List Line → FaultyEntry → Bool
-is_listed lines entry = list_any (is_listed_on entry) lines

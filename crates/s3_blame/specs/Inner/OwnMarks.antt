@@ -1,4 +1,4 @@
--- Entries that are marked for what their own cards say, whatever else the source has.
+-- Entries that are marked for what their own cards say, and by 5 for what the lines of the source define.
 use Rattle.std.specs.Prelude.{◌≡◌, ◌≢◌, ◌<◌, ◌++◌, ◌||◌, ◌&&◌, ◌==◌, not, ℕ, Bool, true, List, [], ◌∷◌, length, map, drop, get_or, if◌then◌else◌}
 use Rattle.std.specs.List.{list_all, list_any}
 use Rattle.s3_lines.specs.declared.diagnostic.Diagnostic.{Diagnostic}
@@ -16,7 +16,8 @@ use Rattle.s3_program.specs.FileTable.{is_card_file, is_print_file}
 use Rattle.s3_program.specs.Indications.{is_overflow_entry}
 use Rattle.s3_sheets.specs.declared.parts.FaultyEntry.{FaultyEntry}
 use Rattle.s3_blame.specs.Inner.Changes.{Entry}
-use Rattle.s3_blame.specs.Inner.Marks.{has_columns}
+use Rattle.s3_blame.specs.Inner.Marks.{has_columns, is_listed_on}
+use Rattle.s3_blame.specs.Inner.Names.{Names, unknown_in}
 
 -- ---- what is marked
 -- those entries at whose places the list has true
@@ -64,10 +65,15 @@ marks_of_input (input.Field field) number = marks_of_field number
 abbrev pub resulting : List Entry
 resulting = (54, 55) ∷ (56, 57) ∷ (58, 59) ∷ []
 
--- 7: each overflow indicator. 10: factor 2
-abbrev pub marks_of_calculation : CalculationLine Name → (number : ℕ) → List Entry
-marks_of_calculation line number =
-    if number == 7 then chosen (map is_overflow_entry line.indicators) resulting else if number == 10 then (33, 42) ∷ [] else []
+-- factor 1, factor 2 and the result
+abbrev pub operands : List Entry
+operands = (18, 27) ∷ (33, 42) ∷ (43, 48) ∷ []
+
+-- 5: each name that isn't defined. 7: each overflow indicator. 10: factor 2
+abbrev pub marks_of_calculation : Names → CalculationLine Name → (number : ℕ) → List Entry
+marks_of_calculation names line number =
+    if number == 5 then chosen (unknown_in names line) operands
+    else if number == 7 then chosen (map is_overflow_entry line.indicators) resulting else if number == 10 then (33, 42) ∷ [] else []
 
 -- 5: the name of a line's file
 abbrev pub marks_of_output_line : (number : ℕ) → List Entry
@@ -83,12 +89,12 @@ marks_of_output (output.And conditions) number = marks_of_word number
 marks_of_output (output.Or conditions) number = marks_of_word number
 marks_of_output (output.Field field) number = marks_of_output_field number
 
-abbrev pub own_marks : SheetLine → (number : ℕ) → List Entry
-own_marks (sheet.Header name) number = []
-own_marks (sheet.File file) number = marks_of_file file number
-own_marks (sheet.Input line) number = marks_of_input line number
-own_marks (sheet.Calculation line) number = marks_of_calculation line number
-own_marks (sheet.Output line) number = marks_of_output line number
+abbrev pub own_marks : Names → SheetLine → (number : ℕ) → List Entry
+own_marks names (sheet.Header name) number = []
+own_marks names (sheet.File file) number = marks_of_file file number
+own_marks names (sheet.Input line) number = marks_of_input line number
+own_marks names (sheet.Calculation line) number = marks_of_calculation names line number
+own_marks names (sheet.Output line) number = marks_of_output line number
 
 -- ---- marks
 -- an entry is marked for a number of a card
@@ -104,12 +110,28 @@ abbrev pub are_marked : (card number : ℕ) → List Entry → List FaultyEntry 
 are_marked card number entries marked = list_all (is_marked card number marked) entries
 
 -- for a number of a line's card each entry is marked that has to be
-abbrev pub HasMarks : Line → List FaultyEntry → (number : ℕ) → Type 0
-HasMarks line marked number = are_marked line.card number (own_marks line.sheet number) marked ≡ true
+abbrev pub HasMarks : Names → Line → List FaultyEntry → (number : ℕ) → Type 0
+HasMarks names line marked number = are_marked line.card number (own_marks names line.sheet number) marked ≡ true
 
 -- .. for each diagnostic of these that is of the card
-abbrev pub HasAllMarks : List Diagnostic → List FaultyEntry → Line → Type 0
-HasAllMarks told marked line = (k : ℕ) (d : Diagnostic) → k < length told → (get_or told k d).card ≡ line.card → HasMarks line marked (get_or told k d).number
+abbrev pub HasAllMarks : Names → List Diagnostic → List FaultyEntry → Line → Type 0
+HasAllMarks names told marked line = (k : ℕ) (d : Diagnostic) → k < length told → (get_or told k d).card ≡ line.card → HasMarks names line marked (get_or told k d).number
+
+-- ---- which marks there are
+-- an entry that is marked for 5 is one of the names that 5 marks on the line's card
+abbrev pub is_named : Names → Line → FaultyEntry → Bool
+is_named names line entry = not (entry.number == 5) || list_any (has_columns entry) (own_marks names line.sheet 5)
+
+-- an entry is one of the table's for its number on a line's card, and for 5 one of these names
+abbrev pub is_mark_on : Names → FaultyEntry → Line → Bool
+is_mark_on names entry line = is_listed_on entry line && is_named names line entry
+
+abbrev pub are_marks_on : Names → Line → List FaultyEntry → Bool
+are_marks_on names line marked = list_all (λ entry. is_mark_on names entry line) marked
+
+-- .. of one of some lines
+abbrev pub is_mark_among : Names → List Line → FaultyEntry → Bool
+is_mark_among names lines entry = list_any (is_mark_on names entry) lines
 
 -- ---- steps
 -- the diagnostics from the first on that isn't of a card before this one
@@ -120,13 +142,13 @@ pub record BeginsAt (card : ℕ) (told rest : List Diagnostic) : Type 0 where
   pub first : (d : Diagnostic) → passed < length told → ((get_or told passed d).card < card) → ⊥
 
 -- each of the first diagnostics has its marks, up to one that is of another card
-pub record MarksFirst (line : Line) (told : List Diagnostic) (marked : List FaultyEntry) : Type 0 where
+pub record MarksFirst (names : Names) (line : Line) (told : List Diagnostic) (marked : List FaultyEntry) : Type 0 where
   pub count : ℕ
-  pub each : (k : ℕ) (d : Diagnostic) → k < count → HasMarks line marked (get_or told k d).number
+  pub each : (k : ℕ) (d : Diagnostic) → k < count → HasMarks names line marked (get_or told k d).number
   pub end : (d : Diagnostic) → count < length told → (get_or told count d).card ≢ line.card
 
 -- a line's marks are appended
-pub record PassesLine (lines : List Line) (place : ℕ) (told : List Diagnostic) (old new : List FaultyEntry) : Type 0 where
+pub record PassesLine (names : Names) (lines : List Line) (place : ℕ) (told : List Diagnostic) (old new : List FaultyEntry) : Type 0 where
   pub more : List FaultyEntry
   pub added : new ≡ old ++ more
-  pub first : (line : Line) → place < length lines → line ≡ get_or lines place line → MarksFirst line told more
+  pub first : (line : Line) → place < length lines → line ≡ get_or lines place line → MarksFirst names line told more

@@ -1,7 +1,9 @@
 -- The page of a day.
-use Rattle.std.specs.Prelude.{ℕ, ◌-◌, List, [], ◌∷◌, ◌++◌, Option, Some, None, codes, length, max, option_map}
+use Rattle.std.specs.Prelude.{ℕ, Bool, ◌==◌, if◌then◌else◌, List, [], ◌∷◌, ◌++◌, Option, Some, None, codes, length, max, option_map}
 use Rattle.std.specs.List.{flat_map}
 use Rattle.s3_cards.specs.Inner.Levels.{level_number}
+use Rattle.s3_cards.specs.declared.levels.LevelId.{LevelId}
+use Rattle.s3_cards.specs.declared.levels.LevelId.TheVariants.{One, Two}
 use Rattle.s3_book.specs.declared.day.ChangedFile.{ChangedFile}
 use Rattle.s3_book.specs.declared.day.Day.{Day}
 use Rattle.s3_book.specs.declared.day.Extent.{Extent}
@@ -10,7 +12,7 @@ use Rattle.s3_book.specs.declared.day.Job.{Job}
 use Rattle.s3_book.specs.declared.day.Region.{Region}
 use Rattle.s3_book.specs.Inner.Parts.{Piece, markup, value, link, number, page_of}
 use Rattle.s3_book.specs.Inner.Reports.{closing, opening}
-use Rattle.s3_book.specs.Inner.Scale.{lane, scaled, width}
+use Rattle.s3_book.specs.Inner.Scale.{begin, end, fits, lane, scaled, span, width}
 
 -- ---- the parts of rows and of what is around them
 
@@ -18,6 +20,26 @@ use Rattle.s3_book.specs.Inner.Scale.{lane, scaled, width}
 abbrev pub count_piece : Option ℕ → Piece
 count_piece (Some count) = number count
 count_piece None = markup (codes "no file")
+
+-- when a halt has its reply, or else the day's last turn
+abbrev pub until : (turns : ℕ) → Option ℕ → ℕ
+until turns (Some turn) = turn
+until turns None = turns
+
+-- what comes between the turn of a halt and the turn of its reply
+abbrev pub reply_piece : Option ℕ → Piece
+reply_piece (Some turn) = markup (codes ", waits until its reply at turn ")
+reply_piece None = markup (codes ", waits at the end of the day, turn ")
+
+-- the class of the files of a region
+abbrev pub area_piece : Option LevelId → Piece
+area_piece (Some One) = markup (codes "level1")
+area_piece (Some Two) = markup (codes "level2")
+area_piece None = markup (codes "masters")
+
+-- a part of a label, if the label fits
+abbrev pub shown_piece : Bool → Piece → Piece
+shown_piece is_shown piece = if is_shown then piece else markup []
 
 -- the title, what the day was begun with, the status and the summary
 abbrev pub head : Day → List Piece
@@ -36,18 +58,33 @@ head day =
 -- what the line of time begins with
 abbrev pub line_head : List Piece
 line_head =
-    markup (codes "<h2>Jobs by turn</h2>\n<svg class=\"chart\" viewBox=\"0 0 1000 64\" role=\"img\" aria-label=\"Jobs by turn\">\n<rect class=\"lane\" width=\"1000\" height=\"30\"/>\n<rect class=\"lane\" y=\"34\" width=\"1000\" height=\"30\"/>\n")
+    markup (codes "<h2>Jobs by turn</h2>\n<svg class=\"chart\" viewBox=\"0 0 1000 64\" role=\"img\" aria-label=\"Jobs by turn\">\n<defs><pattern id=\"waits\" width=\"6\" height=\"6\" patternUnits=\"userSpaceOnUse\" patternTransform=\"rotate(45)\"><rect class=\"stripe\" width=\"3\" height=\"6\"/></pattern></defs>\n<rect class=\"lane\" width=\"1000\" height=\"30\"/>\n<rect class=\"lane\" y=\"34\" width=\"1000\" height=\"30\"/>\n")
     ∷ []
 
--- a job on the line of time
-abbrev pub bar : (turns : ℕ) → Job → List Piece
-bar turns j =
+-- where the bar of a job may begin, given the end of the bar before it: the first job of a level has no job before it
+abbrev pub start_of : (edge : ℕ) → Job → ℕ
+start_of edge j = if j.number == 1 then 0 else edge
+
+-- where the bar of a job begins and how wide it is, given where it may begin
+abbrev pub left_of : (turns start : ℕ) → Job → ℕ
+left_of turns start j = begin turns start j.first
+
+abbrev pub wide_of : (turns start : ℕ) → Job → ℕ
+wide_of turns start j = span turns (left_of turns start j) j.last
+
+-- whether the label of a job fits into its bar, with the job's number
+abbrev pub is_labelled : (turns start : ℕ) → Job → Bool
+is_labelled turns start j = fits (wide_of turns start j) 48 (length j.program.now)
+
+-- a job on the line of time, given where its bar may begin
+abbrev pub bar : (turns start : ℕ) → Job → List Piece
+bar turns start j =
     markup (codes "<svg x=\"")
-    ∷ number (scaled turns j.first)
+    ∷ number (left_of turns start j)
     ∷ markup (codes "\" y=\"")
     ∷ number (lane j.level)
     ∷ markup (codes "\" width=\"")
-    ∷ number (width turns (j.last - j.first))
+    ∷ number (wide_of turns start j)
     ∷ markup (codes "\" height=\"30\"><title>level ")
     ∷ number (level_number j.level)
     ∷ markup (codes ", job ")
@@ -60,21 +97,45 @@ bar turns j =
     ∷ number j.first
     ∷ markup (codes " to ")
     ∷ number j.last
+    ∷ markup (codes ", ")
+    ∷ value j.ending.now
     ∷ markup (codes "</title><rect class=\"level")
     ∷ number (level_number j.level)
     ∷ markup (codes "\" width=\"1000\" height=\"30\"/><text x=\"4\" y=\"20\">")
-    ∷ number j.number
+    ∷ shown_piece (is_labelled turns start j) (number j.number)
     ∷ markup (codes " ")
-    ∷ value j.program.now
+    ∷ shown_piece (is_labelled turns start j) (value j.program.now)
     ∷ markup (codes "</text></svg>\n")
+    ∷ []
+
+-- what comes between the jobs and the halts on the line of time
+abbrev pub line_middle : List Piece
+line_middle = markup (codes "<g>\n") ∷ []
+
+-- a halt on the line of time, and how long it waits
+abbrev pub mark : (turns : ℕ) → Halt → List Piece
+mark turns h =
+    markup (codes "<svg x=\"")
+    ∷ number (begin turns 0 h.turn)
+    ∷ markup (codes "\" y=\"")
+    ∷ number (lane h.level)
+    ∷ markup (codes "\" width=\"")
+    ∷ number (span turns (begin turns 0 h.turn) (until turns h.replied))
+    ∷ markup (codes "\" height=\"30\"><title>")
+    ∷ value h.letters.now
+    ∷ markup (codes " at turn ")
+    ∷ number h.turn
+    ∷ reply_piece h.replied
+    ∷ number (until turns h.replied)
+    ∷ markup (codes "</title><rect fill=\"url(#waits)\" width=\"1000\" height=\"30\"/><rect class=\"mark\" width=\"6\" height=\"30\"/></svg>\n")
     ∷ []
 
 -- what the line of time ends with
 abbrev pub line_foot : (turns : ℕ) → List Piece
 line_foot turns =
-    markup (codes "</svg>\n<p>Level 1 is above level 2. The whole line is ")
+    markup (codes "</g>\n</svg>\n<p>Level 1 is above level 2. The whole line is ")
     ∷ number turns
-    ∷ markup (codes " turns of both levels.</p>\n")
+    ∷ markup (codes " turns of both levels. A turn is numbered by the turns that both levels together had taken. A bar begins where the job before it was over; a job of few turns has a wider bar, which moves the next one.</p>\n<p><svg class=\"key\" width=\"6\" height=\"14\"><rect class=\"mark\" width=\"6\" height=\"14\"/></svg> A halt. <svg class=\"key\" width=\"30\" height=\"14\"><rect class=\"level1\" width=\"30\" height=\"14\"/><rect fill=\"url(#waits)\" width=\"30\" height=\"14\"/></svg> The job waits for the reply.</p>\n")
     ∷ []
 
 -- what the table of jobs begins with
@@ -126,7 +187,7 @@ abbrev pub halts_head : (count : ℕ) → List Piece
 halts_head count =
     markup (codes "<h2>Halts: ")
     ∷ number count
-    ∷ markup (codes "</h2>\n<table>\n<tr><th>Level</th><th>Job</th><th>Halt</th><th>Reply</th></tr>\n")
+    ∷ markup (codes "</h2>\n<table>\n<tr><th>Level</th><th>Job</th><th>Turn</th><th>Halt</th><th>Reply</th></tr>\n")
     ∷ []
 
 -- a halt
@@ -136,6 +197,8 @@ halt_row h =
     ∷ number (level_number h.level)
     ∷ markup (codes "</td><td>")
     ∷ number h.job
+    ∷ markup (codes "</td><td>")
+    ∷ number h.turn
     ∷ markup (codes "</td><td><pre>")
     ∷ value h.words.now
     ∷ markup (codes "</pre></td><td>")
@@ -180,7 +243,9 @@ region_head whole r =
     ∷ number r.tracks
     ∷ markup (codes " tracks, ")
     ∷ number r.free
-    ∷ markup (codes " free</p>\n<svg class=\"chart\" viewBox=\"0 0 1000 30\" role=\"img\" aria-label=\"Files by track\">\n<rect class=\"lane\" width=\"")
+    ∷ markup (codes " free</p>\n<svg class=\"chart ")
+    ∷ area_piece r.level
+    ∷ markup (codes "\" viewBox=\"0 0 1000 30\" role=\"img\" aria-label=\"Files by track\">\n<rect class=\"lane\" width=\"")
     ∷ number (width whole r.tracks)
     ∷ markup (codes "\" height=\"30\"/>\n")
     ∷ []
@@ -195,7 +260,7 @@ extent_bar whole e =
     ∷ markup (codes "\" height=\"30\"><title>")
     ∷ value e.name.now
     ∷ markup (codes "</title><rect class=\"file\" width=\"1000\" height=\"30\"/><text x=\"4\" y=\"20\">")
-    ∷ value e.name.now
+    ∷ shown_piece (fits (width whole e.tracks) 8 (length e.name.now)) (value e.name.now)
     ∷ markup (codes "</text></svg>\n")
     ∷ []
 
@@ -225,9 +290,14 @@ row_foot = markup (codes "</td></tr>\n") ∷ []
 
 -- ---- sections
 
--- the jobs on a line of time
-abbrev pub time_line : (turns : ℕ) → List Job → List ℕ
-time_line turns jobs = page_of line_head ++ flat_map (λ j. page_of (bar turns j)) jobs ++ page_of (line_foot turns)
+-- the bars of jobs, given the end of the bar before them
+abbrev pub bars : (turns edge : ℕ) → List Job → List ℕ
+bars turns edge [] = []
+bars turns edge (j ∷ jobs) = page_of (bar turns (start_of edge j) j) ++ bars turns (end turns (start_of edge j) j.first j.last) jobs
+
+-- the jobs on a line of time, with their halts
+abbrev pub time_line : (turns : ℕ) → List Job → List Halt → List ℕ
+time_line turns jobs halts = page_of line_head ++ bars turns 0 jobs ++ page_of line_middle ++ flat_map (λ h. page_of (mark turns h)) halts ++ page_of (line_foot turns)
 
 -- a link to a report, if a job printed
 abbrev pub link_of : Option (List ℕ) → List ℕ
@@ -268,7 +338,7 @@ pack_map regions = page_of map_head ++ flat_map (λ r. region_text (largest regi
 
 -- what happened: jobs, halts, files
 abbrev pub events : Day → List ℕ
-events day = time_line day.turns day.jobs.now ++ jobs_table day.jobs.now ++ halts_table day.halts.now ++ files_table day.files.now
+events day = time_line day.turns day.jobs.now day.halts.now ++ jobs_table day.jobs.now ++ halts_table day.halts.now ++ files_table day.files.now
 
 -- the page of a day
 abbrev pub index_page : Day → List ℕ

@@ -118,6 +118,10 @@ program_json deck job program messages tables = object_named (
 abbrev pub kind_word : (is_compile : Bool) → List ℕ
 kind_word is_compile = if is_compile then codes "compile" else codes "run"
 
+-- .. or why it does nothing
+abbrev pub faulty_word : List ℕ
+faulty_word = codes "faulty"
+
 -- a file of a job, with its label on the pack
 abbrev pub used_file_json : (name label : List ℕ) → Json
 used_file_json name label = object_named ((codes "name", string name) ∷ (codes "label", string label) ∷ [])

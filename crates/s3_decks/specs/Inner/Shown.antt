@@ -1,4 +1,4 @@
--- Which characters a terminal shows as they are.
+-- Which characters a terminal shows, and a shell takes, as they are.
 use Rattle.std.specs.Prelude.{ℕ, Bool, not, ◌&&◌, ◌||◌, ◌==◌, nat_le}
 
 abbrev pub is_within : ℕ → ℕ → ℕ → Bool
@@ -12,3 +12,9 @@ is_hidden code =
 
 abbrev pub is_shown : ℕ → Bool
 is_shown code = not (is_hidden code)
+
+-- letters, digits, the signs % + , - . / : @ _ and what a terminal shows beyond ASCII
+abbrev pub is_plain : ℕ → Bool
+is_plain code =
+    (code == 0x25) || is_within 0x2b 0x3a code || is_within 0x40 0x5a code || (code == 0x5f) || is_within 0x61 0x7a code
+    || (nat_le 0x80 code && is_shown code)

@@ -16,7 +16,7 @@ use Rattle.s3_desk.specs.declared.day.Day.{Day}
 use Rattle.s3_desk.specs.declared.ends.Bounds.{Bounds}
 use Rattle.s3_desk.specs.declared.ends.End.TheVariants.{Halted}
 use Rattle.s3_desk.specs.declared.ends.Ends.{Ends}
-use Rattle.s3_desk.specs.Inner.Desk.{AreMet, EndsAs, HasReached}
+use Rattle.s3_desk.specs.Inner.Desk.{AreMet, EndsAs, HasReached, IsPastReply}
 use Rattle.s3_desk.specs.Inner.Events.{Event}
 use Rattle.s3_desk.specs.Inner.Moments.{AllShown, AskedInVain, EachFits, InTime, IsFollowed, Moment, events_in, performed_in}
 
@@ -54,7 +54,7 @@ pub record IsAnswered {O : Type 0} (meets : O → Event → O → Type 0) (start
   pub day : List Moment
   pub whole : entries ≡ performed_in day
   pub met : AreMet meets from (events_in day) to
-  pub fits : EachFits (InTime starts (λ level entries. HasReached level [] entries bounds)) [] day
+  pub fits : EachFits (InTime starts (λ level entries. IsPastReply level [] entries) (λ level entries. HasReached level [] entries bounds)) [] day
   pub shown : (level : LevelId) → AllShown starts day level
   pub followed : IsFollowed day
   pub one_halted : ends.one ≡ Halted → AskedInVain One day

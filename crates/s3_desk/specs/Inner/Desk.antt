@@ -1,5 +1,5 @@
 -- What is done at a desk.
-use Rattle.std.specs.Prelude.{◌≡◌, ◌≢◌, ◌⊎◌, ◌+◌, ◌*◌, ◌-◌, ◌≤◌, ◌<◌, ℕ, Bool, true, false, List, [], ◌∷◌, ◌++◌, length, filter, replicate, Option, Some, None, Result, Ok, Err}
+use Rattle.std.specs.Prelude.{◌≡◌, ◌≢◌, ◌⊎◌, ◌+◌, ◌*◌, ◌-◌, ◌≤◌, ◌<◌, ℕ, zero, suc, Bool, true, false, List, [], ◌∷◌, ◌++◌, length, filter, replicate, Option, Some, None, Result, Ok, Err}
 use Rattle.std.specs.List.{list_all}
 use Rattle.s3_cards.specs.Inner.Levels.{other}
 use Rattle.s3_cards.specs.Printed.{Printed}
@@ -60,13 +60,23 @@ turns_in level entries = length (filter is_turn (own level entries))
 abbrev pub lines_in : LevelId → List Entry → ℕ
 lines_in level entries = length (filter is_drain (own level entries))
 
--- The last entries of a level are so many replies, after all that it had taken at first: with no turn and no line between them.
+-- The last entries of a level, after all that it had taken at first, are just so many replies: with no turn and no line between them.
 pub record RepliesLast (level : LevelId) (first is : List Entry) (count : ℕ) : Type 0 where
   pub before : List Action
   pub replies : List Action
   pub whole : own level is ≡ own level first ++ (before ++ replies)
   pub are_replies : list_all is_reply replies ≡ true
-  pub many : count ≤ length replies
+  pub many : length replies ≡ count
+  pub no_more : (actions : List Action) (digit : ℕ) → before ≢ actions ++ Reply digit ∷ []
+
+-- the last entry of a level isn't its first turn after a reply
+abbrev pub IsPastReply : (level : LevelId) (first is : List Entry) → Type 0
+IsPastReply level first is = (actions : List Action) (digit : ℕ) → own level is ≢ own level first ++ (actions ++ Reply digit ∷ Turn ∷ [])
+
+-- how many turns a level takes at most before the operator follows, by the replies that it took since it went on last
+abbrev pub stride_of : (answers : ℕ) → ℕ
+stride_of zero = 1000
+stride_of (suc answers) = 1
 
 -- if so many replies were the last entries of a level, so many are now
 abbrev pub Counts : (level : LevelId) (was is : List Entry) (old new : ℕ) → Type 0
@@ -143,9 +153,10 @@ module _ {M : Type 0} (holds : M → LevelId → World → Type 0) where
   abbrev pub HasDrained : LevelId → M → List Printed → Type 0
   HasDrained level now lines = (w : World) → holds now level w → lines ≡ drained_lines w.lines
 
-  -- a level that was reported as over is so
-  abbrev pub TellsOver : LevelId → M → Bool → Type 0
-  TellsOver level now is_over = is_over ≡ true → (w : World) → holds now level w → IsOver w
+  -- a level is reported as over exactly if it is so
+  pub record TellsOver (level : LevelId) (now : M) (is_over : Bool) : Type 0 where
+    pub so : is_over ≡ true → (w : World) → holds now level w → IsOver w
+    pub only : (w : World) → holds now level w → IsOver w → is_over ≡ true
 
   -- an operator followed a level: it was given what both levels have printed, and what was performed
   pub record Follows {O : Type 0} (meets : O → Event → O → Type 0) (level : LevelId) (is : List Entry) (now : M) (from to : O) : Type 0 where
@@ -161,15 +172,16 @@ module _ {M : Type 0} (holds : M → LevelId → World → Type 0) where
   abbrev pub FollowsAll : {O : Type 0} → (O → Event → O → Type 0) → LevelId → (was is : List Entry) → M → O → O → Type 0
   FollowsAll meets level was is now old new = ((is ≡ was) × (new ≡ old)) ⊎ Follows meets level is now old new
 
-  -- a level has taken so many turns and done nothing else, and none of them but the last has ended a job
-  pub record TakesStride (level : LevelId) (was is : List Entry) (old : M) : Type 0 where
+  -- a level has taken so many turns, at most a stride, and done nothing else; and none of them but the last has ended a job
+  pub record TakesStride (stride : ℕ) (level : LevelId) (was is : List Entry) (old : M) : Type 0 where
     pub times : ℕ
+    pub few : times ≤ stride
     pub whole : is ≡ was ++ replicate times (record { level = level; action = Turn })
     pub at_work : StopsAtEnd Turn times (holds old level)
 
-  -- a level has taken turns up to the end of a job, or drained lines, but not both
-  abbrev pub StepsAlike : LevelId → (was is : List Entry) → (old : M) → Type 0
-  StepsAlike level was is old = TakesStride level was is old ⊎ TakesLines level was is
+  -- a level has taken a stride of turns up to the end of a job, or drained lines, but not both
+  abbrev pub StepsAlike : (stride : ℕ) → LevelId → (was is : List Entry) → (old : M) → Type 0
+  StepsAlike stride level was is old = TakesStride stride level was is old ⊎ TakesLines level was is
 
   -- whatever was performed before, these entries have been performed now
   abbrev pub GoesOn : (was is : List Entry) → (old new : M) → Type 0

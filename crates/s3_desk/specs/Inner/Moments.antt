@@ -136,18 +136,21 @@ module _ (starts : LevelId → World) where
     pub one_printed : one ≡ drained_lines (world_after before One).lines
     pub two_printed : two ≡ drained_lines (world_after before Two).lines
     pub one_over : is_one_over ≡ true → IsOver (world_after before One)
+    pub only_over : IsOver (world_after before One) → is_one_over ≡ true
     pub performed : entries ≡ performed_in before
-
-  -- what the operator hasn't followed before a turn are turns of the same level, none of which has ended a job
-  abbrev pub MayTurn : List Moment → LevelId → Type 0
-  MayTurn before level = IsFollowed before ⊎ ((due_in None before ≡ Some (turn_of level)) × (is_some (world_after before level).job ≡ true))
 
   -- what the operator hasn't followed before a drain are drains of the same level
   abbrev pub MayDrain : List Moment → LevelId → Type 0
   MayDrain before level = IsFollowed before ⊎ (due_in None before ≡ Some (drain_of level))
 
-  -- `IsCut` says that a level has come to a limit by these entries
-  module _ (IsCut : LevelId → List Entry → Type 0) where
+  -- These say of a level and of the entries so far: the last one isn't its first turn after a reply (`IsPast`); it has come to a limit
+  -- (`IsCut`).
+  module _ (IsPast IsCut : LevelId → List Entry → Type 0) where
+    -- What the operator hasn't followed before a turn are turns of the same level, none of which has ended a job, or was its first turn
+    -- after a reply.
+    abbrev pub MayTurn : List Moment → LevelId → Type 0
+    MayTurn before level = IsFollowed before ⊎ ((due_in None before ≡ Some (turn_of level)) × ((is_some (world_after before level).job ≡ true) × IsPast level (performed_in before)))
+
     -- a reply is asked for when the halt waits and was shown, its level is at rest, and the other level is at rest or at a limit
     pub record AskedInTime (before : List Moment) (level : LevelId) (halt : ShownHalt) : Type 0 where
       pub waits : Waits (world_after before level).halts halt

@@ -12,7 +12,7 @@ use Rattle.s3_desk.specs.declared.ends.End.TheVariants.{Halted}
 use Rattle.s3_desk.specs.declared.ends.Ends.{Ends}
 use Rattle.s3_desk.specs.declared.desk.Went.{Went}
 use Rattle.s3_desk.specs.declared.desk.Went.TheVariants.{Rests}
-use Rattle.s3_desk.specs.Inner.Desk.{AreMet, FollowsAll, GoesOn, Keeps, StepsAlike}
+use Rattle.s3_desk.specs.Inner.Desk.{AreMet, FollowsAll, GoesOn, Keeps, StepsAlike, stride_of}
 use Rattle.s3_desk.specs.Inner.Events.{Asked, Event, Shown}
 use Rattle.s3_desk.specs.Inner.Moments.{AllShown, AskedInVain, EachFits, InTime, IsFollowed, IsNew, Moment, Waits, as_shown, events_in, performed_in, reply_to, shown_in, world_after}
 
@@ -48,9 +48,9 @@ IsLeftSo starts day one two (Some ends) =
     ((level : LevelId) → AllShown starts day level) × ((ends.one ≡ Halted → AskedInVain One day) × (ends.two ≡ Halted → AskedInVain Two day))
 
 -- ---- a day goes on, or is over
-pub record Sits {O : Type 0} (meets : O → Event → O → Type 0) (starts : LevelId → World) (IsCut : LevelId → List Entry → Type 0) (before : List Moment) (is : List Entry) (from to : O) (one two : Bool) (ends : Option Ends) : Type 0 where
+pub record Sits {O : Type 0} (meets : O → Event → O → Type 0) (starts : LevelId → World) (IsPast IsCut : LevelId → List Entry → Type 0) (before : List Moment) (is : List Entry) (from to : O) (one two : Bool) (ends : Option Ends) : Type 0 where
   pub day : List Moment
-  pub passes : Passes meets (InTime starts IsCut) before day is from to
+  pub passes : Passes meets (InTime starts IsPast IsCut) before day is from to
   pub left : IsLeftSo starts (before ++ day) one two ends
   pub followed : IsFollowed (before ++ day)
 
@@ -85,13 +85,13 @@ module _ {M : Type 0} (holds : M → LevelId → World → Type 0) where
     abbrev pub ShowsHalt : (level : LevelId) (old : M) (from to : O) (was_shown is_shown : Bool) → Type 0
     ShowsHalt level old from to was_shown is_shown = ShowsNone level old from to was_shown is_shown ⊎ ShowsOne level old from to was_shown is_shown
 
-    -- a level has gone on, the operator has followed that, and a halt that has come was shown
-    pub record Serves (level : LevelId) (was is : List Entry) (old new : M) (from to : O) (was_shown is_shown : Bool) : Type 0 where
+    -- a level that had taken so many replies has gone on, the operator has followed that, and a halt that has come was shown
+    pub record Serves (level : LevelId) (answers : ℕ) (was is : List Entry) (old new : M) (from to : O) (was_shown is_shown : Bool) : Type 0 where
       pub middle : M
       pub half : O
       pub goes : GoesOn holds was is old middle
       pub keeps : Keeps holds middle new
-      pub alike : StepsAlike holds level was is old
+      pub alike : StepsAlike holds (stride_of answers) level was is old
       pub followed : FollowsAll holds meets level was is middle from half
       pub shows : ShowsHalt level middle half to was_shown is_shown
 
@@ -118,8 +118,8 @@ module _ {M : Type 0} (holds : M → LevelId → World → Type 0) where
         AsksNone level went answers was is old from to is_taken ⊎ AsksOne level went was is old from to is_taken
 
     -- whatever the day was before, by the entries that were performed then
-    abbrev pub SitsFrom : (IsCut : LevelId → List Entry → Type 0) (was is : List Entry) (old : M) (from to : O) (one_was two_was one two : Bool) → Option Ends → Type 0
-    SitsFrom IsCut was is old from to one_was two_was one two ends =
+    abbrev pub SitsFrom : (IsPast IsCut : LevelId → List Entry → Type 0) (was is : List Entry) (old : M) (from to : O) (one_was two_was one two : Bool) → Option Ends → Type 0
+    SitsFrom IsPast IsCut was is old from to one_was two_was one two ends =
         (first : M) (starts : LevelId → World) (before : List Moment) → Begun first starts before was old
         → Shows (world_after starts before One).halts (shown_in One before) one_was → Shows (world_after starts before Two).halts (shown_in Two before) two_was
-        → Sits meets starts IsCut before is from to one two ends
+        → Sits meets starts IsPast IsCut before is from to one two ends

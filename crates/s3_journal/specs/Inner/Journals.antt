@@ -4,16 +4,15 @@ use Rattle.std.specs.List.{list_all, slice_split, starts_with}
 use Rattle.std.specs.Borrow.{Bor}
 use Rattle.std.specs.Str.{bytes_eq}
 use Rattle.std.specs.String.{string_bytes}
-use Rattle.hex.specs.Hex.{encode_lower}
-use Rattle.sha2.specs.Sha256.{sha256}
 use Rattle.s3_journal.specs.declared.day.LevelCount.{LevelCount}
 use Rattle.s3_journal.specs.declared.day.PostedDay.{PostedDay}
 use Rattle.s3_journal.specs.declared.reading.Lines.{Lines}
 use Rattle.s3_journal.specs.declared.reading.ReadLine.{ReadLine}
 use Rattle.s3_journal.specs.declared.reading.JournalFault.{JournalFault}
-use Rattle.s3_journal.specs.declared.reading.JournalFault.TheVariants.{NoMemory, Line, Chain}
+use Rattle.s3_journal.specs.declared.reading.JournalFault.TheVariants.{NoMemory, Line, Chain, Changed}
+use Rattle.s3_journal.specs.Inner.Digests.{digest_of}
 use Rattle.s3_journal.specs.Inner.Days.{Did, operates, runs, appends, loads, sorts, deletes, copies, amends, restores, Day, day_of}
-use Rattle.s3_journal.specs.Inner.Lines.{Said, said_on, line_of, text_of_line, byte_most, long_most}
+use Rattle.s3_journal.specs.Inner.Lines.{Said, said_on, line_of, text_of_line, text_with, byte_most, long_most}
 
 -- ---- the lines of a text
 abbrev pub is_line_end : ℕ → Bool
@@ -36,16 +35,20 @@ unfoldable pub line_begun : List ℕ → List ℕ
 line_begun text = last_of (slice_split is_line_end text)
 
 -- ---- the days of lines that follow one another
--- the SHA-256 digest, in hexadecimal digits
-unfoldable pub digest_of : List ℕ → List ℕ
-digest_of text = encode_lower (sha256 text)
+-- a line says what was written: the digest that it has is that of its text without this digest
+abbrev pub is_digest_if : Option (List ℕ) → (text : List ℕ) → Bool
+is_digest_if None text = true
+is_digest_if (Some sum) text = bytes_eq sum (digest_of text)
 
--- the day of a line that has the digest of the line before
+abbrev pub is_as_written : Said → Bool
+is_as_written said = is_digest_if said.sum (text_with said.day said.previous None)
+
+-- the day of a line that says what was written, and has the digest of the line before
 abbrev pub chained : (before : List ℕ) → Option Said → Option Day
 chained before None = None
-chained before (Some said) = if bytes_eq said.previous (digest_of before) then Some said.day else None
+chained before (Some said) = if bytes_eq said.previous (digest_of before) && is_as_written said then Some said.day else None
 
--- the days of these lines; none if one of them is no line, or doesn't have the digest of the line before
+-- the days of these lines; none if one of them is no line, says something else than was written, or doesn't have the digest of the line before
 unfoldable pub days_from : (before : List ℕ) → (lines : List (List ℕ)) → Option (List Day)
 days_from before [] = Some []
 days_from before (line ∷ rest) = option_and_then (λ day. option_map (λ days. day ∷ days) (days_from line rest)) (chained before (said_on line))
@@ -71,10 +74,11 @@ IsRead text (Ok lines) = days_in text ≡ Some (map day_of (reverse lines.days.i
 IsRead text (Err NoMemory) = Unit {0}
 IsRead text (Err (Line number)) = CantBeRead text
 IsRead text (Err (Chain number)) = CantBeRead text
+IsRead text (Err (Changed number)) = CantBeRead text
 
 -- what the code's line says
 abbrev pub said_of : ReadLine → Said
-said_of line = record { day = day_of line.day; previous = string_bytes line.previous }
+said_of line = record { day = day_of line.day; previous = string_bytes line.previous; sum = option_map string_bytes line.sum }
 
 -- the day of a line is read, or refused
 abbrev pub IsChained : (found : Option Day) → Result PostedDay JournalFault → Type 0
@@ -82,6 +86,7 @@ IsChained found (Ok day) = found ≡ Some (day_of day)
 IsChained found (Err NoMemory) = Unit {0}
 IsChained found (Err (Line number)) = found ≡ None
 IsChained found (Err (Chain number)) = found ≡ None
+IsChained found (Err (Changed number)) = found ≡ None
 
 -- the days of the lines that end in a text are taken, if there were none before, and what follows them is left; or one is refused
 abbrev pub Reads : (old new : Lines) → (text : List ℕ) → Result (Bor (List ℕ)) JournalFault → Type 0
@@ -89,6 +94,7 @@ Reads old new text (Ok rest) = old.last.now ≡ [] → old.days.items ≡ [] →
 Reads old new text (Err NoMemory) = Unit {0}
 Reads old new text (Err (Line number)) = old.last.now ≡ [] → old.days.items ≡ [] → days_in text ≡ None
 Reads old new text (Err (Chain number)) = old.last.now ≡ [] → old.days.items ≡ [] → days_in text ≡ None
+Reads old new text (Err (Changed number)) = old.last.now ≡ [] → old.days.items ≡ [] → days_in text ≡ None
 
 -- a line is taken after those so far, or refused
 abbrev pub Takes : (taken : Option Day) → (old new : List Day) → Result (Unit {0}) JournalFault → Type 0
@@ -96,6 +102,7 @@ Takes taken old new (Ok done) = (day : Day) × (taken ≡ Some day) × (new ≡ 
 Takes taken old new (Err NoMemory) = Unit {0}
 Takes taken old new (Err (Line number)) = taken ≡ None
 Takes taken old new (Err (Chain number)) = taken ≡ None
+Takes taken old new (Err (Changed number)) = taken ≡ None
 
 -- ---- what is written is read back
 abbrev pub count_fits : LevelCount → Bool

@@ -1,12 +1,13 @@
 -- What a line of the journal says, and which line is written of a day.
-use Rattle.std.specs.Prelude.{ℕ, Bool, List, [], ◌∷◌, ◌++◌, Option, Some, None, option_map, option_and_then, codes, decimal, if◌then◌else◌}
+use Rattle.std.specs.Prelude.{ℕ, List, [], ◌∷◌, ◌++◌, Option, Some, None, option_map, option_and_then, codes, decimal, if◌then◌else◌}
 use Rattle.std.specs.Str.{bytes_eq as word_is}
 use Rattle.json.specs.Json.{Json, null, number, string, object, Members, no_members, member, document}
 use Rattle.json.specs.Find.{as_object}
 use Rattle.json.specs.Print.{print}
 use Rattle.json.specs.Tree.{json_tokens}
 use Rattle.s3_journal.specs.declared.day.LevelCount.{LevelCount}
-use Rattle.s3_journal.specs.Inner.Days.{Operation, Did, operates, runs, appends, loads, sorts, deletes, copies, amends, restores, Day}
+use Rattle.s3_journal.specs.Inner.Days.{Did, operates, runs, appends, loads, sorts, deletes, copies, amends, restores, Day}
+use Rattle.s3_journal.specs.Inner.Digests.{digest_of}
 use Rattle.s3_journal.specs.Inner.Members.{text_in, whole_in, number_in, object_in, optional_text_in}
 
 abbrev pub byte_most : ℕ
@@ -79,13 +80,16 @@ day_in members =
     record { number = number; at = at; before = before; after = after; status = status; did = did })
     (did_in members)) (number_in (codes "status") byte_most members)) (text_in (codes "after") members)) (text_in (codes "before") members)) (text_in (codes "at") members)) (whole_in (codes "day") members)
 
--- a day, and the digest of the line before its own
+-- a day, the digest of the line before its own, and that of its own line, if it has one
 pub record Said : Type 0 where
   pub day : Day
   pub previous : List ℕ
+  pub sum : Option (List ℕ)
 
 abbrev pub said_in : Members → Option Said
-said_in members = option_and_then (λ previous. option_map (λ day. record { day = day; previous = previous }) (day_in members)) (text_in (codes "previous") members)
+said_in members =
+    option_and_then (λ previous. option_and_then (λ sum. option_map (λ day. record { day = day; previous = previous; sum = sum })
+    (day_in members)) (optional_text_in (codes "sum") members)) (text_in (codes "previous") members)
 
 -- what a line says, without its line end, if it is a line of a journal
 unfoldable pub said_on : (line : List ℕ) → Option Said
@@ -127,16 +131,21 @@ did_pairs copies = []
 did_pairs amends = []
 did_pairs restores = []
 
-abbrev pub previous_pairs : List ℕ → Pairs
-previous_pairs previous = (codes "previous", string previous) ∷ []
+-- the digests of the line before, and of the line itself, if it has one
+abbrev pub digest_pairs : (previous : List ℕ) → (sum : Option (List ℕ)) → Pairs
+digest_pairs previous None = (codes "previous", string previous) ∷ []
+digest_pairs previous (Some sum) = (codes "previous", string previous) ∷ (codes "sum", string sum) ∷ []
 
--- a day as one object, given the digest of the line before
-unfoldable pub tree_of : Day → (previous : List ℕ) → Json
-tree_of day previous = object (members_of (day_pairs day ++ (did_pairs day.did ++ previous_pairs previous)))
+-- a day as one object, given these digests
+unfoldable pub tree_of : Day → (previous : List ℕ) → (sum : Option (List ℕ)) → Json
+tree_of day previous sum = object (members_of (day_pairs day ++ (did_pairs day.did ++ digest_pairs previous sum)))
 
--- .. as the text of a line, without its line end
+abbrev pub text_with : Day → (previous : List ℕ) → (sum : Option (List ℕ)) → List ℕ
+text_with day previous sum = print (json_tokens (tree_of day previous sum))
+
+-- .. as the text of a line, without its line end: the digest of the line is that of its text without this digest
 abbrev pub text_of_line : Day → (previous : List ℕ) → List ℕ
-text_of_line day previous = print (json_tokens (tree_of day previous))
+text_of_line day previous = text_with day previous (Some (digest_of (text_with day previous None)))
 
 -- .. with its line end
 unfoldable pub line_of : Day → (previous : List ℕ) → List ℕ

@@ -1,16 +1,17 @@
 -- A file that records are put into, one behind another.
-use Rattle.std.specs.Prelude.{◌≡◌, ◌+◌, ℕ, true, List, [], ◌∷◌, ◌++◌, length, map, slice_get}
+use Rattle.std.specs.Prelude.{◌≡◌, ◌+◌, ℕ, true, false, List, [], ◌∷◌, ◌++◌, length, map, slice_get}
 use Rattle.std.specs.List.{Contains}
 use Rattle.s3_store.specs.Bytes.{bytes_at}
-use Rattle.s3_slots.specs.Labels.{sectors_of}
+use Rattle.s3_slots.specs.Labels.{is_indexed, sectors_of}
 use Rattle.s3_slots.specs.declared.label.FileLabel.{FileLabel}
 use Rattle.s3_files.specs.Records.{records_in}
-use Rattle.s3_files.specs.Inner.Files.{AreStored}
+use Rattle.s3_files.specs.Inner.Files.{AreStored, FileShape, file_of}
 use Rattle.s3_files.specs.declared.sequential.Sequential.{Sequential}
 use Rattle.s3_keyed.specs.Index.{index_in, keys_of, layout_of}
 use Rattle.s3_keyed.specs.KeyOrder.{is_good_index}
 use Rattle.s3_keyed.specs.Inner.Keyed.{HasKeyOrder, records_now, shown}
 use Rattle.s3_keyed.specs.declared.keyed.Keyed.{Keyed}
+use Rattle.s3_pack_care.specs.Inner.Rows.{KeepsTail, shape_of}
 use Rattle.s3_unload.specs.Inner.Ordered.{in_order}
 use Rattle.s3_load.specs.declared.rows.Row.{Row}
 
@@ -22,10 +23,15 @@ records_of rows = map (λ row. row.bytes.items) rows
 abbrev pub counted : FileLabel → ℕ → FileLabel
 counted label count = record label { count = count }
 
--- it has these records behind those that its label counts
+-- the file of a label as it is with another count of records
+abbrev pub grown : FileLabel → ℕ → FileShape
+grown label count = record (file_of label) { count = count }
+
+-- It has these records behind those that its label counts. Without an index, the bytes after the last of them are the same.
 pub record HasMore (label : FileLabel) (added : List (List ℕ)) (old new : List (List ℕ)) (count : ℕ) : Type 0 where
   pub counts : count ≡ label.count + length added
   pub records : in_order (counted label count) new ≡ in_order label old ++ added
+  pub tail : is_indexed label.organization ≡ false → KeepsTail (grown label count) old new
 
 -- no other sectors have changed
 pub record ChangesOnly (sectors : List ℕ) (old new : List (List ℕ)) : Type 0 where
@@ -37,19 +43,21 @@ HasGoodIndex label contents =
     is_good_index (index_in (layout_of label) label.count (bytes_at (sectors_of label) contents)) (keys_of (layout_of label).key (in_order label contents)) ≡ true
 
 -- ---- a file without an index
--- it is the file of the label, over these sectors, with these records behind those that the label counts
+-- it is the file of the label, over these sectors, with these records behind those that the label counts, and the same bytes after them
 pub record IsFilled (file : Sequential) (label : FileLabel) (added : List (List ℕ)) (old new : List (List ℕ)) : Type 0 where
   pub sectors : file.sectors ≡ sectors_of label
   pub record_length : file.record_length ≡ label.record_length
   pub counts : file.count ≡ label.count + length added
   pub records : records_in file.record_length file.count (bytes_at file.sectors new) ≡ in_order label old ++ added
+  pub tail : KeepsTail (shape_of file) old new
 
--- it has one record more
+-- it has one record more, and the same bytes after it
 pub record AddsRecord (bytes : List ℕ) (first last : Sequential) (old new : List (List ℕ)) : Type 0 where
   pub sectors : last.sectors ≡ first.sectors
   pub record_length : last.record_length ≡ first.record_length
   pub counts : last.count ≡ first.count + 1
   pub records : records_in last.record_length last.count (bytes_at last.sectors new) ≡ records_in first.record_length first.count (bytes_at first.sectors old) ++ bytes ∷ []
+  pub tail : KeepsTail (shape_of last) old new
 
 -- ---- a file with an index
 -- it is the file of the label, over these sectors, and its keys are in order

@@ -1,30 +1,36 @@
 -- A file of a pack that a table was loaded into, and what stays of the pack.
-use Rattle.std.specs.Prelude.{◌≡◌, ◌<◌, ◌⊎◌, ◌++◌, ◌==◌, ◌&&◌, ℕ, Bool, true, false, Option, Some, None, List, [], slice_get, Ok, ⊤, if◌then◌else◌}
+use Rattle.std.specs.Prelude.{◌≡◌, ◌<◌, ◌⊎◌, ◌++◌, ◌==◌, ◌&&◌, ℕ, Bool, true, false, Option, Some, None, List, [], length, slice_get, Ok, ⊤, if◌then◌else◌}
 use Rattle.std.specs.List.{Contains, list_any, position_from}
 use Rattle.s3_cards.specs.declared.levels.LevelId.{LevelId}
 use Rattle.s3_cards.specs.declared.name.Name.{Name}
 use Rattle.s3_lines.specs.declared.sheet.KeyField.{KeyField}
-use Rattle.s3_slots.specs.Header.{mounted}
+use Rattle.s3_slots.specs.Header.{mounted, region_of}
 use Rattle.s3_slots.specs.Labels.{is_indexed}
-use Rattle.s3_slots.specs.Making.{dropped, is_permanent}
-use Rattle.s3_slots.specs.Placement.{free_slot}
+use Rattle.s3_slots.specs.Making.{dropped, is_permanent, new_label, tracks_of}
+use Rattle.s3_slots.specs.Placement.{free_slot, placed}
 use Rattle.s3_slots.specs.Slots.{bears, slot_bytes, standing}
 use Rattle.s3_slots.specs.declared.header.Header.{Header}
 use Rattle.s3_slots.specs.declared.label.FileLabel.{FileLabel}
 use Rattle.s3_slots.specs.declared.label.Organization.{Organization}
 use Rattle.s3_slots.specs.declared.label.Organization.TheVariants.{Indexed, Sequential}
 use Rattle.s3_slots.specs.declared.making.NewFile.{NewFile}
+use Rattle.s3_slots.specs.declared.making.Size.{Size}
+use Rattle.s3_slots.specs.declared.making.Size.TheVariants.{Records, Tracks}
 use Rattle.s3_slots.specs.declared.slot.Slot.{Slot}
 use Rattle.s3_slots.specs.declared.slot.Slot.TheVariants.{Free, Sound}
 use Rattle.s3_slots.specs.declared.slot.Standing.{Standing}
 use Rattle.s3_slots.specs.declared.slot.Standing.TheVariants.{Absent, Blocked, Present}
 use Rattle.s3_labels.specs.Areas.{IsLabelSector, area_of}
 use Rattle.s3_labels.specs.Inner.Areas.{areas_on, slots_at}
+use Rattle.s3_files.specs.Inner.Files.{file_of}
 use Rattle.s3_unload.specs.Inner.Ordered.{in_order}
 use Rattle.s3_pack_check.specs.Inner.Damages.{is_damaged}
-use Rattle.s3_pack_care.specs.Inner.Frames.{ChangesFile, IsInLabelled, IsInSlot}
+use Rattle.s3_pack_care.specs.Inner.Frames.{ChangesFile, IsInLabelled, IsInSlot, IsOfFile}
 use Rattle.s3_pack_care.specs.Inner.Kept.{IsOther, KeepsFile, slot_on}
+use Rattle.s3_pack_care.specs.Inner.Rows.{KeepsTail}
 use Rattle.s3_load.specs.declared.order.Order.{Order}
+use Rattle.s3_load.specs.declared.order.Room.{Room}
+use Rattle.s3_load.specs.declared.order.Room.TheVariants.{ForTable, Records as ForRecords, Tracks as ForTracks}
 use Rattle.s3_load.specs.declared.rows.Row.{Row}
 use Rattle.s3_load.specs.Inner.Filling.{HasGoodIndex, counted, records_of}
 use Rattle.s3_load.specs.Inner.Tables.{IsTable}
@@ -96,6 +102,22 @@ pub record IsKeptFor (order : Order) (label : FileLabel) : Type 0 where
   pub retained : label.retention ≡ order.retention
   pub dated : label.date ≡ order.date
 
+-- the size of a new file: so many tracks or records as the order says, or space for the records of the table, and for one at least
+abbrev pub at_least_one : ℕ → ℕ
+at_least_one count = if count == 0 then 1 else count
+
+abbrev pub size_asked : Room → (count : ℕ) → Size
+size_asked ForTable count = Records (at_least_one count)
+size_asked (ForRecords records) count = Records records
+size_asked (ForTracks tracks) count = Tracks tracks
+
+-- A new file has the capacity that a make gives for that size, and the extents in which a make places it: the lowest that are free.
+pub record HasSpace (order : Order) (count : ℕ) (header : Header) (old : List (List ℕ)) (label : FileLabel) : Type 0 where
+  pub new : NewFile
+  pub sized : new.size ≡ size_asked order.room count
+  pub is : label ≡ counted (new_label new label.extents) label.count
+  pub extents : placed header.format (region_of order.level header) (dropped order.name (slots_at order.level (areas_on header old))) (tracks_of new) ≡ Some label.extents
+
 -- the file was in this slot before, and only the count of its label has changed
 pub record IsContinued (order : Order) (header : Header) (old : List (List ℕ)) (slot : ℕ) (label : FileLabel) : Type 0 where
   pub before : FileLabel
@@ -132,6 +154,11 @@ pub record IsInReplaced (order : Order) (contents : List (List ℕ)) (k : ℕ) :
 -- byte k is in the loaded file, in its slot, or in the slot of the replaced file
 abbrev pub IsOfLoad : Order → (old new : List (List ℕ)) → (k : ℕ) → Type 0
 IsOfLoad order old new k = IsInLabelled (area_of order.level) order.name new k ⊎ IsInReplaced order old k
+
+-- The loaded file, if it has no index, has the same bytes after its last record, to the end of its sectors. So after the records of a
+-- new file are the bytes that these sectors had before.
+abbrev pub KeepsLoadedTail : Order → (old new : List (List ℕ)) → Type 0
+KeepsLoadedTail order old new = IsOfFile (area_of order.level) order.name new (λ slot label. is_indexed label.organization ≡ false → KeepsTail (file_of label) old new)
 
 -- ---- steps
 -- the file that is asked for stands in a slot: a new one without records, where no slot was damaged, or the one that was there
@@ -174,6 +201,7 @@ pub record HasFile (order : Order) (added : List (List ℕ)) (header : Header) (
   pub index : is_indexed label.organization ≡ true → HasGoodIndex label new
   pub vacant : order.appends ≡ false → IsVacant order header old slot
   pub kept : order.appends ≡ false → IsKeptFor order label
+  pub space : order.appends ≡ false → HasSpace order (length added) header old label
   pub continued : order.appends ≡ true → IsContinued order header old slot label
   pub others : KeepsOthers order slot header old new
   pub undamaged : order.appends ≡ false → HasNoDamage order header old

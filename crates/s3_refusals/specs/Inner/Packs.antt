@@ -22,4 +22,4 @@ words_of_beginning bytes =
 abbrev pub words_of_pack : MountFault → List ℕ
 words_of_pack BadHeader = codes "it doesn't begin as a pack does, or its quotas are those of no pack"
 words_of_pack BadRegions = codes "its regions aren't whole tracks within it, or they meet"
-words_of_pack Short = codes "it has fewer sectors than its header says, or than 168"
+words_of_pack Short = codes "it is no pack, or it isn't whole: it has fewer sectors than its header says, or than 168"

@@ -6,7 +6,7 @@ use Rattle.s3_bureau.specs.declared.entry.Entry.{Entry}
 use Rattle.s3_bureau.specs.Inner.Held.{HoldsFor, State, held_by}
 use Rattle.s3_bureau.specs.Inner.Unwritten.{texts_at}
 use Rattle.s3_bureau.proofs.Running.{files_stand, halts_shown, slots_stand, texts_shown}
-use Rattle.s3_desk.specs.Inner.Desk.{HasReached, HasReplied}
+use Rattle.s3_desk.specs.Inner.Desk.{HasReached, HasReplied, IsPastReply}
 use Rattle.s3_desk.specs.Inner.Operated.{IsAfter}
 use Rattle.s3_desk.specs.Inner.Rounds.{SitsFrom}
 use Rattle.s3_desk.proofs.Days.{after_given, common_left, common_none, idle_left, lines_left, performs_given}
@@ -78,7 +78,7 @@ returns-clause-two_out g c =
 
 pub returns-clause-sits : goal.returns-clause-sits
 returns-clause-sits g c =
-    subst (λ (was : List Entry). SitsFrom (λ (b : State) (level : LevelId) (w : World). HoldsFor level b w) g.O.Operator.meets (λ level entries. HasReached level was entries c.args.bounds) was c.operate.new.performed c.args.bureau.now c.args.operator.now
+    subst (λ (was : List Entry). SitsFrom (λ (b : State) (level : LevelId) (w : World). HoldsFor level b w) g.O.Operator.meets (λ level entries. IsPastReply level was entries) (λ level entries. HasReached level was entries c.args.bounds) was c.operate.new.performed c.args.bureau.now c.args.operator.now
     c.operate.new.operator false false false false (Some c.in_ok-ends.ends)) c.requires.none c.in_ok-ends.ensures.sits
 
 pub returns-in_err-ends-clause-not_stopped : goal.returns-in_err-ends-clause-not_stopped

@@ -2,7 +2,7 @@ use Rattle.std.proofs.Common.{IfSome, Ok, Option, refl, sym, subst, arith, ◌�
 use Rattle.s3_cards.specs.declared.levels.LevelId.TheVariants.{One, Two}
 use Rattle.s3_desk.specs.declared.ends.End.TheVariants.{Cut as CutOff, OutOfReplies}
 use Rattle.s3_desk.specs.declared.ends.Ends.{Ends}
-use Rattle.s3_desk.specs.Inner.Desk.{GoesOn, HasReached, IsSpent, RoundEnds, Spends}
+use Rattle.s3_desk.specs.Inner.Desk.{GoesOn, HasReached, IsPastReply, IsSpent, RoundEnds, Spends}
 use Rattle.s3_desk.proofs.Rounds.{sits_at_first, sits_on_and_on, sits_to_end}
 use Rattle.s3_desk.proofs.Sittings.{both_then, counts_none, counts_then, has_reached, has_replied, none_taken, spends_then}
 use Rattle.s3_desk.proofs.desk.operate.Goals as goal
@@ -11,7 +11,7 @@ pub loop-ends-init : goal.loop-ends-init
 loop-ends-init g c = (
   λ first before. before,
   (
-    sits_at_first g.M.Machine.holds g.O.Operator.meets (λ level entries. HasReached level c.args.performed.now entries c.args.bounds) c.args.performed.now c.args.bureau.now c.args.operator.now c.new-seat_one.result.is_shown c.new-seat_two.result.is_shown
+    sits_at_first g.M.Machine.holds g.O.Operator.meets (λ level entries. IsPastReply level c.args.performed.now entries) (λ level entries. HasReached level c.args.performed.now entries c.args.bounds) c.args.performed.now c.args.bureau.now c.args.operator.now c.new-seat_one.result.is_shown c.new-seat_two.result.is_shown
         c.new-seat_one.ensures.unshown c.new-seat_two.ensures.unshown,
     (
       subst (Spends One c.args.performed.now c.args.performed.now c.args.bounds) (sym c.new-seat_one.ensures.left) (none_taken One c.args.performed.now c.args.performed.now c.args.bounds refl),
@@ -34,8 +34,8 @@ returns-in-Some-clause-ends g c =
 pub returns-in-Some-clause-sits : goal.returns-in-Some-clause-sits
 returns-in-Some-clause-sits g c =
     sits_to_end g.M.Machine.holds g.O.Operator.meets c.args.bounds c.args.performed.now c.loop-ends.performed c.round.new.performed c.args.bureau.now c.loop-ends.bureau c.args.operator.now c.loop-ends.operator c.round.new.operator
-    c.loop-ends.seat_one.is_shown c.loop-ends.seat_two.is_shown c.round.new.seat_one.is_shown c.round.new.seat_two.is_shown c.loop-ends.seat_one.left c.loop-ends.seat_two.left c.in_ok-ends.field-0 c.loop-ends.invariant.0
-    c.loop-ends.invariant.1.1.0 c.loop-ends.invariant.1.1.1.0 c.loop-ends.invariant.1.0 c.in_ok-ends.ensures.sits c.in-Some.ends c.in-Some.is
+    c.loop-ends.seat_one.is_shown c.loop-ends.seat_two.is_shown c.round.new.seat_one.is_shown c.round.new.seat_two.is_shown c.loop-ends.seat_one.left c.loop-ends.seat_two.left c.loop-ends.seat_one.answers c.loop-ends.seat_two.answers c.in_ok-ends.field-0 c.loop-ends.invariant.0
+    c.loop-ends.invariant.1.1.0 c.loop-ends.invariant.1.1.1.0 c.loop-ends.invariant.1.1.1.1.1.1.1.0 c.loop-ends.invariant.1.1.1.1.1.1.1.1 c.loop-ends.invariant.1.0 c.in_ok-ends.ensures.sits c.in-Some.ends c.in-Some.is
 
 pub returns-in-Some-clause-one_out : goal.returns-in-Some-clause-one_out
 returns-in-Some-clause-one_out g c = λ out.
@@ -78,8 +78,8 @@ loop-ends-preserved g c =
       λ first before. goes first (c.loop-ends.invariant.0 first before),
       (
         sits_on_and_on g.M.Machine.holds g.O.Operator.meets c.args.bounds c.args.performed.now c.loop-ends.performed c.round.new.performed c.args.bureau.now c.loop-ends.bureau c.args.operator.now c.loop-ends.operator
-            c.round.new.operator c.loop-ends.seat_one.is_shown c.loop-ends.seat_two.is_shown c.round.new.seat_one.is_shown c.round.new.seat_two.is_shown c.loop-ends.seat_one.left c.loop-ends.seat_two.left c.in_ok-ends.field-0
-            c.loop-ends.invariant.0 c.loop-ends.invariant.1.1.0 c.loop-ends.invariant.1.1.1.0 c.loop-ends.invariant.1.0 c.in_ok-ends.ensures.sits c.in_default.is,
+            c.round.new.operator c.loop-ends.seat_one.is_shown c.loop-ends.seat_two.is_shown c.round.new.seat_one.is_shown c.round.new.seat_two.is_shown c.loop-ends.seat_one.left c.loop-ends.seat_two.left c.loop-ends.seat_one.answers c.loop-ends.seat_two.answers c.in_ok-ends.field-0
+            c.loop-ends.invariant.0 c.loop-ends.invariant.1.1.0 c.loop-ends.invariant.1.1.1.0 c.loop-ends.invariant.1.1.1.1.1.1.1.0 c.loop-ends.invariant.1.1.1.1.1.1.1.1 c.loop-ends.invariant.1.0 c.in_ok-ends.ensures.sits c.in_default.is,
         (
           spends_then One c.args.performed.now c.loop-ends.performed c.round.new.performed c.args.bounds c.loop-ends.seat_one.left c.round.new.seat_one.left c.loop-ends.invariant.1.1.0 c.in_ok-ends.ensures.one_spends,
           (

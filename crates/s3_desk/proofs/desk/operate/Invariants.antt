@@ -2,14 +2,14 @@
 use Rattle.std.proofs.Common.{None, false, ◌≡◌}
 use Rattle.s3_cards.specs.declared.levels.LevelId.TheVariants.{One, Two}
 use Rattle.s3_desk.specs.Inner.Calls.{GoesAfter, KeepsFrom}
-use Rattle.s3_desk.specs.Inner.Desk.{Counts, GoesOn, HasReached, Spends, work_left}
+use Rattle.s3_desk.specs.Inner.Desk.{Counts, GoesOn, HasReached, IsPastReply, Spends, work_left}
 use Rattle.s3_desk.specs.Inner.Rounds.{SitsFrom}
 use Rattle.s3_desk.proofs.desk.operate.Given as goal
 
 abbrev pub invariant-loop-ends : goal.invariant-loop-ends
 invariant-loop-ends g l =
     GoesOn g.M.Machine.holds l.fn.performed l.performed l.fn.bureau l.bureau
-    × (SitsFrom g.M.Machine.holds g.O.Operator.meets (λ level entries. HasReached level l.fn.performed entries l.fn.bounds) l.fn.performed l.performed l.fn.bureau l.fn.operator l.operator false false l.seat_one.is_shown l.seat_two.is_shown None
+    × (SitsFrom g.M.Machine.holds g.O.Operator.meets (λ level entries. IsPastReply level l.fn.performed entries) (λ level entries. HasReached level l.fn.performed entries l.fn.bounds) l.fn.performed l.performed l.fn.bureau l.fn.operator l.operator false false l.seat_one.is_shown l.seat_two.is_shown None
     × (Spends One l.fn.performed l.performed l.fn.bounds l.seat_one.left
     × (Spends Two l.fn.performed l.performed l.fn.bounds l.seat_two.left
     × (GoesAfter g.M.Machine.after l.fn.performed l.performed l.fn.bureau l.bureau

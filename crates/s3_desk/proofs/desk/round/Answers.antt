@@ -201,7 +201,7 @@ returns-then-has_gone_on-clause-sits g c =
     let b1 = c.serve.new.bureau in
     let b2 = c.serve-2.new.bureau in
     round_goes_on g.M.Machine.holds g.O.Operator.meets was p1 p2 old b1 b2 c.args.operator.now c.serve.new.operator c.serve-2.new.operator
-    c.args.seat_one.now.is_shown c.serve.new.seat.is_shown c.args.seat_two.now.is_shown c.serve-2.new.seat.is_shown c.args.seat_one.now.left c.args.seat_two.now.left
+    c.args.seat_one.now.is_shown c.serve.new.seat.is_shown c.args.seat_two.now.is_shown c.serve-2.new.seat.is_shown c.args.seat_one.now.left c.args.seat_two.now.left c.args.seat_one.now.answers c.args.seat_two.now.answers
     c.in_ok-one.one c.in_ok-two.two c.in_ok-one.ensures.goes c.in_ok-two.ensures.goes c.in_ok-one.ensures.serves c.in_ok-two.ensures.serves
 
 pub returns-then-first-clause-sits : goal.returns-then-first-clause-sits
@@ -215,7 +215,7 @@ returns-then-first-clause-sits g c =
     let p3 = c.ask_at_rest.new.performed in
     let b3 = c.ask_at_rest.new.bureau in
     round_takes_first g.M.Machine.holds g.O.Operator.meets was p1 p2 old b1 b2 c.args.operator.now c.serve.new.operator c.serve-2.new.operator
-    c.args.seat_one.now.is_shown c.serve.new.seat.is_shown c.args.seat_two.now.is_shown c.serve-2.new.seat.is_shown c.args.seat_one.now.left c.args.seat_two.now.left
+    c.args.seat_one.now.is_shown c.serve.new.seat.is_shown c.args.seat_two.now.is_shown c.serve-2.new.seat.is_shown c.args.seat_one.now.left c.args.seat_two.now.left c.args.seat_one.now.answers c.args.seat_two.now.answers
     c.in_ok-one.one c.in_ok-two.two c.in_ok-one.ensures.goes c.in_ok-two.ensures.goes c.in_ok-one.ensures.serves c.in_ok-two.ensures.serves
     (c.has_gone_on.ensures.no c.if-has_gone_on.false).0 (c.has_gone_on.ensures.no c.if-has_gone_on.false).1
     (λ not_on not_rests. has_reached One was p2 c.args.seat_one.now.left c.serve.new.seat.left (spends_then One was p1 p2 c.args.seat_one.now.left c.serve.new.seat.left c.serve.new.seat.left c.in_ok-one.ensures.uses.spends (none_taken One p1 p2 c.serve.new.seat.left (goes_alone g.M.Machine.holds Two p1 p2 b1 b2 c.in_ok-two.two c.in_ok-two.ensures.goes))) (spent_cut One was p1 c.args.seat_one.now.left c.serve.new.seat.left c.in_ok-one.one c.in_ok-one.ensures.uses not_on not_rests))
@@ -236,7 +236,7 @@ returns-then-second-clause-sits g c =
     let p4 = c.ask_at_rest-2.new.performed in
     let b4 = c.ask_at_rest-2.new.bureau in
     round_takes_second g.M.Machine.holds g.O.Operator.meets was p1 p2 old b1 b2 c.args.operator.now c.serve.new.operator c.serve-2.new.operator
-    c.args.seat_one.now.is_shown c.serve.new.seat.is_shown c.args.seat_two.now.is_shown c.serve-2.new.seat.is_shown c.args.seat_one.now.left c.args.seat_two.now.left
+    c.args.seat_one.now.is_shown c.serve.new.seat.is_shown c.args.seat_two.now.is_shown c.serve-2.new.seat.is_shown c.args.seat_one.now.left c.args.seat_two.now.left c.args.seat_one.now.answers c.args.seat_two.now.answers
     c.in_ok-one.one c.in_ok-two.two c.in_ok-one.ensures.goes c.in_ok-two.ensures.goes c.in_ok-one.ensures.serves c.in_ok-two.ensures.serves
     (c.has_gone_on.ensures.no c.if-has_gone_on.false).0 (c.has_gone_on.ensures.no c.if-has_gone_on.false).1
     (λ not_on not_rests. has_reached One was p2 c.args.seat_one.now.left c.serve.new.seat.left (spends_then One was p1 p2 c.args.seat_one.now.left c.serve.new.seat.left c.serve.new.seat.left c.in_ok-one.ensures.uses.spends (none_taken One p1 p2 c.serve.new.seat.left (goes_alone g.M.Machine.holds Two p1 p2 b1 b2 c.in_ok-two.two c.in_ok-two.ensures.goes))) (spent_cut One was p1 c.args.seat_one.now.left c.serve.new.seat.left c.in_ok-one.one c.in_ok-one.ensures.uses not_on not_rests))
@@ -259,7 +259,7 @@ returns-clause-sits g c =
     let p4 = c.ask_at_rest-2.new.performed in
     let b4 = c.ask_at_rest-2.new.bureau in
     round_ends_day g.M.Machine.holds g.O.Operator.meets was p1 p2 old b1 b2 c.args.operator.now c.serve.new.operator c.serve-2.new.operator
-    c.args.seat_one.now.is_shown c.serve.new.seat.is_shown c.args.seat_two.now.is_shown c.serve-2.new.seat.is_shown c.args.seat_one.now.left c.args.seat_two.now.left
+    c.args.seat_one.now.is_shown c.serve.new.seat.is_shown c.args.seat_two.now.is_shown c.serve-2.new.seat.is_shown c.args.seat_one.now.left c.args.seat_two.now.left c.args.seat_one.now.answers c.args.seat_two.now.answers
     c.in_ok-one.one c.in_ok-two.two c.in_ok-one.ensures.goes c.in_ok-two.ensures.goes c.in_ok-one.ensures.serves c.in_ok-two.ensures.serves
     (c.has_gone_on.ensures.no c.if-has_gone_on.false).0 (c.has_gone_on.ensures.no c.if-has_gone_on.false).1
     (λ not_on not_rests. has_reached One was p2 c.args.seat_one.now.left c.serve.new.seat.left (spends_then One was p1 p2 c.args.seat_one.now.left c.serve.new.seat.left c.serve.new.seat.left c.in_ok-one.ensures.uses.spends (none_taken One p1 p2 c.serve.new.seat.left (goes_alone g.M.Machine.holds Two p1 p2 b1 b2 c.in_ok-two.two c.in_ok-two.ensures.goes))) (spent_cut One was p1 c.args.seat_one.now.left c.serve.new.seat.left c.in_ok-one.one c.in_ok-one.ensures.uses not_on not_rests))

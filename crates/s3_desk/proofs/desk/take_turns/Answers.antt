@@ -1,4 +1,5 @@
 use Rattle.std.proofs.Common.{refl, arith}
+use Rattle.std.specs.Int.NonZero.{non_zero_u16_get}
 use Rattle.s3_cards.specs.declared.levels.LevelId.{LevelId}
 use Rattle.s3_solo.specs.declared.action.Action.TheVariants.{Turn}
 use Rattle.s3_bureau.specs.declared.entry.Entry.{Entry}
@@ -36,7 +37,8 @@ returns-in-Refused-clause-after g c = c.in_ok-taken.ensures.quiet (refused_not c
 
 pub returns-in_ok-note-in-Acted-clause-alike : goal.returns-in_ok-note-in-Acted-clause-alike
 returns-in_ok-note-in-Acted-clause-alike g c =
-    alike_turns g.M.Machine.holds c.args.level c.in_ok-taken.taken.times c.from-times.result c.args.performed.now c.note.new.self c.args.bureau.now c.in_ok-taken.ensures.job_ends c.from-times.ensures c.in_ok-note-in-Acted.ensures.noted
+    alike_turns g.M.Machine.holds (non_zero_u16_get c.args.stride) c.args.level c.in_ok-taken.taken.times c.from-times.result c.args.performed.now c.note.new.self c.args.bureau.now
+    (omega (arith, c.in_ok-taken.ensures.times.few, c.in-Some.ensures, c.min.ensures)) c.in_ok-taken.ensures.job_ends c.from-times.ensures c.in_ok-note-in-Acted.ensures.noted
 
 pub returns-in_ok-note-in-Acted-clause-uses : goal.returns-in_ok-note-in-Acted-clause-uses
 returns-in_ok-note-in-Acted-clause-uses g c =

@@ -2,7 +2,7 @@ use Rattle.std.proofs.Common.{◌≡◌, ◌∙◌, sym, ap, subst, reverse}
 use Rattle.std.proofs.lemmas.List.{nil_from_length}
 use Rattle.std.specs.Prelude.{IfOk}
 use Rattle.std.specs.String.{string_bytes}
-use Rattle.s3_journal.specs.Inner.Journals.{digest_of}
+use Rattle.s3_journal.specs.Inner.Digests.{digest_of}
 use Rattle.s3_journal.specs.Inner.Decks.{cards_of}
 use Rattle.s3_journal.proofs.CardLemmas.{cards_onto, onto_nothing, onto_last}
 use Rattle.s3_journal.proofs.decks.checksum_of_deck.Goals as goal

@@ -34,7 +34,7 @@ returns-in-Ok-close-clause-records c =
     let same : c.check.new.pool ≡ c.args.store.now = c.check.ensures.keeps.contents in
     let fits : c.loop-row.fits ≡ true = elim (cases_Bool c.loop-row.fits) [ inl it ↦ it | inr other ↦ absurd (cc (other, c.if-not-fits.false)) ] in
     let none : c.loop-row.faults.count ≡ 0 = omega arith in
-    let more = all_by_key c.loop-row.file c.args.label.now c.args.rows.now c.loop-row.row-index c.check.new.pool c.loop-row.store c.close.new.pool (omega arith) c.loop-row.invariant.work
+    let more = all_by_key c.loop-row.file c.args.label.now c.args.rows.now c.loop-row.row-index c.check.new.pool c.loop-row.store c.close.new.pool c.requires.indexed (omega arith) c.loop-row.invariant.work
     (c.loop-row.invariant.records fits none) c.close.ensures.records in
     subst (λ s. HasMore c.args.label.now (records_of c.args.rows.now) s c.close.new.pool c.len-count.result) same
     (subst (λ n. HasMore c.args.label.now (records_of c.args.rows.now) c.check.new.pool c.close.new.pool n) (sym c.len-count.ensures) more)

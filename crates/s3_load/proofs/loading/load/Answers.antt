@@ -16,7 +16,7 @@ returns-clause-loaded g c =
     record {
       rows = rows;
       table = λ bytes known.
-          subst (λ (t : List ℕ). IsTable t order.delimiter order.layout.now.record_length order.layout.now.fields.items order.fills order.chosen.now order.key rows) (c.as_slice.ensures.value ∙ c.in_ok-text.ensures bytes known) (c.in_ok-rows.ensures c.as_slice.result.now refl);
+          subst (λ (t : List ℕ). IsTable t order.delimiter order.layout.now.record_length order.layout.now.fields.items order.fills order.chosen.now order.key rows) (c.as_slice.ensures.value ∙ c.in_ok-text.ensures.text bytes known) (c.in_ok-rows.ensures.table c.as_slice.result.now refl);
       header = has.header;
       mounts = has.mounts;
       filled = has.filled;
@@ -24,4 +24,4 @@ returns-clause-loaded g c =
 
 pub returns-clause-closed : goal.returns-clause-closed
 returns-clause-closed g c = λ text known.
-    subst (λ (t : List ℕ). open_quote c.args.order.now.delimiter (strip_bom t) ≡ None) (c.deref.ensures.value ∙ c.in_ok-text.ensures text known) c.in_ok-refuse_open_quote.ensures
+    subst (λ (t : List ℕ). open_quote c.args.order.now.delimiter (strip_bom t) ≡ None) (c.deref.ensures.value ∙ c.in_ok-text.ensures.text text known) c.in_ok-refuse_open_quote.ensures.closed

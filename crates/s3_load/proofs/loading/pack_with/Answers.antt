@@ -4,7 +4,7 @@ use Rattle.s3_labels.specs.Areas.{area_of}
 use Rattle.s3_labels.specs.Contents.{contents_of}
 use Rattle.s3_pack_care.proofs.Frames.{IsSaved, file_only, saved_is}
 use Rattle.s3_load.specs.Inner.Filling.{records_of}
-use Rattle.s3_load.specs.Inner.Loaded.{ChangesLoaded, IsOfLoad, IsReplaced}
+use Rattle.s3_load.specs.Inner.Loaded.{ChangesLoaded, IsOfLoad, IsReplaced, KeepsLoadedTail}
 use Rattle.s3_load.proofs.LoadedPacks.{area_few, file_on}
 use Rattle.s3_load.proofs.Shapes.{shape_on}
 use Rattle.s3_load.proofs.loading.pack_with.Goals as goal
@@ -36,6 +36,16 @@ returns-clause-only c =
     file_only pack bytes (area_of order.level) order.name store (area_few order.level) is_saved (IsReplaced order header (contents_of pack) (area_of order.level)) (IsOfLoad order (contents_of pack) (contents_of bytes)) changes
     (λ k own. inl own) (λ i k gone within. inr (record { header = header; mounts = mounts; slot = i; gone = gone; at = within }))
 
+pub returns-clause-tail : goal.returns-clause-tail
+returns-clause-tail c =
+    let order = c.args.order.now in
+    let store = c.place_rows-placed.new.mounted.pool in
+    let pack = c.args.pack.now in
+    let bytes = c.in_ok-saved.field-0.items in
+    let is_saved : IsSaved pack bytes store =
+    saved_is pack bytes c.bytes_after.result.now store c.saved.ensures.sectors c.in_ok-saved.ensures.bytes c.bytes_after.ensures (c.in_ok-placed.ensures.long ∙ ap length c.in_ok-mounted.ensures.same) in
+    subst (λ (t : List (List ℕ)). KeepsLoadedTail order (contents_of pack) t) (sym is_saved.seen) (subst (λ (s : List (List ℕ)). KeepsLoadedTail order s store) c.in_ok-mounted.ensures.same c.in_ok-placed.ensures.tail)
+
 pub returns-clause-shaped : goal.returns-clause-shaped
 returns-clause-shaped c =
-    shape_on c.args.order.now c.in_ok-mounted.mounted.areas c.in_ok-mounted.mounted.pool (contents_of c.args.pack.now) c.in_ok-mounted.ensures.mounted c.in_ok-mounted.ensures.same c.in_ok-shaped.ensures
+    shape_on c.args.order.now c.in_ok-mounted.mounted.areas c.in_ok-mounted.mounted.pool (contents_of c.args.pack.now) c.in_ok-mounted.ensures.mounted c.in_ok-mounted.ensures.same c.in_ok-shaped.ensures.shaped

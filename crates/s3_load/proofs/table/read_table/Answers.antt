@@ -6,8 +6,8 @@ use Rattle.s3_load.specs.Inner.Tables.{IsReading}
 use Rattle.s3_load.proofs.TableLemmas.{reads_more}
 use Rattle.s3_load.proofs.table.read_table.Goals as goal
 
-pub returns : goal.returns
-returns g c = λ text source.
+pub returns-clause-table : goal.returns-clause-table
+returns-clause-table g c = λ text source.
     let order = c.args.order.now in
     let table = c.reader_of-table.result in
     let heading = fields_of c.next_row.new.cells in

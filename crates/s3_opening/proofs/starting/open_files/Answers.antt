@@ -9,8 +9,8 @@ use Rattle.s3_opening.proofs.starting.open_files.Goals as goal
 
 pub start_all-requires : goal.start_all-requires
 start_all-requires g c = record {
-  can = can_after c.args.level c.args.pack.now.areas c.test_files.new.pack.areas _ _ c.new-files.result.items c.in_ok-starts.starts.items
-      c.in_ok-starts.ensures.reads c.new-files.ensures.items c.in_ok-starts.ensures.can;
+  can = can_after c.args.level c.args.pack.now.areas c.test_files.new.pack.areas _ _ c.in_ok-files.files.items c.in_ok-starts.starts.items
+      c.in_ok-starts.ensures.reads c.in_ok-files.ensures.items c.in_ok-starts.ensures.can;
 }
 
 pub returns-in_err-starts-clause-starts : goal.returns-in_err-starts-clause-starts
@@ -20,8 +20,8 @@ returns-in_err-starts-clause-starts g c =
 
 pub returns-clause-of_lines : goal.returns-clause-of_lines
 returns-clause-of_lines g c =
-    of_lines c.args.level _ c.args.settings.now.statements.now c.args.settings.now.switches c.args.lines.now c.in_ok-starts.starts.items c.new-files.result.items c.start_all.new.files.items
-    c.new-files.ensures.items c.in_ok-starts.ensures.of_lines c.in_ok-start_all.ensures.starts.adds c.in_ok-start_all.ensures.starts.ready
+    of_lines c.args.level _ c.args.settings.now.statements.now c.args.settings.now.switches c.args.lines.now c.in_ok-starts.starts.items c.in_ok-files.files.items c.start_all.new.files.items
+    c.in_ok-files.ensures.items c.in_ok-starts.ensures.of_lines c.in_ok-start_all.ensures.starts.adds c.in_ok-start_all.ensures.starts.ready
 
 pub returns-clause-pack : goal.returns-clause-pack
 returns-clause-pack g c = (leaves_then c.requires.ready c.in_ok-starts.ensures.reads c.in_ok-start_all.ensures.leaves).others.pack

@@ -1,5 +1,4 @@
 use Rattle.std.proofs.Common.{ap, ◌∙◌}
-use Rattle.s3_lines.specs.declared.sheet.FileLine.{FileLine}
 use Rattle.s3_cycle.specs.declared.stepper.Stepper.{Stepper}
 use Rattle.s3_cycle.specs.Inner.Following.{files}
 use Rattle.s3_cycle.proofs.cycle.Cycle.file_lines.Goals as goal

@@ -12,5 +12,5 @@ restart-requires-clause-running c = subst IsRunning (sym c.deref_mut.ensures.val
 pub returns : goal.returns
 unfolding StandsFor
 returns c = λ source stands.
-    begins c.deref_mut.result.now.program c.args.switches c.args.date c.restart.new.self c.in_ok-restart.ensures source
+    begins c.deref_mut.result.now.program c.args.switches c.args.date c.restart.new.self c.restart.ensures source
     (ap (λ (k : Stepper). source_named k.program) (c.deref_mut.ensures.value ∙ c.self.view_is) ∙ stands)

@@ -1,0 +1,2 @@
+-- The exit status of a refusal.
+pub mod Statuses
