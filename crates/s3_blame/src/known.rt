@@ -237,7 +237,7 @@ impl Known {
         Ok(())
     }
 
-    /// Whether a name is defined as that of a file, a field, a tag or a subroutine.
+    /// Whether a name is defined as the name of a file, a field, a tag or a subroutine.
     pub(crate) fn defines(&self, kind: Kind, name: Name) -> bool
         ensures { result ≡ names_known self.now kind name }
     {

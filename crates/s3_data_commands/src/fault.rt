@@ -95,7 +95,7 @@ pub fn of_call(rt: &HostRuntime, used: Use, error: &io::Error, path: &str) -> Fa
     }
 }
 
-/// Appends why a call on a file failed, and what helps: in the words that all commands have for it, else by the system.
+/// Appends why a call on a file failed, and the cure: with the sentence that all commands have for it, or else with the system's reason.
 fn push_call(
     text: &mut String,
     used: Use,

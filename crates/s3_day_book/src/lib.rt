@@ -1,6 +1,6 @@
 //! The page of a day in a book: what the desk has of it, and its pack before and after. `s3_book` writes the page.
 //!
-//! What is proved: each call is safe and returns. Which files changed, and where they are on the map, is tested.
+//! Each call is proved to be safe and to return. Tests show which files changed, and their places on the map.
 #![tactic(auto)]
 
 mod book;

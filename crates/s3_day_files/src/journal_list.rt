@@ -184,8 +184,8 @@ fn push_objects(
     Ok(())
 }
 
-/// The checksum of the pack over which the command of the next line began; after the last line, that of the pack that is there, which is
-/// the first one of those that are kept. `None` if none is known.
+/// The checksum of the pack over which the command of the next line began. After the last line, it is the checksum of the present pack,
+/// the first of the kept ones. `None` if no checksum is known.
 fn pack_after<'d>(days: &'d [PostedDay], place: usize, kept: &'d [KeptPack]) -> Option<&'d str> {
     match place.checked_sub(1) {
         Some(later) => days.get(later).map(|next| next.before.as_str()),

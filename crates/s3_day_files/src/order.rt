@@ -40,7 +40,7 @@ pub struct Order<'a> {
     pub rules: Option<&'a str>,
     /// Whether the file `-` of a deck is plain text.
     pub is_input_plain: bool,
-    /// Who is asked if no rule answers.
+    /// The person or list that is asked if no rule answers.
     pub questioned: Questioned,
     /// How far each level goes at most.
     pub bounds: Bounds,
@@ -168,7 +168,7 @@ pub fn replies_of<'a>(words: &ArgMatches<'a>) -> Result<(Option<&'a str>, bool),
     Ok((rules, has_lines))
 }
 
-/// Who is asked if no rule answers. If standard input is a file of the day, nobody is.
+/// The person or list that is asked if no rule answers. If standard input is a file of the day, nobody is asked.
 fn questioned(rt: &HostRuntime, words: &ArgMatches<'_>, has_lines: bool) -> Questioned {
     if has_lines {
         Questioned::Lines

@@ -416,7 +416,7 @@ fn taken<'a>(rt: &HostRuntime, name: &'a str) -> DayFault<'a> {
     }
 }
 
-/// Whether an output may replace the file that has its name. The log of a refused day gives way to that of a day.
+/// Whether an output may replace the file that has its name. A day's log replaces the log of a refused day.
 fn replaces(rt: &HostRuntime, order: &Order<'_>, name: &str, kind: Kind) -> bool {
     order.overwrites || (matches!(kind, Kind::Log) && is_refused_log(rt, name))
 }

@@ -13,7 +13,7 @@
 //!   reported as over exactly if it is (`Papers::is_one_over`).
 //!
 //! Proved of `operate_printing`: each time that the operator follows, all lines that level 1 has printed are written, and those of
-//! level 2 if level 1 is over and its deck was read (`answered`), and nothing else is (`written`).
+//! level 2 if level 1 is over and its deck was read (`answered`). Nothing else is written (`written`).
 //!
 //! Proved of `operate`, over any machine that continues as a bureau does: the same of each world that the machine held, and what the
 //! machine's own relations say of entries that are performed, they say of all of them (`after`); what its calls keep, whatever they

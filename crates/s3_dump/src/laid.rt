@@ -104,7 +104,7 @@ fn layout_among<'a>(
     None
 }
 
-/// Whether a layout is that of a file's record.
+/// Whether a layout is the one for this record of a file.
 fn is_layout_of(file: &FileLayout<'_>, area: u16, name: Name, bytes: &[u8]) -> bool
     ensures value { result ≡ is_layout_of_spec area name bytes.now file.now }
     ensures long { result ≡ true → file.now.layout.now.record_length ≡ length bytes.now }

@@ -14,8 +14,8 @@ use s3_operator::Halt;
 use s3_store::PackStore;
 use std::alloc::{AllocError, Global};
 
-/// Appends the block of the halt that waits in a level: what it means, where it is and what it is about, which replies it
-/// allows and what each of them does. The deck's text is the one that the level's cards were read from, `begun` has followed the level
+/// Appends the block of a level's waiting halt: its meaning, its place, what it is about, the replies that it allows, and the effect of
+/// each reply. The deck's text is the one that the level's cards were read from, `begun` has followed the level
 /// up to this halt, and the evidence is what `look` gave for it.
 pub fn push_halt<S: PackStore>(
     text: &mut String,

@@ -22,7 +22,7 @@ pub struct Operated {
     pub deck2: String,
     /// The checksum of the file of rules, if one was given.
     pub rules: Option<String>,
-    /// Who was asked if no rule answered: `lines`, `operator` or `nobody`.
+    /// What was asked if no rule answered: `lines`, `operator` or `nobody`.
     pub replies: String,
     /// What level 1 did.
     pub one: LevelCount,

@@ -27,7 +27,7 @@ pub fn line_of(alloc: Global, day: &PostedDay, before: &str) -> Result<String, A
     Ok(line)
 }
 
-/// A day as text, given the checksum of the line before, and that of the line itself, if it gets one.
+/// A day as text, given the checksum of the line before, and the line's own checksum if it gets one.
 pub(crate) fn text_with(
     alloc: Global,
     day: &PostedDay,

@@ -1,4 +1,4 @@
-//! The job at work: its turn, what it continues with, where it is then, and its end.
+//! The running job: its turn, what it continues with, its place after that, and its end.
 
 use crate::level::Level;
 use crate::next::Next;

@@ -127,7 +127,7 @@ fn put_text(draft: &mut Draft, text: &str) {
 /// What comes before the commands.
 const START: &str =
     "# Completions of bureau for fish. `bureau help completions fish` writes this file; fish reads it as bureau.fish.
-# Whether the words before are just these, after the name of the program.
+# Whether the arguments so far, after the name of the program, are exactly these.
 function __bureau_words
     set -l words (commandline -opc)
     set -e words[1]

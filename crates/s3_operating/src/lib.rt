@@ -3,7 +3,7 @@
 //! docs/OPERATING.md has all of it.
 //!
 //! Each call is proved to be safe and to return. Unless a write has failed, `Desk::close` is proved to leave in the script's file what it
-//! began with and the script of the entries that it gets, and nothing else (`HasScript`), and not to give up that file. `Journal::note`
+//! began with and exactly the script of the entries that it gets (`HasScript`), and not to give up that file. `Journal::note`
 //! is proved to add to the log the line of its event (`IsNoted`), at a second that the clock gave in that call (`IsNotedAt`). `Lost::find`
 //! is proved to find why a file no longer keeps what is written to it, and `EndedDay` whether the pack is saved, if not, why, and whether
 //! a person is asked about it. Tested: which events are logged, what is printed, and that the program gives `close` what

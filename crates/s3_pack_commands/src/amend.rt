@@ -333,7 +333,7 @@ fn print_record(
     }
 }
 
-/// That the record can't be printed, which is amended.
+/// The sentence for a record that is amended and can't be printed.
 fn unprinted_sentence(alloc: Global, error: io::Error) -> Result<String, AllocError> {
     format!(in alloc;
         "the record is amended, but can't be printed, because standard output can't be written: {error}"

@@ -145,7 +145,7 @@ impl CommandWords {
         Some(refused.name)
     }
 
-    /// How the command is used. A parser has this line itself unless an option may stand in place of what has to be given.
+    /// How the command is used. The parser has this line itself, unless an option may replace a required argument.
     fn usage(&self, alloc: Global) -> Result<String, AllocError> {
         let name = self.name;
         let mut usage = format!(in alloc; "bureau {name} [OPTIONS]")?;

@@ -34,9 +34,9 @@ const MOST_SEARCHES: usize = 20;
 pub struct Reasons {
     /// Those of 01 and 08. A card has one of them at most.
     by_card: IndexMap<u16, String>,
-    /// Those of 05.
+    /// The reasons of 05: similar names.
     similar: IndexMap<u16, String>,
-    /// That of 12 on the RUN card.
+    /// The reason of 12 on the RUN card.
     primary: IndexMap<u16, String>,
 }
 

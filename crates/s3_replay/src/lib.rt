@@ -7,8 +7,8 @@
 //! entries as they were performed, `script_text` is proved to be their script (`text_of`), and `run` to read exactly those
 //! entries from it (`scripts_read_back`). `Tape` writes that script to a file during a day: unless a write failed, the file is
 //! proved to end with the script of the parts written so far, whatever happens between two calls, and after `finish` with the
-//! script of all entries that were performed, after what the file began with and nothing else (`HasScript`). The premise is a type of
-//! file whose bytes are known, as of one in memory. Each call of `Tape` appends the script of the parts that it adds, and nothing else
+//! script of all entries that were performed, directly after what the file began with (`HasScript`). The premise is a type of
+//! file whose bytes are known, as of one in memory. Each call of `Tape` appends exactly the script of the parts that it adds
 //! (`Tapes`), and a file that it has stays its file. `follow` leaves no reply unwritten except in the last part (`AreRepliesWritten`),
 //! and `bytes` counts the bytes of the script.
 

@@ -43,7 +43,7 @@ impl Outcome {
     }
 }
 
-/// The cards of a deck, where they are in its files, and what is to be listed of them.
+/// The cards of a deck, their places in its files, and what must be listed.
 #[derive(Clone, Copy)]
 struct Listed<'a> {
     files: &'a DeckText<'a>,
