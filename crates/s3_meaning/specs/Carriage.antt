@@ -11,7 +11,7 @@ pub record Carriage : Type 0 where
 abbrev pub next_page : ℕ → ℕ
 next_page page = if nat_lt page 9999 then page + 1 else 0
 
--- moves from line 60 or above it on the page to a line below 60
+-- moves from line 60 at most to a later line
 abbrev pub passes : ℕ → ℕ → Bool
 passes from to = not (nat_lt 60 from) && nat_lt 60 to
 

@@ -40,7 +40,7 @@ names_overflow source group = on (overflow_of source.files)
     on (Some indicator) = list_any (is_plainly indicator) group
     on None = false
 
--- at overflow time by a group that names the overflow indicator, otherwise by a group that doesn't
+-- At overflow time a group that names the overflow indicator must hold, at other times a group that doesn't name it.
 abbrev pub line_holds : Source → (at_overflow : Bool) → Environment → Output → Bool
 line_holds source true e line = list_any (λ group. names_overflow source group && all_hold e group) line.groups
 line_holds source false e line = list_any (λ group. not (names_overflow source group) && all_hold e group) line.groups

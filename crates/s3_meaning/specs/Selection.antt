@@ -21,11 +21,11 @@ use Rattle.s3_meaning.specs.Source.{Source, is_designated, own_fields}
 use Rattle.s3_meaning.specs.Environment.{Environment}
 
 -- ---- the type of a record
--- the zone of a code's character
+-- the zone of a code's character: C for &, D for -, F for a blank, otherwise the high half of its byte
 abbrev pub zone_of : ℕ → ℕ
 zone_of character = if character == 0x50 then 0xc else (if character == 0x60 then 0xd else (if character == 0x40 then 0xf else character / 16))
 
--- a byte has its own zone, and the zone of its character in the codes
+-- whether a byte has this zone: as its high half, or as the zone of its character
 abbrev pub has_zone : ℕ → ℕ → Bool
 has_zone byte zone = byte / 16 == zone || zone_of byte == zone
 

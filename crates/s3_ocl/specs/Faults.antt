@@ -87,7 +87,7 @@ lacks_needed verb.Run pieces = false
 abbrev pub has_two_sizes : List Piece → Bool
 has_two_sizes pieces = is_given parameter.Records pieces && is_given parameter.Tracks pieces
 
--- whether a statement lacks a parameter, ends with a comma and nothing after it, or has both RECORDS and TRACKS
+-- whether a statement lacks a required parameter, ends with a comma and nothing after it, or has both RECORDS and TRACKS
 abbrev pub is_ill_formed : Verb → Statement → Bool
 is_ill_formed verb statement =
     statement.is_open || lacks_needed verb statement.pieces || has_two_sizes statement.pieces

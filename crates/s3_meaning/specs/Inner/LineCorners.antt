@@ -302,7 +302,7 @@ spaces_past_60 = record {
   requests = Card ∷ printed_at 1 59 (codes "D") ∷ Card ∷ printed_at 2 1 (codes "H") ∷ printed_at 2 59 (codes "D") ∷ Card ∷ [];
 }
 
--- a skip after printing within the page passes 60 too; moving from below line 60 sets no overflow
+-- a skip after printing within the page passes 60 too; from a line after 60, no movement sets overflow
 abbrev pub skips_past_60 : Corner
 skips_past_60 = record {
   sheets =
