@@ -123,7 +123,7 @@ file_of pieces = option_map (file_with pieces) (name_in parameter.FileName piece
 abbrev pub files_of : List Statement → List FileStatement
 files_of statements = filter_map (λ statement. file_of statement.pieces) statements
 
--- the first value that a statement gives
+-- the value of the first statement that gives one
 unfoldable pub first_in : {X : Type 0} → (Statement → Option X) → List Statement → Option X
 first_in f [] = None
 first_in f (statement ∷ statements) = option_or (f statement) (first_in f statements)
@@ -138,6 +138,6 @@ date_of statements = first_in (λ statement. date_in statement.pieces) statement
 abbrev pub switches_of : List Statement → Option (List Switch)
 switches_of statements = first_in (λ statement. switches_in statement.pieces) statements
 
--- whether the statements contain this one
+-- whether one of the statements has this verb
 abbrev pub has : Verb → List Statement → Bool
 has verb statements = list_any (λ statement. is_verb verb statement.verb) statements

@@ -92,7 +92,7 @@ abbrev pub is_ill_formed : Verb → Statement → Bool
 is_ill_formed verb statement =
     statement.is_open || lacks_needed verb statement.pieces || has_two_sizes statement.pieces
 
--- whether an earlier statement is the same; FILE may be repeated
+-- whether an earlier statement has the same verb; FILE may be repeated
 abbrev pub is_again : Verb → List Statement → Bool
 is_again verb.File before = false
 is_again verb before = has verb before

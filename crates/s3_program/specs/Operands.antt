@@ -1,7 +1,6 @@
--- Diagnostic 8: an unknown operation, or an operand that is missing, surplus or of the wrong kind.
--- Operands are factors, result, H and resulting indicators.
--- It also covers an edit code that doesn't fit its field, a packed text, and a field that would begin before position 1.
--- An undefined name passes as any kind: it gets only diagnostic 5.
+-- Diagnostic 8: an unknown operation, or an operand that is missing, surplus or of the wrong kind. Operands are factors, result, H and
+-- resulting indicators. It also covers an edit code that doesn't fit its field, a packed text, and a field that would begin before position
+-- 1. An undefined name passes as any kind: it gets only diagnostic 5.
 use Rattle.std.specs.Prelude.{ℕ, ◌+◌, ◌/◌, ◌==◌, nat_le, Bool, true, false, not, ◌&&◌, ◌||◌, List, [], ◌∷◌, Option, Some, None, is_some, is_none}
 use Rattle.std.specs.List.{list_any}
 use Rattle.s3_lines.specs.declared.indicator.Indicator.{Indicator}

@@ -1,6 +1,6 @@
--- Diagnostic 9: a line out of place. AND, OR, AN or OR lack the line that they continue, or a field card lacks a record line or line card.
--- Calculation parts are out of order, or an MVR doesn't directly follow a DIV without H in its section.
--- BEGSR and ENDSR don't pair, or a group is left open at the end of the calculations.
+-- Diagnostic 9: a line out of place. A line with AND, OR or AN lacks the line that it continues, or a field card lacks a record line or
+-- line card. Calculation parts are out of order, or an MVR doesn't directly follow a DIV without H in its section. BEGSR and ENDSR don't
+-- pair, or a group is left open at the end of the calculations.
 use Rattle.std.specs.Prelude.{ℕ, ◌==◌, nat_lt, Bool, true, false, not, ◌&&◌, ◌||◌, List, [], ◌∷◌, Option, Some, None, is_none, if◌then◌else◌}
 use Rattle.s3_lines.specs.declared.sheet.InputLine.{InputLine}
 use Rattle.s3_lines.specs.declared.sheet.InputLine.TheVariants.{Record, And as AndCodes, Or as OrCodes, Field as FieldOfRecord}

@@ -1,6 +1,5 @@
 -- Diagnostic 6: a file, tag or subroutine defined twice, a field with two kinds, lengths or decimals, or a reserved field defined or
--- changed.
--- PAGE may be changed, with 4 digits and 0 decimals, which is its first definition.
+-- changed. PAGE may be changed; its first definition has 4 digits and 0 decimals, which others must repeat.
 use Rattle.std.specs.Prelude.{ℕ, ◌+◌, ◌-◌, ◌==◌, Bool, false, not, ◌&&◌, ◌||◌, Option, Some, None}
 use Rattle.s3_cards.specs.declared.name.Name.{Name}
 use Rattle.s3_cards.specs.Names.{same_name}

@@ -74,7 +74,7 @@ abbrev pub ends_subroutine : Option Operation → Bool
 ends_subroutine (Some EndSubroutine) = true
 ends_subroutine _ = false
 
--- the section of an SR line, by the place of the last BEGSR
+-- the section of an SR line: 3 plus the place of its subroutine's BEGSR, or 2 outside subroutines
 abbrev pub subroutine_section : Option ℕ → ℕ
 subroutine_section (Some place) = place + 3
 subroutine_section None = 2

@@ -1,6 +1,5 @@
--- Diagnostic 12: a file use outside the table of files, a second card file or print file, or a record line for an output file.
--- A direct load may have record lines.
--- It also covers output lines, packed data, spaces and skips that the file can't have.
+-- Diagnostic 12: a file use outside the table of files, a second card file or print file, or a record line for an output file. A direct
+-- load may have record lines. It also covers output lines, packed data, spaces and skips that the file can't have.
 use Rattle.std.specs.Prelude.{Bool, true, false, not, ◌&&◌, ◌||◌, Option, Some, None}
 use Rattle.std.specs.Option.{option_or}
 use Rattle.s3_lines.specs.declared.sheet.FileLine.{FileLine}

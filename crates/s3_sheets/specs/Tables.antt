@@ -1,6 +1,5 @@
--- The rules of each kind of card, each for some of its columns.
--- Columns without a rule are checked together with others, in Combinations: 24 to 27 of File Description cards,
--- 33 to 42 and 49 to 51 of Calculation cards, 16 to 18 of output lines.
+-- The rules of each kind of card, each for some of its columns. Columns without a rule are checked together with others, in Combinations:
+-- 24 to 27 of File Description cards, 33 to 42 and 49 to 51 of Calculation cards, 16 to 18 of output lines.
 use Rattle.std.specs.Prelude.{ℕ, List, [], ◌∷◌, codes}
 use Rattle.s3_cards.specs.declared.ebcdic.TheConstants.{LETTER_L, LETTER_M}
 use Rattle.s3_cards.specs.Codes.{ebcdic}

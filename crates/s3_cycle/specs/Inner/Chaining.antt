@@ -30,8 +30,8 @@ pub record ChainsAt (c : Stepper) (chain : Chained) : Type 0 where
   pub of_program : IsLineOf c.program line op.Chain
   pub is : IsChained c.program line chain
 
--- A key of the file's key length, or a record number if the file has no key.
--- Its value is the one that the semantics seeks with the run's values.
+-- A key of the file's key length, or a record number if the file has no key. Its value is the one that the semantics seeks with the run's
+-- values.
 pub record Seeks (c : Stepper) (line : CalculationLine Reference) (file : ℕ) (sought : Sought) : Type 0 where
   pub by : IsSoughtBy (file_at c.program file).key sought
   pub value : sought_of sought ≡ sought_in (own c) (held_by c) (named_line c.program line) (file_at c.program file)

@@ -1,6 +1,5 @@
 -- Diagnostic 9 as a condition on a whole source: a line out of place. It lacks the line that it continues, or calculation parts are out of
--- order.
--- An MVR may not directly follow its DIV, BEGSR and ENDSR may not pair, or the calculations may end within a group.
+-- order. An MVR may not directly follow its DIV, BEGSR and ENDSR may not pair, or the calculations may end within a group.
 use Rattle.std.specs.Prelude.{ℕ, ◌==◌, Bool, true, false, not, ◌&&◌, ◌||◌, List, [], ◌∷◌, Option, Some, None, is_some, is_none, map, find, filter_map, if◌then◌else◌}
 use Rattle.std.specs.List.{list_any}
 use Rattle.s3_cards.specs.declared.name.Name.{Name}

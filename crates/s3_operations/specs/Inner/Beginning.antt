@@ -12,8 +12,8 @@ use Rattle.s3_program.specs.Inner.Stands.{source_named}
 use Rattle.s3_operations.specs.Inner.Held.{digits_and_decimals, form_in_shape, held, IsSound}
 use Rattle.s3_operations.specs.declared.values.Values.{Values}
 
--- Each part of the date fits its field of two digits. Six digits always fit.
--- Bytes whose low half is above 9 may give more, up to 165, which a field of two digits can't hold.
+-- Each part of the date fits its field of two digits. Six digits always fit. Bytes whose low half is above 9 may give more, up to 165,
+-- which a field of two digits can't hold.
 pub record IsDate (date : List ℕ) : Type 0 where
   pub month : date_part date 0 < 100
   pub day : date_part date 2 < 100
