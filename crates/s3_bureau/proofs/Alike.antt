@@ -35,7 +35,7 @@ use Rattle.s3_bureau.specs.Inner.Confidentiality.{AlikeHaveSameSpace, AlikeMeans
 use Rattle.s3_bureau.proofs.Spaces.{free_inside}
 
 -- ---- an area
--- two packs with the same slots keep the same in an area where the files that stand are the same
+-- two packs with the same slots have the same in an area, if the files in the slots are the same
 pub area_by : (region : Stretch) (slots now : List Slot) (old new : List (List ℕ)) → now ≡ slots
     → ((label : FileLabel) → standing label.name slots ≡ Present label → kept_on label new ≡ kept_on label old)
     → area_of_slots region new now ≡ area_of_slots region old slots

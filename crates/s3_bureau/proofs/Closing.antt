@@ -187,7 +187,7 @@ flush_holds level areas s t blocks w keeps held = record {
   asked = held.asked;
 }
 
--- a mount judges no slot of a level entangled, and them as a world has them that the level holds
+-- a mount finds no overlapping or duplicate label of a level, and finds the slots as the represented world has them
 mounts_as : (level : LevelId) (his : Level) (before after : Around) → his.id ≡ level → IsPackReady after.areas after.state.contents
     → KeepsSaid level before.areas before.state.contents after.areas after.state.contents → MountsAs level before his after
 mounts_as level his before after id pack keeps = λ said. (

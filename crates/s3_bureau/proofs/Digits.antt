@@ -11,7 +11,7 @@ one_digit k n few =
     let room : (k + 1) - 1 ≡ k = omega arith in
     ap (λ t. replicate ((k + 1) - length t) 48 ++ t) (decimal_digit n few) ∙ ap (λ m. replicate m 48 ++ (48 + n) ∷ []) room
 
--- the last digit stands behind the others
+-- the last digit comes after the others
 one_digit_more : (k n : ℕ) → n < 2 ^ 64 → in_digits (k + 2) n ≡ in_digits (k + 1) (n / 10) ++ (48 + n % 10) ∷ []
 one_digit_more k n small = elim (cases_lt n 10) [
   | inl few ↦

@@ -1,4 +1,4 @@
--- Bytes that are laid out one behind the other.
+-- Bytes that are written one after another.
 use Rattle.std.proofs.Common.{◌≡◌, ◌<◌, ◌≤◌, ◌+◌, ◌-◌, ℕ, List, [], ◌∷◌, ◌++◌, ap, ◌∙◌, arith, length, length-append, take, get_or, append_assoc, replicate}
 use Rattle.std.specs.Prelude.{map, slice_index}
 use Rattle.std.specs.Fmt.{decimal}
@@ -33,7 +33,7 @@ number_laid at first end old between new zeros digits width number few are is_nu
       ends = omega (arith, laid.ends, behind.ends, length-append zeros digits, ap length whole);
     }
 
--- a line behind others, its page and line first
+-- a line after others, its page and line number first
 pub line_whole : (front page line shown : List ℕ)
     → ((front ++ (page ++ 32 ∷ [] ++ line ++ 32 ∷ [])) ++ shown) ++ 10 ∷ [] ≡ front ++ (page ++ 32 ∷ [] ++ line ++ 32 ∷ [] ++ shown ++ 10 ∷ [])
 line_whole front page line shown = simp append_assoc

@@ -1,4 +1,4 @@
--- A run over a migrated pack gives the texts of the same run over the old one, where no halt for want of space is shown.
+-- A run over a migrated pack gives the texts of the same run over the old one, if no halt is shown because space was lacking.
 use Rattle.std.proofs.Common.{◌≡◌, ℕ, false, List, Option, Some, None, Ok, refl, sym, ap, ap₂, ◌∙◌}
 use Rattle.s3_cards.specs.Deck.{deck_of}
 use Rattle.s3_cards.specs.declared.levels.LevelId.{LevelId}

@@ -33,7 +33,7 @@ is_fresh areas s blocks quota_one quota_two mounted pack one two quota1 quota2 =
     quotas One = one.1 ∙ quota1
     quotas Two = two.1 ∙ quota2
 
--- the labels of a level say its slots, where none is entangled
+-- the labels of a level give its slots, if none overlaps or is duplicate
 pub said_at_start : (level : LevelId) (areas : Areas) (contents : List (List ℕ)) (bureau : State) → areas ≡ areas_on areas.header contents → bureau.beside.areas ≡ areas → bureau.beside.state.contents ≡ contents
     → IsUntangled (header_of bureau).format (region_of level (header_of bureau)) (area_of level) contents → IsSaid level bureau
 said_at_start level areas contents bureau mounted same there untangled =

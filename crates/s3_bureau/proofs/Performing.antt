@@ -192,7 +192,7 @@ commands_stopped n all command first middle last more before after =
     (sym (flat_map-append entries_by (take (n + 1) all) (drop (n + 1) all)) ∙ ap (flat_map entries_by) (take-append-drop (n + 1) all))
     (leaves_fewer (flat_map entries_by (take (n + 1) all)) (flat_map entries_by (drop (n + 1) all)) first last (commands_leave (take n all) (take (n + 1) all) command first middle last more before after))
 
--- ---- both levels are closed behind them
+-- ---- both levels are closed after their entries
 pub sectors_left : (entries : List Entry) (first middle last : State) → Leaves entries first middle
     → KeepsInStep (IsCommon (header_of middle)) middle.beside.state last.beside.state
     → ((level : LevelId) → rests level middle → KeepsInStep (IsOwn level (header_of middle)) middle.beside.state last.beside.state)

@@ -11,7 +11,7 @@ use Rattle.s3_level.specs.declared.level.Level.{Level}
 use Rattle.s3_bureau.specs.Inner.Held.{State, HoldsFor, IsReadyFor, is_open, level_of}
 use Rattle.s3_bureau.specs.Inner.Queries.{queued}
 
--- so many lines are queued as stand behind those that were drained
+-- the number of queued lines is the number of lines after the drained ones
 queued_behind : (drained queue : List Printed) (lines : Lines) → lines.printed ≡ drained ++ queue → lines.drained ≡ length drained → length queue ≡ queued lines
 queued_behind drained queue lines printed counted =
     sym (ap (λ (all : List Printed). length all - lines.drained) printed ∙ ap (λ (n : ℕ). length (drained ++ queue) - n) counted ∙ omega (arith, length-append drained queue))
@@ -23,7 +23,7 @@ queued_held level bureau w held =
     sym (queue_length holder.id bureau.beside.blocks bureau.beside.state.contents)
     ∙ queued_behind holder.lines.items (queue_of holder.id bureau.beside.blocks bureau.beside.state.contents) w.lines lines.printed lines.drained_lines
 
--- a level of a bureau that takes entries stands in its place
+-- a level of an open bureau can take entries in its own part of the pack
 in_place : (level : LevelId) (bureau : State) → IsReadyFor bureau.one bureau.two bureau.beside → (level_of level bureau).id ≡ level
 in_place One bureau ready = ready.one_is
 in_place Two bureau ready = ready.two_is

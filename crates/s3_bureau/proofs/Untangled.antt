@@ -1,4 +1,4 @@
--- Slots that are entangled, and labels each of which says its slot by itself.
+-- Overlapping and duplicate labels, and labels that each give their slot by themselves.
 use Rattle.std.proofs.Common.{◌≡◌, ℕ, zero, suc, ◌+◌, ◌<◌, ◌==◌, ◌&&◌, Bool, true, false, not, List, [], ◌∷◌, ◌++◌, length, map, take, slice_get, slice_index, Option, Some, None, if◌then◌else◌, refl, sym, ap, ap₂, ◌∙◌, arith, length-append}
 use Rattle.std.specs.List.{list_all, range_with_len}
 use Rattle.std.proofs.lemmas.Bool.{and_from, eqb-true}
@@ -59,7 +59,7 @@ by_marks region earlier false false name found one = refl
 not_both : (mark : ℕ) → (mark == 0) ≡ true → (mark == 1) ≡ false
 not_both mark is = let e : mark ≡ 0 = eqb-true mark 0 is in rw e refl
 
--- it is entangled where it is sound alone, and not behind the slots before it
+-- a slot is entangled if its label is valid alone and isn't valid after the slots before it
 pub entangled_is : (format : Format) (region : Stretch) (earlier : List Slot) (bytes : List ℕ)
     → is_entangled format region earlier bytes ≡ is_sound_slot (judged format region [] bytes) && not (is_sound_slot (judged format region earlier bytes))
 entangled_is format region earlier bytes = by_marks region earlier (slice_index bytes 0 == 0) (slice_index bytes 0 == 1) (name_in bytes) (label_in format bytes) (not_both (slice_index bytes 0))
@@ -69,7 +69,7 @@ not_more Free = refl
 not_more (Damaged name) = refl
 not_more (Sound label) = refl
 
--- so it isn't where it is judged as if it stood alone
+-- so a slot that is validated as if it were alone isn't entangled
 judged_as_alone : (format : Format) (region : Stretch) (earlier : List Slot) (bytes : List ℕ) → judged format region earlier bytes ≡ judged format region [] bytes → is_entangled format region earlier bytes ≡ false
 judged_as_alone format region earlier bytes same =
     entangled_is format region earlier bytes
@@ -128,7 +128,7 @@ from_zero i few = let e : 0 + i ≡ i = omega arith in range_at 0 32 i few ∙ a
 one_slot : (a b : Slot) → Some a ≡ Some b → a ≡ b
 one_slot a b same = cc
 
--- where each slot is as its label says by itself, none is entangled
+-- if each slot is as its label gives it alone, none is entangled
 alone_untangled : (format : Format) (region : Stretch) (area : ℕ) (contents : List (List ℕ)) → slots_alone format region area contents ≡ slots_of format region area contents → IsUntangled format region area contents
 unfolding slots_of slots_alone
 alone_untangled format region area contents same = λ i few.
@@ -140,7 +140,7 @@ alone_untangled format region area contents same = λ i few.
     judged_as_alone format region (take i (slots_of format region area contents)) bytes
     (one_slot (judged format region (take i (slots_of format region area contents)) bytes) (judged format region [] bytes) (sym behind ∙ ap (λ slots. slice_get slots i) (sym same) ∙ alone))
 
--- labels that say the slots of their level leave none entangled
+-- labels that give the slots of their level leave none entangled
 pub untangled_as_said : (level : LevelId) (areas : Areas) (contents : List (List ℕ)) → AreKept (region_at level areas) (slots_at level areas) → SaysSlots level areas contents
     → IsUntangled areas.header.format (region_at level areas) (area_of level) contents
 untangled_as_said level areas contents kept says =

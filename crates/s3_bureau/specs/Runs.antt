@@ -1,4 +1,4 @@
--- What a run makes of a pack, two decks and a script: the texts of both levels and what it leaves of the pack, or its refusal.
+-- What a run makes of a pack, two decks and a script: the texts of both levels and the pack that it leaves, or its refusal.
 use Rattle.std.specs.Prelude.{◌≡◌, ◌++◌, ◌∷◌, ℕ, List, [], codes, length, slice_get, Option, None, Result, Ok, Err}
 use Rattle.std.specs.List.{concat}
 use Rattle.s3_cards.specs.declared.levels.LevelId.{LevelId}
@@ -38,7 +38,7 @@ pub record RunTexts : Type 0 where
   pub one : Texts
   pub two : Texts
 
--- the reports and the halt texts, each under its heading
+-- a line with its end, the heading of a text, and both reports and halt texts, each after its heading
 abbrev pub line : List ℕ → List ℕ
 line text = text ++ 10 ∷ []
 
@@ -47,17 +47,17 @@ output_of texts =
     line (codes ":report1") ++ texts.one.report ++ line (codes ":halts1") ++ texts.one.halts
     ++ line (codes ":report2") ++ texts.two.report ++ line (codes ":halts2") ++ texts.two.halts
 
--- the cards of a deck; one that was refused counts as empty
+-- the cards of a deck; a refused deck counts as empty
 abbrev pub cards_of : Result (List (List ℕ)) DeckFault → List (List ℕ)
 cards_of (Ok cards) = cards
 cards_of (Err fault) = []
 
--- why a deck was refused: the number of the card at fault, and that of its fault
+-- why a deck was refused: the number of the faulty card, and the number of the fault
 abbrev pub refusal_of : Result (List (List ℕ)) DeckFault → Option (ℕ × ℕ)
 refusal_of (Ok cards) = None
 refusal_of (Err fault) = detail_of fault
 
--- the texts of a world, beside a deck that was refused or not
+-- the texts of a world, after the line for a refused deck if there is one
 abbrev pub texts_of : Option (ℕ × ℕ) → World → Texts
 texts_of refusal w = record { report = report_of w.lines.printed; halts = halt_text_of refusal w.halts }
 
@@ -74,7 +74,7 @@ abbrev pub entries_texts : Header → (contents : List (List ℕ)) → (deck1 de
 entries_texts header contents deck1 deck2 entries =
     record { one = level_texts One header contents deck1 (own One entries); two = level_texts Two header contents deck2 (own Two entries) }
 
--- the pack is mounted, or refused
+-- the texts over a mounted pack, or the error of a refused one
 abbrev pub texts_over : Result Header MountFault → (contents : List (List ℕ)) → (deck1 deck2 : List ℕ) → List Entry → Result RunTexts RunFault
 texts_over (Ok header) contents deck1 deck2 entries = Ok (entries_texts header contents deck1 deck2 entries)
 texts_over (Err fault) contents deck1 deck2 entries = Err (Mount fault)
@@ -83,29 +83,29 @@ abbrev pub texts_after : (contents : List (List ℕ)) → (deck1 deck2 : List �
 texts_after contents deck1 deck2 (Ok entries) = texts_over (mounted contents) contents deck1 deck2 entries
 texts_after contents deck1 deck2 (Err line) = Err (Script line)
 
--- the texts of a run over a pack and two decks; or the fault of its script, else the pack's
+-- the texts of a run over a pack and two decks; or the error of its script; or else the error of the pack
 abbrev pub run_texts : (pack deck1 deck2 script : List ℕ) → Result RunTexts RunFault
 run_texts pack deck1 deck2 script = texts_after (contents_of pack) deck1 deck2 (entries_of script)
 
--- what a clause sees of an outcome
+-- what a contract sees of an outcome
 abbrev pub texts_in : LevelTexts → Texts
 texts_in texts = record { report = texts.report.items; halts = texts.halts.items }
 
 abbrev pub outcome_texts : Outcome → RunTexts
 outcome_texts outcome = record { one = texts_in outcome.one; two = texts_in outcome.two }
 
--- The files of the level's own that a world has stand so in these sectors, each under the label that the world has for it.
+-- Each of the level's own files in its world is in these sectors, with its label.
 abbrev pub HasFiles : (contents : List (List ℕ)) → World → Type 0
 HasFiles contents w = (label : FileLabel) → standing label.name w.pack.own.slots ≡ Present label → w.pack.own.kept label.name ≡ kept_on label contents
 
--- Where no slot of the level's area was entangled, a mount of these sectors judges each as the world has it.
+-- If no slot of the level's area had an overlapping or duplicate label, a mount of these sectors finds each slot as the world has it.
 abbrev pub HasSlots : LevelId → Header → (old new : List (List ℕ)) → World → Type 0
 HasSlots level header old new w =
     IsUntangled header.format (region_of level header) (area_of level) old → slots_of header.format (region_of level header) (area_of level) new ≡ w.pack.own.slots
 
--- What a run makes of a mounted pack: it has as many sectors, those of its header and its masters, those that nobody uses and all of a
--- level without an entry are as they were, and it has the slots and the files of each level's world. So a mount of it gives the same
--- header and the same masters, and no slot of a level is entangled where none was.
+-- What a run makes of a mounted pack. The number of sectors, the sectors of the header and the masters, the unused sectors, and all sectors
+-- of a level without an entry are unchanged. The pack has the slots and the files of each level's world. So a mount gives the same header
+-- and the same masters, and no label of a level overlaps or is duplicate if none was before.
 pub record LeavesSo (header : Header) (deck1 deck2 : List ℕ) (entries : List Entry) (old new : List (List ℕ)) : Type 0 where
   pub count : length new ≡ length old
   pub common : (n : ℕ) → IsCommon header n → slice_get new n ≡ slice_get old n
@@ -118,7 +118,7 @@ pub record LeavesSo (header : Header) (deck1 deck2 : List ℕ) (entries : List E
   pub one : HasFiles new (run_alone One header old (cards_of (deck_of deck1)) (own One entries))
   pub two : HasFiles new (run_alone Two header old (cards_of (deck_of deck2)) (own Two entries))
 
--- these bytes are whole sectors, and nothing stands behind the last one
+-- these bytes are whole sectors, with no further byte
 abbrev pub AreSectors : (saved : List ℕ) → Type 0
 AreSectors saved = saved ≡ concat (contents_of saved)
 

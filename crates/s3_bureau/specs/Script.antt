@@ -12,7 +12,7 @@ use Rattle.s3_solo.specs.declared.action.Action.TheVariants.{Turn, Reply, Drain}
 use Rattle.s3_bureau.specs.declared.entry.Entry.{Entry}
 use Rattle.s3_bureau.specs.declared.script.Command.{Command}
 
--- the level that a digit names
+-- the level of a digit
 abbrev pub level_named : ℕ → Option LevelId
 level_named digit = if digit == 49 then Some One else if digit == 50 then Some Two else None
 
@@ -21,12 +21,12 @@ abbrev pub count_of : List ℕ → Option ℕ
 count_of digits =
     if nat_le (length digits) 4 && list_all (is_digit_from 48) digits && nat_lt 0 (number_of 48 digits) then Some (number_of 48 digits) else None
 
--- how many times, by what stands behind the level: once, or a blank and a count
+-- the count of a command by the text after its level: once, or a blank and a count
 abbrev pub times_of : List ℕ → Option ℕ
 times_of [] = Some 1
 times_of (blank ∷ digits) = if blank == 32 then count_of digits else None
 
--- the digit that stands alone after a blank
+-- the digit that follows a blank, with no further text
 abbrev pub digit_behind : List ℕ → Option ℕ
 digit_behind (blank ∷ digit ∷ []) = if blank == 32 && is_ascii_digit digit then Some (digit - 48) else None
 digit_behind _ = None
@@ -37,7 +37,7 @@ many level action = option_map (λ n. record { entry = record { level = level; a
 abbrev pub reply : LevelId → Option ℕ → Option Command
 reply level = option_map (λ digit. record { entry = record { level = level; action = Reply digit }; count = 1 })
 
--- a letter, a level and what stands behind them
+-- the command of a letter, a level and the text after them
 abbrev pub command_by : ℕ → Option LevelId → List ℕ → Option Command
 command_by letter None rest = None
 command_by letter (Some level) rest =
@@ -56,22 +56,22 @@ command_of (letter ∷ level ∷ rest) = command_by letter (level_named level) r
 abbrev pub entries_by : Command → List Entry
 entries_by command = replicate command.count command.entry
 
--- the entries of a command and those after it; where line n isn't well formed, its number
+-- the entries of a command and those after it; or the number of line n, if the line is malformed
 abbrev pub with_command : ℕ → Option Command → Result (List Entry) ℕ → Result (List Entry) ℕ
 with_command n None rest = Err n
 with_command n (Some command) (Ok entries) = Ok (entries_by command ++ entries)
 with_command n (Some command) (Err line) = Err line
 
--- line n before the lines after it; an empty line is passed over
+-- line n before the lines after it; an empty line is skipped
 abbrev pub with_line : ℕ → List ℕ → Result (List Entry) ℕ → Result (List Entry) ℕ
 with_line n [] rest = rest
 with_line n (letter ∷ line) rest = with_command n (command_of (letter ∷ line)) rest
 
--- the entries of the lines from line n on, or the number of the first one that isn't well formed
+-- the entries of the lines from line n, or the number of the first malformed one
 abbrev pub entries_from : ℕ → List (List ℕ) → Result (List Entry) ℕ
 entries_from n [] = Ok []
 entries_from n (line ∷ more) = with_line n line (entries_from (n + 1) more)
 
--- the entries of a script, or the number of its first ill-formed line, from 1
+-- the entries of a script, or the number of its first malformed line, from 1
 unfoldable pub entries_of : List ℕ → Result (List Entry) ℕ
 entries_of script = entries_from 1 (lines script)

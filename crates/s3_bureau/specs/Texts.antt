@@ -24,19 +24,19 @@ reply_text None = codes "-"
 unfoldable pub halt_line : ShownHalt → List ℕ
 halt_line h = in_digits 3 h.job ++ 32 ∷ [] ++ letters_of h.code ++ 32 ∷ [] ++ reply_text h.reply ++ 10 ∷ []
 
--- a job, a card and the number of what is wrong there
+-- a job, a card and the number of the error there
 unfoldable pub detail_line : ℕ → ℕ × ℕ → List ℕ
 detail_line job detail = in_digits 3 job ++ 32 ∷ [] ++ in_digits 4 detail.0 ++ 32 ∷ [] ++ in_digits 2 detail.1 ++ 10 ∷ []
 
--- a halt and a line for each of its details
+-- a halt's line, and a line for each of its details
 unfoldable pub halt_lines : ShownHalt → List ℕ
 halt_lines h = halt_line h ++ flat_map (detail_line h.job) h.details
 
--- the line of a deck that was refused
+-- the line for a refused deck
 abbrev pub refusal_line : Option (ℕ × ℕ) → List ℕ
 refusal_line (Some detail) = detail_line 0 detail
 refusal_line None = []
 
--- the halt text of halts, after the line of a deck that was refused
+-- the halt text, after the line for a refused deck
 abbrev pub halt_text_of : Option (ℕ × ℕ) → List ShownHalt → List ℕ
 halt_text_of refusal halts = refusal_line refusal ++ flat_map halt_lines halts

@@ -239,7 +239,7 @@ carriage_return_has_none : has_code 13 ≡ false
 unfolding code_page
 carriage_return_has_none = refl
 
--- a byte without a code doesn't stand in a line without a fault
+-- a line without a fault has no byte without a code
 stands_not : (line : List ℕ) (k byte : ℕ) → fault_of line ≡ None → k < length line → has_code byte ≡ false → (get_or line k 0 == byte) ≡ false
 stands_not line k byte sound within none = elim (cases_Bool (get_or line k 0 == byte)) [
   | inl h ↦ absurd
@@ -260,7 +260,7 @@ newline_at w width within ends sound =
     (λ h. ap is_newline ends)
     ∙ ap (λ (b : Bool). cond b (Some width) None) (lt-ltb width (length w) within)
 
--- what stands in front of a newline and has no fault is the first line
+-- the text before a newline is the first line, if it has no fault
 pub likely_line : (w card after : List ℕ) (width : ℕ) → width < length w → get_or w width 0 ≡ 10 → fault_of (take width w) ≡ None → card ≡ card_of (take width w)
     → after ≡ drop (width + 1) w → StartsWithCard w card after
 likely_line w card after width within ends sound is left =

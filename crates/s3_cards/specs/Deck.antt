@@ -1,4 +1,4 @@
--- What a deck's text says.
+-- The cards of a deck's text, or its first fault.
 use Rattle.std.specs.Prelude.{ℕ, ◌+◌, ◌-◌, List, [], ◌∷◌, ◌++◌, Bool, Option, Some, None, Result, Ok, Err, length, take, map, replicate, nat_lt, is_some, unwrap_or, if◌then◌else◌}
 use Rattle.std.specs.List.{list_all}
 use Rattle.std.specs.Option.{option_map, option_or}
@@ -9,11 +9,11 @@ use Rattle.s3_cards.specs.declared.deck.CardFault.TheVariants.{TooWide, BadChara
 use Rattle.s3_cards.specs.declared.deck.DeckFault.{DeckFault}
 use Rattle.s3_cards.specs.declared.deck.DeckFault.TheVariants.{NoMemory, At}
 
--- whether a character may stand on a card
+-- whether a card may have this character
 abbrev pub has_code : ℕ → Bool
 has_code character = is_some (ebcdic_of character)
 
--- what is wrong with a line as a card
+-- the fault of a line as a card
 unfoldable pub fault_of : List ℕ → Option CardFault
 fault_of line = if nat_lt 96 (length line) then Some TooWide else if list_all has_code line then None else Some BadCharacter
 
@@ -44,7 +44,7 @@ fault_code TooWide = 1
 fault_code BadCharacter = 2
 fault_code TooMany = 3
 
--- the number of the card at fault and of its fault
+-- the number of the faulty card, and the number of its fault
 abbrev pub detail_of : DeckFault → Option (ℕ × ℕ)
 detail_of NoMemory = None
 detail_of (At n fault) = Some (n, fault_code fault)

@@ -1,4 +1,4 @@
--- Names, and the kinds of codes that they have.
+-- Names, and the kinds of codes in them.
 use Rattle.std.specs.Prelude.{ℕ, ◌-◌, List, [], ◌∷◌, ◌++◌, Bool, false, not, ◌==◌, ◌&&◌, ◌||◌, length, take, drop, replicate, nat_eq, nat_le}
 use Rattle.std.specs.List.{list_all, prefix_len}
 use Rattle.std.specs.Cmp.Lexicographic.{pointwise}
@@ -19,7 +19,7 @@ is_within low high code = nat_le low code && nat_le code high
 abbrev pub is_digit : ℕ → Bool
 is_digit code = is_within DIGIT_0 DIGIT_9 code
 
--- A to Z, which lie in three runs
+-- A to Z, in three runs of codes
 abbrev pub is_letter : ℕ → Bool
 is_letter code = is_within LETTER_A LETTER_I code || is_within LETTER_J LETTER_R code || is_within LETTER_S LETTER_Z code
 
@@ -27,26 +27,26 @@ is_letter code = is_within LETTER_A LETTER_I code || is_within LETTER_J LETTER_R
 abbrev pub begins_name : ℕ → Bool
 begins_name code = is_letter code || (code == DOLLAR) || (code == NUMBER_SIGN) || (code == AT_SIGN)
 
--- what else a name may have
+-- the codes that may follow the first one of a name
 abbrev pub goes_on_in_name : ℕ → Bool
 goes_on_in_name code = begins_name code || is_digit code
 
--- a letter, $, # or @, then these or digits
+-- a letter, $, # or @, followed by these or digits
 unfoldable pub is_word : List ℕ → Bool
 is_word [] = false
 is_word (code ∷ codes) = begins_name code && list_all goes_on_in_name codes
 
--- a word on the left, with blanks behind it
+-- a word from the left, followed by blanks
 abbrev pub is_name : List ℕ → Bool
 is_name codes =
     let end : ℕ = prefix_len is_mark codes in
     is_word (take end codes) && list_all is_blank (drop end codes)
 
--- at most eight codes as a name, with blanks behind them
+-- at most eight codes as a name, followed by blanks
 abbrev pub name_of : List ℕ → Name
 name_of codes = record { codes = codes ++ replicate (8 - length codes) BLANK }
 
--- eight blanks, where no name stands
+-- eight blanks, for an entry without a name
 abbrev pub no_name : Name
 no_name = record { codes = replicate 8 BLANK }
 

@@ -1,10 +1,10 @@
--- Numbers as their digits spell them, by the code of 0, behind which those of 1 to 9 lie in order.
+-- Numbers as their digits spell them. A character set is given by its code of 0; the codes of 1 to 9 follow in order.
 use Rattle.std.specs.Prelude.{ℕ, ◌+◌, ◌-◌, List, ◌++◌, Bool, length, map, replicate}
 use Rattle.std.specs.Fmt.{decimal}
 use Rattle.std.specs.Int.Digits.{number_from_digits}
 use Rattle.s3_cards.specs.Names.{is_within}
 
--- one of the ten codes from that of 0 on
+-- one of the ten codes from the code of 0
 abbrev pub is_digit_from : ℕ → ℕ → Bool
 is_digit_from code_of_zero code = is_within code_of_zero (code_of_zero + 9) code
 

@@ -1,4 +1,4 @@
--- Digits in front of a point and behind it.
+-- Digits before a point and after it.
 use Rattle.std.proofs.Common.{◌≡◌, ℕ, ◌+◌, ◌-◌, ◌*◌, ◌%◌, ◌^◌, ◌<◌, ◌≤◌, refl, arith, sym, ◌∙◌, ap, ap₂, Bool, true, false, cond, List, [], ◌∷◌, ◌++◌, map, length, take, drop, get_or, replicate, append_assoc, min, nat_le, ℤ, unsigned_abs, to_z, of_z, w64, FitsSigned}
 use Rattle.std.specs.Bool.{◌==◌}
 use Rattle.std.specs.List.{after_first, before_first, position_or_len}

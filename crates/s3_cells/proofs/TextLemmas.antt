@@ -104,14 +104,14 @@ drop_again zero xs = let e : zero + 1 ≡ 1 = omega arith in ap (λ n. drop n xs
 drop_again (suc i) [] = let e : suc i + 1 ≡ suc (i + 1) = omega arith in ap (λ n. drop n []) e
 drop_again (suc i) (x ∷ xs) = let e : suc i + 1 ≡ suc (i + 1) = omega arith in ap (λ n. drop n (x ∷ xs)) e ∙ drop_again i xs
 
--- and behind them blanks
+-- blanks follow
 pub blanks_left : (bytes : List ℕ) (i v : ℕ) → i < length bytes → drop i bytes ≡ replicate (length bytes - i) BLANK → drop (i + 1) (set bytes i v) ≡ replicate (length (set bytes i v) - (i + 1)) BLANK
 blanks_left bytes i v h e =
     let past : i < i + 1 = omega arith in
     let fewer : length bytes - i - 1 ≡ length (set bytes i v) - (i + 1) = omega (arith, length-set {A = ℕ}) in
     drop-set-lt (i + 1) bytes i v past ∙ drop_again i bytes ∙ ap (drop 1) e ∙ drop-replicate 1 (length bytes - i) BLANK ∙ ap (λ n. replicate n BLANK) fewer
 
--- what is appended and then cut, in the words of the code
+-- what is appended and then cut, in the form of the code
 pub kept_after : (items before_items characters cut : List ℕ) (before n kept k : ℕ) → take kept cut ≡ trimmed cut → cut ≡ take n (drop before items) → items ≡ before_items ++ characters → before ≡ length before_items → n ≡ length items - before → k ≡ before + kept
     → take k items ≡ before_items ++ trimmed characters
 kept_after items before_items characters cut before n kept k value is all start long sum =

@@ -93,7 +93,7 @@ first_of_take zero text first = cc
 first_of_take (suc n) [] first = first
 first_of_take (suc n) (byte ∷ bytes) first = first
 
--- what stands on a line begins as the line does
+-- the text of a line begins as the line does
 first_of_content : (line : List ℕ) → slice_index (content_of line) 0 ≡ 58 → slice_index line 0 ≡ 58
 first_of_content line = either (slice_index line (length line - 1) == 10) (strip_carriage_return (take (length line - 1) line)) line (stripped (take (length line - 1) line) (first_of_take (length line - 1) line)) (λ first. first)
   where
@@ -170,7 +170,7 @@ onto_first-append : (byte : ℕ) (lines more : List (List ℕ)) → 0 < length l
 onto_first-append byte [] more some = absurd (omega arith)
 onto_first-append byte (line ∷ lines) more some = refl
 
--- a text that an LF ends, and another one behind it
+-- a text that ends in LF, and another text after it
 whole_lines-append : (n : ℕ) (front back : List ℕ) → length front ≡ suc n → slice_index front n ≡ 10 → whole_lines (front ++ back) ≡ whole_lines front ++ whole_lines back
 whole_lines-append n [] back long ends = absurd (omega arith)
 whole_lines-append zero (byte ∷ []) back long ends = let this : (byte == 10) ≡ true = rw ends refl in rw this refl
@@ -299,7 +299,7 @@ no_more word text passed so_far begins none =
     subst (λ xs. (k : ℕ) → k < length xs → (slice_index xs k == 58) ≡ true → ⊥) (rest_is text passed) none in
     passes_all word text passed so_far begins (no_colon (drop passed text) none_in)
 
--- a marker behind the lines so far
+-- a marker after the lines so far
 pub has_it : (word text line : List ℕ) (more : List (List ℕ)) (start : ℕ) → PassesOver word text start → whole_lines (drop start text) ≡ line ∷ more → is_marker word line ≡ true
     → list_any (is_marker word) (whole_lines text) ≡ true
 has_it word text line more start so_far next marks =

@@ -18,11 +18,11 @@ whole_lines (byte ∷ bytes) = if byte == 10 then (byte ∷ []) ∷ whole_lines 
 abbrev pub text_of : List (List ℕ) → List ℕ
 text_of lines = flat_map (λ line. line) lines
 
--- what stands on a line, without the LF, or CR and LF, that ends it
+-- the text of a line without its end, LF or CR LF
 abbrev pub content_of : List ℕ → List ℕ
 content_of line = if slice_index line (length line - 1) == 10 then strip_carriage_return (take (length line - 1) line) else line
 
--- a line that is a marker bears its word alone
+-- a marker's line has only the marker
 abbrev pub is_marker : List ℕ → List ℕ → Bool
 is_marker word line = pointwise nat_eq (content_of line) word
 

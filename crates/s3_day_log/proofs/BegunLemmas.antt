@@ -117,7 +117,7 @@ pub all_begun : (begins : Bool) (first last : List BegunJob) (place place_now : 
 all_begun begins first last place place_now jobs jobs_now at same is not_yet so_far =
     sym (none_begins place jobs.items (overs last) (begins_same begins place place_now jobs jobs_now last at same is ∙ not_yet)) ∙ so_far
 
--- ---- a level that stands still
+-- ---- a level that doesn't change
 pub stays_place : (old_place place : ℕ) (was_open is_open : Bool) → stands_still old_place place was_open is_open ≡ true → old_place ≡ place
 stays_place old_place place was_open is_open still = eqb-true old_place place (and_parts (old_place == place) (same_bool was_open is_open) still).0
 

@@ -1,4 +1,4 @@
--- Parts of a record, and of the buffer in which it stands behind eight bytes.
+-- Parts of a record, and of the buffer that has the record after eight bytes.
 use Rattle.std.proofs.Common.{◌≡◌, ℕ, ◌+◌, ◌-◌, ◌≤◌, arith, sym, ◌∙◌, ap, subst, List, ◌++◌, length, take, drop, length-drop}
 use Rattle.std.specs.Prelude.{slice_range}
 use Rattle.std.proofs.Math.Seq.{take-add}

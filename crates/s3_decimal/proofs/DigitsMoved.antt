@@ -105,7 +105,7 @@ moved_by false from g old p low e h l t =
     let low_is : low ≡ number_of (moved_digits from g old) = low_digits from old p low (omega arith) l ∙ ap (λ k. number_of (moved_digits from k old)) same in
     omega (arith, ap (λ n. n * 10 ^ p) none, low_is)
 
--- what the code computes is what stands at every place
+-- what the code computes is the digit at every place
 pub moved_is : (from : List ℕ) (g : ℕ) (old : ℤ) (p low : ℕ) → p ≡ min (length from) g → unsigned_abs old < 10 ^ g → low ≡ number_of (map cleaned (zoned_digits (drop (length from - p) from))) → unsigned_abs old / 10 ^ p * 10 ^ p + low ≡ number_of (moved_digits from g old)
 moved_is from g old p low e h l = moved_by (nat_lt (length from) g) from g old p low e h l refl
 

@@ -1,4 +1,4 @@
--- Steps of the loops over a deck's lines, and places behind a map.
+-- Steps of the loops over a deck's lines, and places after a map.
 use Rattle.std.proofs.Common.{◌≡◌, ℕ, ◌+◌, ◌<◌, List, [], ◌∷◌, ◌++◌, Bool, true, false, not, cond, Option, Some, length, map, take, drop, get_or, length-drop, drop-cons, add-one, append_assoc, refl, sym, ap, ◌∙◌, arith, zero, suc, if◌then◌else◌}
 use Rattle.std.proofs.lemmas.List.{length-map, append-nil, get_or-map, length-take-le, map-append, take-append-drop, take_more}
 use Rattle.std.proofs.lemmas.List.Elements.{filter-append}
@@ -32,7 +32,7 @@ one_line_more file count =
     ∙ map-append (λ number. (file, number)) (range_with_len 1 count) ((1 + count) ∷ [])
     ∙ ap (λ number. first_lines file count ++ (file, number) ∷ []) (omega arith)
 
--- the places of a file's first lines, with one more pushed behind them
+-- the places of a file's first lines, with one more at the end
 pub pushed : (file : List ℕ) (before : List FileLine) (items : List FilePlace) (x : FilePlace) (count : ℕ) → map line_seen items ≡ before ++ first_lines file count → line_seen x ≡ (file, count + 1) → map line_seen (items ++ x ∷ []) ≡ before ++ first_lines file (count + 1)
 pushed file before items x count so_far is =
     map-append line_seen items (x ∷ [])
@@ -78,7 +78,7 @@ next_line all n line more left =
     let both : get_or all n [] ∷ drop (n + 1) all ≡ line ∷ more = rw (add-one n) (sym (drop-cons all n [] within) ∙ left) in
     (within, grind (arith, both), grind (arith, both))
 
--- the text of what is kept with one line more, and the lines behind it
+-- the text that is kept with one line more, and the lines after it
 pub line_more : (ranges : List CardRange) (found : List ℕ) (all : List (List ℕ)) (n : ℕ) (line : List ℕ) (more : List (List ℕ)) (out : Bool) → found ≡ joined (kept ranges (take n all)) → drop n all ≡ line ∷ more → out ≡ is_left_out ranges n → (found ++ joined (if out then [] else line ∷ []) ≡ joined (kept ranges (take (n + 1) all))) × (more ≡ drop (n + 1) all)
 line_more ranges found all n line more out so_far left is =
     let next = next_line all n line more left in rw is (

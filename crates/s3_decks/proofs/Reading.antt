@@ -22,7 +22,7 @@ no_more cards zero place past = refl
 no_more cards (suc turns) place past =
     ap (λ (t : Bool). cond t (job_at cards (next_job cards place) ∷ jobs_within turns cards (place_after (job_at cards (next_job cards place)))) []) (le-ltb (next_job cards place) (length cards) past)
 
--- a job that was read stands behind those that were, before those that are left
+-- a job that was read comes after those that were read before, and before those that are left
 pub listed_more : (cards : List (List ℕ)) (total : List (Result Job FaultyJob)) (jobs : List JobEntry) (entry : JobEntry) (n i place : ℕ) → total ≡ map (λ e. said e.statements) jobs ++ jobs_within (n - i) cards place → i < n → next_job cards place < length cards → said entry.statements ≡ job_at cards (next_job cards place) → total ≡ map (λ e. said e.statements) (jobs ++ entry ∷ []) ++ jobs_within (n - (i + 1)) cards (place_after (said entry.statements))
 listed_more cards total jobs entry n i place so_far within less is =
     let one_less : n - i ≡ suc (n - (i + 1)) = omega arith in

@@ -1,4 +1,4 @@
--- Lines of a dump that are written are read as the bytes for which they stand.
+-- Lines of a dump are read as the bytes from which they were written.
 use Rattle.std.proofs.Common.{◌≡◌, ◌≢◌, ℕ, ◌+◌, ◌-◌, ◌*◌, ◌/◌, ◌%◌, ◌<◌, ◌≤◌, ◌^◌, refl, arith, sym, ◌∙◌, ap, subst, Bool, true, false, cond, ◌==◌, ◌&&◌, List, [], ◌∷◌, ◌++◌, length, take, drop, get_or, replicate, inl, inr}
 use Rattle.std.specs.Prelude.{Some, None, nat_le, decimal, min}
 use Rattle.std.specs.List.{fold}

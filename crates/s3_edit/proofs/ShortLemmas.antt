@@ -143,7 +143,7 @@ last_room true v e fits =
     omega (arith, fits, ten_le (whole_digits true e) e few)
 last_room false v e fits = fits
 
--- and no comma stands in front of the last ones
+-- no comma comes before the last digits
 pub no_comma : (commas : Bool) (v room : ℕ) → (commas && nat_lt 999 v) ≡ false → (commas && (nat_lt 999 v && nat_lt 3 room)) ≡ false
 no_comma false v room h = refl
 no_comma true v room h = ap (λ b. b && nat_lt 3 room) h
@@ -186,7 +186,7 @@ first_by false false n end q r text room long left some few written before place
     let none : n / 10 ^ (q + 1) ≡ 0 = sym (tenth n q) ∙ ap (λ v. v / 10) (sym left) ∙ last in
     rw get_or-set_other (before (end - 1 - place) (omega (arith, l, h)) ∙ blank_over n (q + 1) place (below n (q + 1) none) l)
 
--- and so it is with the first one, which is what is left of the number
+-- the same for the first one, which is what is left of the number
 pub first_digit : (n end q r : ℕ) (text : List ℕ) → q < end → end ≤ length text → r ≡ n / 10 ^ q → 0 < r → r ≤ 9 → ((k : ℕ) → k < q → get_or text (end - 1 - k) 0 ≡ suppressed_at n k) → ((i : ℕ) → i < end - q → get_or text i 0 ≡ 0x40) → (place : ℕ) → place < end
     → get_or (slice_set text (end - 1 - q) (0xf0 + r)) (end - 1 - place) 0 ≡ suppressed_at n place
 first_digit n end q r text room long left some few written before place h = first_by (nat_lt place q) (nat_lt place (q + 1)) n end q r text room long left some few written before place h refl refl
@@ -231,7 +231,7 @@ parted v end middle room long digits comma k h = parted_by (nat_lt k 3) v end mi
         let set : get_or (slice_set middle (end - 4) 0x6b) (end - 4) 0 ≡ 0x6b = rw get_or-set_same refl in
         ap (λ i. get_or (slice_set middle (end - 4) 0x6b) i 0) at ∙ set ∙ comma ∙ ap (λ j. whole_at true v j) (sym three)
 
--- no comma stands in a number below 1,000, nor where there are none
+-- a number below 1,000, or without commas, has no comma
 pub below_comma : (commas : Bool) (v : ℕ) → v < 1000 → (commas && nat_lt 999 v) ≡ false
 below_comma false v h = refl
 below_comma true v h = lt_false 999 v (omega (arith, h))

@@ -1,4 +1,4 @@
--- The parts of an amount: the whole part by threes, and the decimals and the point behind it.
+-- The parts of an amount: the whole part by threes, and then the point and the decimals.
 use Rattle.std.proofs.Common.{◌≡◌, ◌≢◌, ℕ, ◌+◌, ◌-◌, ◌/◌, ◌%◌, ◌^◌, ◌<◌, ◌≤◌, refl, arith, sym, ◌∙◌, ap, zero, suc, Bool, true, false, not, ◌&&◌, ◌||◌, nat_lt, if◌then◌else◌, List, length, get_or, slice_set, get_or-set_other, get_or-set_same}
 use Rattle.std.specs.Bool.{◌==◌}
 use Rattle.std.proofs.Math.Nat.{div-eq_of_lt}

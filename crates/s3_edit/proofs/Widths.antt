@@ -40,6 +40,6 @@ date_fits digits decimals room is =
     let by = date_by (digits == 6 && decimals == 0) room is.fits in
     (rw by.0 refl, by.1)
 
--- what lies behind a body and its sign stays
+-- the characters after a body and its sign are unchanged
 pub behind_both : (body sign : ℕ) (out middle last : List ℕ) → ((i : ℕ) → body ≤ i → get_or middle i 0 ≡ get_or out i 0) → ((i : ℕ) → body + sign ≤ i → get_or last i 0 ≡ get_or middle i 0) → (i : ℕ) → body + sign ≤ i → get_or last i 0 ≡ get_or out i 0
 behind_both body sign out middle last f g i h = g i h ∙ f i (omega arith)

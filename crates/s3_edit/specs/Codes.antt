@@ -1,4 +1,4 @@
--- The edit codes: what each character, in EBCDIC, stands for.
+-- The edit codes, each with its character in EBCDIC.
 use Rattle.std.specs.Prelude.{ℕ, Bool, true, false, ◌==◌, Option, List, [], ◌∷◌, find, option_map}
 use Rattle.s3_cards.specs.declared.ebcdic.TheConstants.{DIGIT_1, DIGIT_2, DIGIT_3, DIGIT_4, LETTER_A, LETTER_B, LETTER_C, LETTER_D, LETTER_J, LETTER_K, LETTER_L, LETTER_M, LETTER_X, LETTER_Y, LETTER_Z}
 use Rattle.s3_edit.specs.declared.code.Sign.{Sign}

@@ -1,2 +1,2 @@
--- What the contracts of a run and of a session don't reach: the columns of entries.
+-- Definitions that the contracts of a run and of a session don't need: the columns of entries.
 pub mod Spans

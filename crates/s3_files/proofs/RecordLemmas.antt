@@ -30,7 +30,7 @@ pub records_push : (long count : ℕ) (s t v : List ℕ) → SameOutside (count 
 unfolding records_in
 records_push long count s t v same is = parts-push (λ i. i * long) long count (count + 1) s t v (end_to_end long (count + 1)) (omega arith) same is
 
--- a write behind them leaves them
+-- a write after the records leaves them unchanged
 pub records_before : (long count at width : ℕ) (s t : List ℕ) → count * long ≤ at → SameOutside at width s t → records_in long count t ≡ records_in long count s
 unfolding records_in
 records_before long count at width s t behind same = parts-before (λ i. i * long) long count at width s t (λ i below. let up : i + 1 ≤ count = omega arith in omega (arith, mul-le-mul_left long up)) same

@@ -46,7 +46,7 @@ small-later first rest all k d below =
     let xs = range_with_len first.start first.sectors in
     subst (λ n. n < 65536) (get_or-append-add xs (sectors_in rest) k d) (all (length xs + k) d (omega (arith, length-append xs (sectors_in rest))))
 
--- ---- the first run, and the others behind it
+-- ---- the first run, and the others after it
 
 pub first_fits : (runs : List Stretch) (first : Stretch) (rest : List Stretch) (i : ℕ) → runs ≡ first ∷ rest → i < first.sectors → All (λ n. n < 65536) (sectors_in runs) → first.start + i < 65536
 first_fits runs first rest i are h all = got-small (sectors_in runs) i (first.start + i) (ap (λ l. slice_get (sectors_in l) i) are ∙ in_first_run first rest i h) all

@@ -1,4 +1,4 @@
--- The records in the bytes of a file, and a list of records with one replaced or put behind the last.
+-- The records in the bytes of a file, and a list of records with one replaced or appended.
 use Rattle.std.specs.Prelude.{ℕ, ◌*◌, nat_lt, List, [], ◌∷◌, ◌++◌, length, map, slice_set, Result, Ok, Err, if◌then◌else◌}
 use Rattle.std.specs.List.{range_with_len}
 use Rattle.s3_store.specs.Bytes.{part}

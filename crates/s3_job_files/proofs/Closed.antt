@@ -55,8 +55,7 @@ closes_master level file s master = record {
 }
 
 -- ---- a file of the level's own is closed
--- what that makes of the pack: under other names the same stands as before, and under its own name, if anything stands there, it
--- is its records that are kept
+-- The pack after that: other names have what they had before. The file's own name, if a file has it, has its records.
 pub record IsClosed (level : LevelId) (file : OpenFile) (areas new_areas : Areas) (old new : List (List ℕ)) : Type 0 where
   pub slots : slots_at level new_areas ≡ closed_slots (job_file_of file) (count_of file.records) (slots_at level areas)
   pub alone : new_areas ≡ with_slots level (slots_at level new_areas) areas

@@ -49,7 +49,7 @@ keys_taken : (place : KeyPlace) (n : ℕ) (records : List (List ℕ)) → keys_o
 unfolding keys_of
 keys_taken place n records = sym (take-map (key_of place) n records)
 
--- the n-th record by key, of those that stood at the check
+-- the n-th record by key, of those at the check
 pub read_by_key : (contents : List (List ℕ)) (label : FileLabel) (records : OpenRecords) (file : Keyed) (n : ℕ) (place : Option ℕ) → IsUsable contents label records → records ≡ ByKey file → n < label.count
     → nth_by_key (take (shown file).started (keys_now (shown file) contents)) n ≡ place → place_read label (records_of records contents) n ≡ place
 read_by_key contents label records file n place usable is below nth =
@@ -99,7 +99,7 @@ key_sought contents label records file key place usable is found =
     ap (λ (r : OpenRecords). place_sought label (records_of r contents) (Key key)) is
     ∙ key_found contents label file key (subst (IsUsable contents label) is usable) ∙ found
 
--- the record of a key that is told at once
+-- the record of a key that is found at once
 pub noted_sought : (contents : List (List ℕ)) (label : FileLabel) (records : OpenRecords) (file : Keyed) (key : List ℕ) (result : Result (Option ℕ) SectorFault) → IsUsable contents label records → records ≡ ByKey file
     → IfOk result (λ place. IfSome place (λ place. place_of_key (number_of key) (keys_now (shown file) contents) ≡ Some place)) → IfOk result (λ place. IfSome place (λ place. place_sought label (records_of records contents) (Key key) ≡ Some place))
 noted_sought contents label records file key (Ok (Some place)) usable is found = key_sought contents label records file key (Some place) usable is found

@@ -109,7 +109,7 @@ stands_in : (is_master : Bool) (level : LevelId) (areas : Areas) (name : Name) (
 stands_in true level areas name label h = h
 stands_in false level areas name label h = h
 
--- it stands, under its own name
+-- the label is on the pack, with its own name
 pub found_sound : (level : LevelId) (areas : Areas) (name : Name) (label : FileLabel) (is_master : Bool) → found name (slots_at level areas) areas.masters ≡ ok_of label is_master
     → standing label.name (slots_by is_master level areas) ≡ Present label
 unfolding found

@@ -1,4 +1,4 @@
--- What calls for one level leave of the pack: past an answer or a fault, and one behind the other.
+-- What calls for one level leave unchanged on the pack: after an answer or a fault, and one after another.
 use Rattle.std.proofs.Common.{◌≡◌, ◌≤◌, ◌+◌, ℕ, false, List, Result, Ok, Err, IsErrAnd, arith, refl, sym, ap, subst, ◌∙◌}
 use Rattle.std.specs.Prelude.{OnOk}
 use Rattle.s3_cards.specs.declared.levels.LevelId.{LevelId}

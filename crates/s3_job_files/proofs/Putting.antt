@@ -58,7 +58,7 @@ apart_by false level areas contents one file n pack is here differs inside in_fi
 abbrev pub SameBut : FileLabel → List (List ℕ) → List (List ℕ) → Type 0
 SameBut file old new = (n : ℕ) → 168 ≤ n → ¬ Contains (sectors_of file) n → SameAt old new n
 
--- a sector of a label that stands is one of a region
+-- a sector of a valid label is in a region
 pub high_by : (b : Bool) (level : LevelId) (areas : Areas) (contents : List (List ℕ)) (one : FileLabel) (n : ℕ) → IsPackReady areas contents
     → standing one.name (slots_by b level areas) ≡ Present one → Contains (sectors_of one) n → 168 ≤ n
 high_by true level areas contents one n pack is inside =

@@ -1,4 +1,4 @@
--- What stands under the labels of an area when a count was set, or a label dropped.
+-- What an area has for a label after a count was set, or a label dropped.
 use Rattle.std.proofs.Common.{◌≡◌, ℕ, Bool, true, false, List, slice_get, slice_set, Option, Some, None, refl, ap, ap₂, sym, ◌∙◌, inl, inr}
 use Rattle.std.specs.List.{list_any, position_from}
 use Rattle.std.proofs.lemmas.Bool.{true≢false}
@@ -19,7 +19,7 @@ use Rattle.s3_job_files.proofs.Lists.{any_set, found_passes, get_set, position_s
 use Rattle.s3_job_files.proofs.Standings.{present_named}
 
 -- ---- a slot is set
--- what stands under a name that neither the old slot nor the new one bears
+-- what an area has for a name that neither the old slot nor the new one has
 set_else : (slots : List Slot) (i : ℕ) (old : FileLabel) (new : Slot) (q : Name) → slice_get slots i ≡ Some (Sound old) → same_name old.name q ≡ false → bears q new ≡ false → is_damaged_under q new ≡ false
     → standing q (slice_set slots i new) ≡ standing q slots
 unfolding standing
@@ -32,7 +32,7 @@ set_else slots i old new q there differs unlike whole =
     by None e = refl
     by (Some j) e = slice_get_set_other slots i j new (λ same. true≢false (sym (found_passes (bears q) slots j (Sound old) e (ap (slice_get slots) same ∙ there)) ∙ differs))
 
--- what stands under the name of the slot that is found first
+-- what an area has for the name of the slot that is found first
 set_here : (slots : List Slot) (i : ℕ) (old new : FileLabel) (q : Name) → slice_get slots i ≡ Some (Sound old) → position_from (bears q) 0 slots ≡ Some i → new.name ≡ old.name
     → standing q (slice_set slots i (Sound new)) ≡ Present new
 unfolding standing

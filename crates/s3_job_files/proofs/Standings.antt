@@ -1,4 +1,4 @@
--- Where the labels that stand in an area lie.
+-- The sectors of the valid labels of an area.
 use Rattle.std.proofs.Common.{◌≡◌, ℕ, List, slice_get, Option, Some, None, refl, ap, sym, ◌∙◌}
 use Rattle.std.specs.List.{Contains, position_from}
 use Rattle.s3_cards.specs.declared.name.Name.{Name}
@@ -21,14 +21,14 @@ label_inside : (region : Stretch) (slots : List Slot) (i : ℕ) (label : FileLab
 unfolding sectors_of
 label_inside region slots i label n kept there inside = extents_inside region label.extents n (formed_parts region label (kept.formed i label there)).room inside
 
--- the sectors of a label that stands lie in the region
+-- the sectors of a valid label are in the region
 pub present_inside : (region : Stretch) (slots : List Slot) (name : Name) (label : FileLabel) (n : ℕ) → AreKept region slots → standing name slots ≡ Present label
     → Contains (sectors_of label) n → IsIn region n
 present_inside region slots name label n kept stands inside =
     let at = present_at name slots label stands in
     label_inside region slots at.slot label n kept at.there inside
 
--- two labels that stand and have a sector in common are one
+-- two valid labels that have a sector in common are the same
 pub present_apart : (region : Stretch) (slots : List Slot) (name other : Name) (first second : FileLabel) (n : ℕ) → AreKept region slots → standing name slots ≡ Present first
     → standing other slots ≡ Present second → Contains (sectors_of first) n → Contains (sectors_of second) n → first ≡ second
 present_apart region slots name other first second n kept one two in_first in_second =
@@ -38,7 +38,7 @@ present_apart region slots name other first second n kept one two in_first in_se
     let both : Some (Sound first) ≡ Some (Sound second) = sym a.there ∙ ap (slice_get slots) same ∙ b.there in
     cc
 
--- what stands under a name has that name
+-- the label that is found for a name has that name
 pub present_named : (name : Name) (slots : List Slot) (label : FileLabel) → standing name slots ≡ Present label → label.name ≡ name
 present_named name slots label stands = by (position_from (bears name) 0 slots) refl
   where

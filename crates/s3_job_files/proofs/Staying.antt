@@ -41,7 +41,7 @@ sees_back level old new same = record {
   master_sectors = λ n inside. sym (same.master_sectors n (subst (λ (h : Header). IsIn h.masters n) same.header inside));
 }
 
--- a file that stands has the same sectors
+-- an open file keeps its sectors
 same_standing : (region : Stretch) (slots : List Slot) (old new : List (List ℕ)) (label : FileLabel) → AreKept region slots → SameIn region old new
     → standing label.name slots ≡ Present label → All (SameAt old new) (sectors_of label)
 same_standing region slots old new label kept same is =

@@ -1,4 +1,4 @@
--- A level's files, those of the masters, and those that its job has in use.
+-- A level's files, the masters' files, and the files that its job uses.
 use Rattle.std.specs.Prelude.{ℕ, Bool, true, false, List, slice_get, slice_set, Option, Some, None, if◌then◌else◌}
 use Rattle.std.specs.List.{position_from}
 use Rattle.s3_cards.specs.declared.levels.LevelId.{LevelId}
@@ -16,7 +16,7 @@ use Rattle.s3_slots.specs.declared.slot.Standing.TheVariants.{Present}
 use Rattle.s3_labels.specs.Areas.{area_of}
 use Rattle.s3_job_files.specs.Kept.{Kept, kept_under}
 
--- an area: its region, its slots, and what it keeps under the label of each sound slot
+-- an area: its region, its slots, and for the label of each valid slot the records of its file
 pub record Area : Type 0 where
   pub region : Stretch
   pub slots : List Slot
@@ -28,30 +28,30 @@ pub record Files : Type 0 where
   pub own : Area
   pub masters : Area
 
--- A file of the job at work. Its label has the count of records that stood at the job's start, since counts are set at the close.
+-- A file of the running job. Its label has the count of records at the job's start, since counts are set when the file is closed.
 pub record JobFile : Type 0 where
-  -- by which the program knows it
+  -- the name by which the program knows the file
   pub name : Name
   pub label : Name
   pub is_master : Bool
-  -- the job made it
+  -- whether the job made the file
   pub is_made : Bool
   -- how many of its records were read
   pub read : ℕ
-  -- the place of the record that was chained last, from 0
+  -- the place of the record that CHAIN read last, from 0
   pub chained : Option ℕ
 
--- the files of a level, and those that its job has in use
+-- the files of a level, and those that its job uses
 pub record FilesInUse : Type 0 where
   pub files : Files
   pub job_files : List JobFile
 
 -- ---- on a pack
--- what an area with these slots keeps
+-- the files of an area with these slots
 abbrev pub area_of_slots : Stretch → List (List ℕ) → List Slot → Area
 area_of_slots region contents slots = record { region = region; slots = slots; kept = λ name. kept_under contents (standing name slots) }
 
--- area 0 is that of the masters
+-- area 0 is the masters' area
 abbrev pub area_on : Format → Stretch → ℕ → List (List ℕ) → Area
 area_on format region area contents = area_of_slots region contents (slots_of format region area contents)
 
@@ -71,8 +71,8 @@ put_kept name kept area = record area { kept = λ other. if same_name other name
 abbrev pub put_records : Name → List (List ℕ) → Area → Area
 put_records name records area = put_kept name (record (area.kept name) { records = records }) area
 
--- ---- the files of the job at work
--- one of them as it stands: its place among them, its label, and the records that the pack keeps of it
+-- ---- the files of the running job
+-- a file at present: its place in the list of files, its label, and its records on the pack
 pub record FileAtWork : Type 0 where
   pub place : ℕ
   pub file : JobFile

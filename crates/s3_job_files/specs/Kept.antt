@@ -1,4 +1,4 @@
--- What an area keeps under a label: the records of its file, and whether its index is good.
+-- What an area has for a label: the records of its file, and whether its index is good.
 use Rattle.std.specs.Prelude.{ℕ, Bool, true, List, [], if◌then◌else◌}
 use Rattle.s3_slots.specs.Labels.{file_bytes, is_indexed}
 use Rattle.s3_slots.specs.declared.label.FileLabel.{FileLabel}
@@ -8,8 +8,7 @@ use Rattle.s3_files.specs.Records.{records_in}
 use Rattle.s3_keyed.specs.Index.{KeyPlace, keys_of, index_in, layout_of}
 use Rattle.s3_keyed.specs.KeyOrder.{is_good_index}
 
--- An index that is good is the key order of the records, so nothing else of it is kept. A file without an index has none that
--- is bad.
+-- A good index is the key order of the records, so nothing else of it is needed. A file without an index has no bad index.
 pub record Kept : Type 0 where
   pub records : List (List ℕ)
   pub has_good_index : Bool
@@ -17,7 +16,7 @@ pub record Kept : Type 0 where
 abbrev pub nothing_kept : Kept
 nothing_kept = record { records = []; has_good_index = true }
 
--- where the key lies in the records of a file
+-- the place of the key in the records of a file
 abbrev pub key_place : FileLabel → KeyPlace
 key_place label = (layout_of label).key
 

@@ -1,4 +1,4 @@
--- The records of a file of the job at work: where the one is that a request is for, and what is put into it.
+-- The records of a file of the running job: which record a request is for, and what is put into it.
 use Rattle.std.specs.Prelude.{ℕ, zero, suc, ◌-◌, ℤ, pos, negsuc, nat_lt, List, [], ◌∷◌, length, take, slice_get, Option, Some, None, Result, Ok, Err, if◌then◌else◌}
 use Rattle.s3_slots.specs.Labels.{is_indexed}
 use Rattle.s3_slots.specs.declared.label.FileLabel.{FileLabel}
@@ -17,7 +17,7 @@ use Rattle.s3_keyed.specs.Calls.{place_of_key, nth_by_key, with_added, with_load
 use Rattle.s3_job_files.specs.Kept.{key_place}
 
 -- ---- records by their places
--- the place of the n-th of the records that stood at the job's start, from 0: in key order, or in the order of the file
+-- the place of the n-th of the records that the file had at the job's start, from 0: in key order, or in the order of the file
 abbrev pub place_read : FileLabel → List (List ℕ) → ℕ → Option ℕ
 place_read label records n =
     if nat_lt n label.count
@@ -30,12 +30,12 @@ place_numbered count (pos zero) = None
 place_numbered count (pos (suc place)) = if nat_lt place count then Some place else None
 place_numbered count (negsuc n) = None
 
--- the place of the record of a key or a number, those that the job added among them
+-- the place of the record with this key or number; records that the job added count too
 abbrev pub place_sought : FileLabel → List (List ℕ) → Sought → Option ℕ
 place_sought label records (Key bytes) = place_of_key (number_of bytes) (keys_of (key_place label) records)
 place_sought label records (RecordNumber number) = place_numbered (length records) number
 
--- the place of the current record, which a program names as the n-th that it read, from 1, or the one last chained
+-- the place of the current record: the n-th that the program read, from 1, or the one that CHAIN read last
 abbrev pub place_current : FileLabel → List (List ℕ) → (chained : Option ℕ) → Option Current → Option ℕ
 place_current label records chained None = None
 place_current label records chained (Some (NthRead n)) = place_read label records (n - 1)
@@ -64,11 +64,11 @@ appended label bytes records =
     then by_key (with_loaded (key_place label) label.capacity bytes records)
     else in_order FileFull (with_last label.capacity bytes records)
 
--- under a key that no record has
+-- an addition: no record may have the key
 abbrev pub added : FileLabel → List ℕ → List (List ℕ) → Result (List (List ℕ)) HaltCode
 added label bytes records = by_key (with_added (key_place label) label.capacity bytes records)
 
--- the bytes of a record with what is put at each position
+-- the bytes of a record after new bytes are put at some positions
 abbrev pub overlaid : List (Option ℕ) → List ℕ → List ℕ
 overlaid [] old = old
 overlaid (change ∷ changes) [] = []
@@ -85,7 +85,7 @@ abbrev pub updated_over : FileLabel → List (Option ℕ) → ℕ → List (List
 updated_over label changes place records None = Err NothingToUpdate
 updated_over label changes place records (Some old) = updated_at label place (overlaid changes old) records
 
--- the current record with these changes, as the file now holds it
+-- the current record with these changes, over its present bytes
 abbrev pub updated : FileLabel → List (Option ℕ) → Option ℕ → List (List ℕ) → Result (List (List ℕ)) HaltCode
 updated label changes None records = Err NothingToUpdate
 updated label changes (Some place) records = updated_over label changes place records (slice_get records place)

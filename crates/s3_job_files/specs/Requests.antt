@@ -1,4 +1,4 @@
--- What requests to files are answered, and what they make of the files in use.
+-- The answers to requests to files, and the files after them.
 use Rattle.std.specs.Prelude.{ℕ, ◌+◌, List, slice_get, Option, Some, None, Result, Ok, Err}
 use Rattle.s3_cards.specs.declared.name.Name.{Name}
 use Rattle.s3_operator.specs.declared.halt_code.HaltCode.{HaltCode}
@@ -7,7 +7,7 @@ use Rattle.s3_meaning.specs.declared.current.Current.{Current}
 use Rattle.s3_job_files.specs.Files.{Files, JobFile, FilesInUse, FileAtWork, file_at_work, with_job_file, put_records}
 use Rattle.s3_job_files.specs.Records.{place_read, place_sought, place_current, appended, added, updated}
 
--- what a request is answered, and the files afterwards
+-- the answer to a request, and the files after it
 pub record Served : Type 0 where
   pub answer : Answer
   pub in_use : FilesInUse
@@ -21,7 +21,7 @@ answer_at records None = Nothing
 answer_at records (Some place) = answer_with (slice_get records place)
 
 -- ---- records that are read
--- one record more was read, where there was one
+-- one record more was read, if there was one
 abbrev pub with_read : Option ℕ → JobFile → JobFile
 with_read None file = file
 with_read (Some place) file = record file { read = file.read + 1 }
@@ -41,12 +41,12 @@ record_chained_at at place in_use = record { answer = answer_at at.records place
 abbrev pub record_chained : Sought → FileAtWork → FilesInUse → Served
 record_chained sought at in_use = record_chained_at at (place_sought at.label at.records sought) in_use
 
--- ---- records that are put
+-- ---- records that are written
 abbrev pub answer_of_put : Result (List (List ℕ)) HaltCode → Answer
 answer_of_put (Ok records) = Done
 answer_of_put (Err code) = Refused code
 
--- the files after it; no request changes the masters
+-- the files after a put; no request changes the masters
 abbrev pub files_after_put : Name → Result (List (List ℕ)) HaltCode → Files → Files
 files_after_put label (Ok records) files = record files { own = put_records label records files.own }
 files_after_put label (Err code) files = files
@@ -73,7 +73,7 @@ served_on serve (Some at) in_use = Some (serve at in_use)
 abbrev pub served_named : Name → (FileAtWork → FilesInUse → Served) → FilesInUse → Option Served
 served_named name serve in_use = served_on serve (file_at_work name in_use) in_use
 
--- a request to a file that the job has in use; nothing of any other
+-- a request to a file that the job uses; for any other request there is no answer
 unfoldable pub served : Request → FilesInUse → Option Served
 served (Read file record_length) in_use = served_named file record_read in_use
 served (Chain file record_length sought) in_use = served_named file (record_chained sought) in_use

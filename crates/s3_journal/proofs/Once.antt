@@ -150,7 +150,7 @@ then_some : (fits : Bool) (line : Line) (older : Option Line) (had : Bool) → (
 then_some true line older had more is = refl
 then_some false line older had more is = more is
 
--- a pack that isn't the new one, but the one before or that of an older line
+-- a pack that isn't the new one, but the one before or the pack of an older line
 other_known : (shop : Shop) → Kept shop → (pack : List ℕ) (posted : Posted) (is_new : Bool) → is_new ≡ false → (is_new || same shop.pack pack) || is_known pack shop.lines ≡ true → has_posted posted (entries_of pack shop.past) ≡ true → is_posted posted pack shop.lines ≡ true
 other_known shop kept pack posted true e known = absurd (true≢false e)
 other_known shop kept pack posted false e known = by (one_of_two (same shop.pack pack) (is_known pack shop.lines) known)

@@ -226,7 +226,7 @@ ordered_loaded start stop limit first first' index index' added keys keys' k o n
     entry : ℕ → ℕ → Entry
     entry key number = record { key = key; number = number }
 
--- ---- an entry behind the last one of the index
+-- ---- an entry after the last one of the index
 
 mapped_more : (f g : ℕ → Entry) (a n : ℕ) (e : Entry) → ((i : ℕ) → a ≤ i → i < a + n → g i ≡ f i) → g (a + n) ≡ e → map g (range_with_len a (n + 1)) ≡ map f (range_with_len a n) ++ e ∷ []
 mapped_more f g a zero e same is = let one : zero + 1 ≡ suc zero = refl in let at : a ≡ a + zero = omega arith in ap (λ x. x ∷ []) (ap g at ∙ is)
@@ -249,7 +249,7 @@ pub index_kept : (layout : Layout) (n m : ℕ) (s t : List ℕ) → m ≤ n → 
 unfolding index_in
 index_kept layout n m s t few same = mapped_same (entry_at layout s) (entry_at layout t) 0 m (λ i low high. same i (omega arith))
 
--- ---- a record is written behind the last one
+-- ---- a record is written after the last one
 
 length_keys_is : (layout : Layout) (count k : ℕ) (s : List ℕ) (es : List Entry) → insert_entry (record { key = k; number = length (keys_at layout count s) + 1 }) es ≡ insert_entry (record { key = k; number = count + 1 }) es
 length_keys_is layout count k s es = ap (λ n. insert_entry (entry k (n + 1)) es) (length_keys layout count s)
@@ -275,7 +275,7 @@ appended_added layout started indexed count limit k s t added added' bytes o out
     (index_stays layout s t (count * layout.record_length) layout.record_length started inside outside)
     (index_stays layout s t (count * layout.record_length) layout.record_length indexed inside outside) refl
 
--- its entry is behind the last one on the pack
+-- its entry comes after the last one on the pack
 pub appended_indexed : (layout : Layout) (started indexed count limit k : ℕ) (r s t : List ℕ) (added : List Entry) (bytes : List ℕ)
     → IsOrdered started indexed limit (index_in layout started r) (index_in layout indexed r) added (keys_at layout count r) → added ≡ [] → list_all (λ other. nat_lt other k) (keys_at layout count r) ≡ true
     → entry_at layout s indexed ≡ record { key = k; number = count + 1 } → ((i : ℕ) → i ≢ indexed → entry_at layout s i ≡ entry_at layout r i) → records_in layout.record_length count s ≡ records_in layout.record_length count r

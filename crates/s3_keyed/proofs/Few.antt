@@ -26,7 +26,7 @@ two_pow (suc m) =
     let high : 2 ^ (8 + 8 * m) ≡ 2 ^ 8 * 2 ^ (8 * m) = pow-add 2 8 (8 * m) in
     rw more (omega (arith, high, whole, rest))
 
--- what is left of the first bytes where those behind the key are shifted out
+-- the first bytes after those past the key are shifted out
 shifted_of : (n k : ℕ) (entry : List ℕ) → k ≤ n → n ≤ length entry → AreBytes entry → big_number n entry / 2 ^ (8 * (n - k)) ≡ number_of (take k entry)
 shifted_of n k entry few long h =
     let head = take n entry in

@@ -83,7 +83,7 @@ module _ (cmp : KeyNumber → KeyNumber → Ordering) (by_number : (a b : KeyNum
     ]
   ]
 
-  -- the same, in the words of the calls
+  -- the same statement, in the form of the calls
   pub not_under : (k : KeyNumber) (key : ℕ) (es : List (KeyNumber × ℕ)) → whole_number k ≡ key → None ≡ lookup (λ q. is_eq (cmp k q)) es → (i : ℕ) (e : Entry) → slice_get (map entry_under es) i ≡ Some e → e.key ≡ key → ⊥
   not_under k key es is none i e got same = looked_none k es (sym none) i e got (same ∙ sym is)
 

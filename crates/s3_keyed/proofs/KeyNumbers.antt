@@ -216,7 +216,7 @@ two_pow (suc m) =
     let high : 2 ^ (8 + 8 * m) ≡ 2 ^ 8 * 2 ^ (8 * m) = pow-add 2 8 (8 * m) in
     rw more (omega (arith, high, whole, rest))
 
--- what is left of the first eight bytes where those behind the key are shifted out
+-- the first eight bytes after those past the key are shifted out
 pub shifted : (k : ℕ) (entry : List ℕ) → k ≤ 8 → 8 ≤ length entry → AreBytes entry → big_number 8 entry / 2 ^ (64 - 8 * k) ≡ number_of (take k entry)
 shifted k entry few long h =
     let head = take 8 entry in

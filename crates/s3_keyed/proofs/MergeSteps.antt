@@ -1,4 +1,4 @@
--- One step of the merge, in the words of the code.
+-- One step of the merge, in the form of the code.
 use Rattle.std.proofs.Common.{◌≡◌, ◌≢◌, ℕ, zero, suc, ◌+◌, ◌-◌, ◌<◌, ◌≤◌, ◌⊎◌, inl, inr, true, List, [], ◌∷◌, ◌++◌, length, take, map, slice_get, Option, Some, None, MatchOption, Fits, w32, refl, sym, ap, subst, ◌∙◌, arith}
 use Rattle.std.specs.List.{range_with_len, All}
 use Rattle.std.proofs.lemmas.Option.{slice_get_within}

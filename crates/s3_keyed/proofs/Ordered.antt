@@ -92,7 +92,7 @@ no_place start stop limit first index added keys key o not_there not_added = pos
       | inr later ↦ not_added e later refl
     ])
 
--- the same, in the words of the searches
+-- the same statement, in the form of the searches
 pub index_has : (layout : Layout) (n i : ℕ) (bytes : List ℕ) (e : Entry) → i < n → entry_at layout bytes i ≡ e → In e (index_in layout n bytes)
 index_has layout n i bytes e below is = In-from_get (index_in layout n bytes) i e (get_index layout n i bytes below ∙ ap Some is)
 

@@ -148,7 +148,7 @@ entry_there layout i place bytes sector short is_place is_sector =
     ap (entry_in layout.key.length)
     (ap (λ l. part l (j * w) w) is_sector ∙ part_part start 256 (j * w) w bytes (entry_inside w j (omega arith) (omega arith)) ∙ ap (λ a. part bytes a w) (omega (arith, order)))
 
--- the number of an entry lies behind its key
+-- the number of an entry comes after its key
 pub number_there : (layout : Layout) (i at : ℕ) (bytes : List ℕ) → at ≡ entry_place layout i + layout.key.length → big_number 4 (part bytes at 4) ≡ (entry_at layout bytes i).number
 unfolding entry_at
 number_there layout i at bytes is =

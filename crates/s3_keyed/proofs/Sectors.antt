@@ -48,7 +48,7 @@ place_within per n capacity place some starts few =
     by : (q end : ℕ) → q + 1 ≤ end → q ≡ place → place < end
     by q end row back = omega (arith, row, back)
 
--- nor behind the last of them
+-- nor after the last of them
 pub all_places : (n per place : ℕ) → 0 < per → n / per + min 1 (n % per) ≤ place → min (place * per) n ≡ n
 all_places n per place some past = by (n / per + min 1 (n % per)) past (div_ceil_times n per some).0
   where
@@ -102,7 +102,7 @@ sector_ascends f g first m n same within up i j lt below =
     let less = up (first + i) (first + j) (omega (arith, lt)) (omega (arith, below, within)) in
     rw (same i (omega (arith, lt, below)), same j below) less
 
--- ---- a key before, among or behind the entries of a sector
+-- ---- a key before, among or after the entries of a sector
 
 pub all_above : (f g : ℕ → Entry) (first m n k : ℕ) → ((j : ℕ) → j < m → g j ≡ f (first + j)) → 0 < m → IsAscending f n → k < (g 0).key → (i : ℕ) → first ≤ i → i < n → k < (f i).key
 all_above f g first m n k same some up more =
@@ -127,7 +127,7 @@ found_within f g first m n key (Some number) same within up s = (first + s.0, om
 pub nowhere : (f : ℕ → Entry) (n low high k : ℕ) → high ≤ low → ((i : ℕ) → i < low → i < n → (f i).key < k) → ((i : ℕ) → high ≤ i → i < n → k < (f i).key) → (i : ℕ) → i < n → (f i).key ≢ k
 nowhere f n low high k met below above = not_found f n (min low n) (min high n) k (omega (arith, met)) (λ i less. below i (omega (arith, less)) (omega (arith, less))) (λ i from within. above i (omega (arith, from, within)) within)
 
--- a key that isn't that of an entry but not above it lies before it
+-- a key that isn't equal to an entry's and isn't above it comes before it
 pub strictly : (k a : ℕ) (r : Bool) → r ≡ (k == a) → r ≡ false → k ≤ a → k < a
 strictly k a r is other le = let apart = sym is ∙ other in grind (arith, nat_tests)
 

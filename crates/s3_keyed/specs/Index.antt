@@ -1,4 +1,4 @@
--- The index of a file, in the sectors behind those of its records.
+-- The index of a file, in the sectors after those of its records.
 use Rattle.std.specs.Prelude.{ℕ, ◌+◌, ◌-◌, ◌*◌, ◌/◌, ◌%◌, List, map, take, drop}
 use Rattle.std.specs.List.{range_with_len}
 use Rattle.byteorder.specs.Endian.{big_number}
@@ -7,7 +7,7 @@ use Rattle.s3_slots.specs.Slots.{record_sectors, entries_per_sector}
 use Rattle.s3_slots.specs.declared.label.FileLabel.{FileLabel}
 use Rattle.s3_keyed.specs.KeyOrder.{number_of, Entry}
 
--- where a key lies in a record: its length, and its start from 1
+-- the place of the key in a record: its length, and its start from 1
 pub record KeyPlace : Type 0 where
   pub length : ℕ
   pub start : ℕ
@@ -18,7 +18,7 @@ key_of place bytes = number_of (part bytes (place.start - 1) place.length)
 unfoldable pub keys_of : KeyPlace → List (List ℕ) → List ℕ
 keys_of place records = map (key_of place) records
 
--- how an indexed file is laid out over its bytes
+-- the layout of an indexed file in its bytes
 pub record Layout : Type 0 where
   pub record_length : ℕ
   pub capacity : ℕ
@@ -31,7 +31,7 @@ layout_of label = record {
   key = record { length = label.key_length; start = label.key_start };
 }
 
--- the place of an entry: in the sectors behind those of the records, as many in each as fit
+-- the place of an entry: in the sectors after those of the records; no entry crosses the end of a sector
 abbrev pub entry_place : Layout → ℕ → ℕ
 entry_place layout i =
     256 * (record_sectors layout.capacity layout.record_length + i / entries_per_sector layout.key.length)

@@ -2,7 +2,7 @@
 use Rattle.std.specs.Prelude.{ℕ, ◌+◌, ◌-◌, ◌*◌, ◌^◌, ◌==◌, Bool, true, false, ◌&&◌, nat_lt, List, [], ◌∷◌, length, map, slice_get, Option, Some, None, if◌then◌else◌}
 use Rattle.std.specs.List.{range_with_len, list_all, list_any}
 
--- the number whose bytes these are, the highest first: keys of one length ascend as their numbers do
+-- the number with these bytes, the highest first; keys of one length have the order of their numbers
 unfoldable pub number_of : List ℕ → ℕ
 number_of [] = 0
 number_of (byte ∷ bytes) = byte * 256 ^ length bytes + number_of bytes
@@ -12,7 +12,7 @@ pub record Entry : Type 0 where
   pub key : ℕ
   pub number : ℕ
 
--- behind all entries whose keys aren't higher
+-- the entry comes after all entries with a lower or equal key
 abbrev pub insert_entry : Entry → List Entry → List Entry
 insert_entry entry [] = entry ∷ []
 insert_entry entry (first ∷ more) = if nat_lt entry.key first.key then entry ∷ (first ∷ more) else first ∷ insert_entry entry more
@@ -49,7 +49,7 @@ abbrev pub is_that_key : ℕ → Option ℕ → Bool
 is_that_key key None = false
 is_that_key key (Some other) = key == other
 
--- the keys ascend and are distinct, the numbers are 1 to the count of the records once each, and each key is that of its record
+-- The keys ascend and are distinct, the numbers are 1 to the count of the records once each, and each entry has the key of its record.
 unfoldable pub is_good_index : List Entry → List ℕ → Bool
 is_good_index entries keys =
     (length entries == length keys)

@@ -63,7 +63,7 @@ pub untangled_kept : (format : Format) (region : Stretch) (area : ℕ) (s t : Li
 untangled_kept format region area s t same is = λ i few.
     ap₂ (λ slots bytes. is_entangled format region (take i slots) bytes) (slots_kept format region area s t same) (same_slot area i s t few same) ∙ is i few
 
--- ---- one slot by itself and behind others
+-- ---- one slot alone, and after others
 none_clear : (extents : List Stretch) → list_all (is_clear []) extents ≡ true
 none_clear [] = refl
 none_clear (extent ∷ extents) = none_clear extents
@@ -93,7 +93,7 @@ marked_alone region earlier false false name found h = refl
 judged_alone : (format : Format) (region : Stretch) (earlier : List Slot) (bytes : List ℕ) → is_entangled format region earlier bytes ≡ false → judged format region earlier bytes ≡ judged format region [] bytes
 judged_alone format region earlier bytes h = marked_alone region earlier (slice_index bytes 0 == 0) (slice_index bytes 0 == 1) (name_in bytes) (label_in format bytes) h
 
--- ---- a mount that judges no slot entangled
+-- ---- a mount that finds no overlapping or duplicate label
 begins : (format : Format) (region : Stretch) (earlier : List Slot) (more : List (List ℕ)) → take (length earlier) (judged_behind format region earlier more) ≡ earlier
 begins format region earlier more = ap (take (length earlier)) (judged_behind_is format region earlier more) ∙ take_all (length earlier) earlier (judged_later format region earlier more) refl
 

@@ -77,7 +77,7 @@ kept_bytes : (at : ℕ) (bytes : List ℕ) → ((j byte : ℕ) → at ≤ j → 
 kept_bytes at [] each = refl
 kept_bytes at (byte ∷ bytes) each = ap₂ (λ x xs. x ∷ xs) (each at byte (omega arith) (omega arith)) (kept_bytes (at + 1) bytes (λ j other low high. each j other (omega (arith, low)) (omega (arith, high))))
 
--- the bytes behind the slots are the old ones
+-- the bytes after the slots are the old ones
 pub migrated_past_slots : (bytes : List ℕ) → migrated_bytes 0 (take 6400 bytes) ++ take (length bytes - 6400) (drop 6400 bytes) ≡ migrated_bytes 0 bytes
 migrated_past_slots bytes =
     let behind : take (length bytes - 6400) (drop 6400 bytes) ≡ drop 6400 bytes = take_all (length bytes - 6400) (drop 6400 bytes) (omega (arith, length-drop 6400 bytes)) in

@@ -1,4 +1,4 @@
--- A sound label of level 1 is a sound one of the masters, where its region is moved to the first sectors behind the spool blocks.
+-- A valid label of level 1 is valid as a master's, if its region is moved to the first sectors after the spool blocks.
 use Rattle.std.proofs.Common.{◌≡◌, ℕ, zero, suc, ◌+◌, ◌-◌, ◌*◌, ◌/◌, ◌%◌, ◌^◌, ◌<◌, ◌≤◌, ◌==◌, ◌&&◌, ◌||◌, true, false, nat_le, not, List, [], ◌∷◌, length, map, slice_get, Some, refl, sym, ap, ap₂, ◌∙◌, arith, inl, inr}
 use Rattle.std.specs.List.{flat_map, list_all, list_any, sum_by}
 use Rattle.std.proofs.lemmas.Bool.{and_parts, and_from, cases_Bool, le-leb, leb-true, eqb-true, eq-eqb, both_ways, false_from_ne_true, ne_eqb, and_right}

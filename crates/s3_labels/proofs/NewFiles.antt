@@ -103,7 +103,7 @@ slots_32 : (format : Format) (region : Stretch) (area : ℕ) (contents : List (L
 unfolding slots_of
 slots_32 format region area contents = judged_length format region [] (map (slot_bytes area contents) (range_with_len 0 32))
 
--- ---- what stands under a name
+-- ---- the slot of a name
 first_at : (p : Slot → Bool) (xs : List Slot) (k i : ℕ) (x : Slot) → slice_get xs i ≡ Some x → p x ≡ true → ((j : ℕ) (y : Slot) → slice_get xs j ≡ Some y → p y ≡ true → j ≡ i) → position_from p k xs ≡ Some (k + i)
 first_at p [] k i x there passes only = absurd cc
 first_at p (y ∷ xs) k zero x there passes only =

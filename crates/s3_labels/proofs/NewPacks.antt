@@ -175,7 +175,7 @@ module _ (bytes front names region : List ℕ) (used total : ℕ) (new : IsNewPa
       ∙ drop-append-add names (replicate (42752 - 64 * used) 0 ++ tail) (n - 64 * used)
       ∙ drop_zeros (n - 64 * used) (42752 - 64 * used) tail (omega (arith, low, high)) ∙ ap (λ m. replicate m 0 ++ tail) f
 
-  -- an area behind the labels is empty
+  -- an area after the labels is empty
   pub empty_area : (within : Stretch) (area : ℕ) → area < 3 → 64 * used ≤ 2048 * area → slots_of Second within area (contents_of bytes) ≡ replicate 32 Free
   empty_area within area small behind =
       let e : 64 * (4 + 32 * area) ≡ 256 + 2048 * area = omega arith in

@@ -96,7 +96,7 @@ judged_is format region earlier bytes long =
     by_mark region earlier (slice_index bytes 0 == 0) (slice_index bytes 0 == 1) (name_in bytes) (judged_label region earlier (name_in bytes) (label_in format bytes))
     (by_label region earlier (name_in bytes) (label_in format bytes) (λ label h. label_read format bytes label long h))
 
--- the slots behind others, each judged behind those before it
+-- the slots after others, each validated after those before it
 abbrev pub AreJudged : Stretch → List Slot → List Slot → Type 0
 AreJudged region earlier [] = ⊤
 AreJudged region earlier (slot ∷ slots) = IsJudged region earlier slot × AreJudged region (earlier ++ slot ∷ []) slots

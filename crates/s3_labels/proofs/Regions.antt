@@ -23,7 +23,7 @@ use Rattle.s3_slots.specs.declared.header.Header.{Header}
 use Rattle.s3_labels.specs.Inner.Areas.{Areas, ArePlaced, IsReady, region_at, slots_at, with_slots}
 use Rattle.s3_labels.proofs.Mounts.{tested, mounted_itself}
 
--- whole tracks behind the spool blocks, all of them there
+-- whole tracks after the spool blocks, all of them on the pack
 pub record IsRegion (sectors : ℕ) (region : Stretch) : Type 0 where
   pub low : 168 ≤ region.start
   pub whole : IsWhole region

@@ -200,7 +200,7 @@ says_with : (level : LevelId) (slots : List Slot) (old new : Areas) (t : List (L
 says_with One slots old new t set h = rw set h
 says_with Two slots old new t set h = rw set h
 
--- the file that stands under a name has a slot
+-- the file of a name has a slot
 record IsPlaced (name : Name) (slots : List Slot) (place : ℕ) : Type 0 where
   label : FileLabel
   there : slice_get slots place ≡ Some (Sound label)
@@ -253,7 +253,7 @@ record IsFreed (name : Name) (slots : List Slot) : Type 0 where
 abbrev IsDropped : Name → List Slot → Type 0
 IsDropped name slots = ((position_from (bears name) 0 slots ≡ None) × (dropped name slots ≡ slots)) ⊎ IsFreed name slots
 
--- the new file stands in a slot of those without the old one
+-- the new file is in a slot of those without the old one
 record IsPut (format : Format) (region : Stretch) (new : NewFile) (slots : List Slot) (at : ℕ) (after : List Slot) : Type 0 where
   extents : List Stretch
   room : placed format region slots (tracks_of new) ≡ Some extents

@@ -1,4 +1,4 @@
--- Which area of a pack is a level's own, and which sectors hold the labels of an area.
+-- The area of a pack that belongs to a level, and the sectors of an area's labels.
 use Rattle.std.specs.Prelude.{◌<◌, ◌≤◌, ◌+◌, ℕ}
 use Rattle.s3_cards.specs.declared.levels.LevelId.{LevelId}
 use Rattle.s3_cards.specs.declared.levels.LevelId.TheVariants.{One, Two}

@@ -138,7 +138,7 @@ all_are_drained old beside w n is held =
     omega (arith, is, lines.drained_lines, ap length lines.printed, length-append old.lines.items (queue_of old.id beside.blocks beside.state.contents), queue_length old.id beside.blocks beside.state.contents) in
     drains_are n w (omega (arith, whole)) ∙ ap (λ (d : ℕ). record w { lines = record w.lines { drained = d } }) whole
 
--- so many lines were drained, and nothing else was done
+-- so many lines were drained, and nothing else has changed
 pub record DrainedSo (n : ℕ) (old new : Level) (before after : Around) : Type 0 where
   pub worlds : Becomes (drains n) (Holds old before) (Holds new after)
   pub ready : IsReady new (seen after.areas after.state.contents)

@@ -1,4 +1,4 @@
--- Jumps that are passed many at once: as many turns of the solo run.
+-- Jumps that are passed many at once: as many turns of the reference model.
 use Rattle.std.proofs.Common.{◌≡◌, ◌≤◌, ◌<◌, ℕ, zero, suc, List, [], ◌∷◌, ◌++◌, refl, sym, ◌∙◌, ap, subst, replicate, append-nil, append_assoc, Bool, false, if◌then◌else◌, Option, Some, None, is_some, Result, Ok, Err, map, slice_range, arith}
 use Rattle.std.specs.Prelude.{IfOk}
 use Rattle.std.proofs.lemmas.Option.{none-some}
@@ -31,7 +31,7 @@ use Rattle.s3_level.proofs.Running.{job_held, pends, standing_same}
 abbrev items_of : JobFiles → List OpenFile
 items_of files = files.files.items
 
--- behind the jumps that it passes the open job holds the world's with their answers
+-- after the jumps that it passes, the open job represents the world's job with their answers
 pub jumps_taken : (s : Shown) (old : Level) (job after : OpenJob) (jumps : ℕ) → old.job ≡ Some job → KeepsPlace job after → after.files ≡ job.files → PassesJumps job.cycle after.cycle jumps
     → JumpsBecome jumps (λ meant w. record w { job = Some meant }) (HoldsParts old s) (HoldsParts (record old { job = Some after }) s)
 jumps_taken s old job after jumps is_open place same_files passes = λ w meant is_job held.
@@ -60,7 +60,7 @@ jumps_taken s old job after jumps is_open place same_files passes = λ w meant i
       },
     )
 
--- and stands there as it then asks
+-- and it is where its next request is
 pub jumps_stand : (jumps : ℕ) (old middle new : World → Type 0) → JumpsBecome jumps (λ job w. record w { job = Some job }) old middle → AtWorkBecomes at_work middle new → JumpsBecome jumps at_work old new
 jumps_stand jumps old middle new takes stands = λ w job is_job held.
     let taken = takes w job is_job held in (

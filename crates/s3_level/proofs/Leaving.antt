@@ -1,4 +1,4 @@
--- What calls leave as it was and tell: past an answer or a fault, and one behind the other.
+-- What calls answer and leave unchanged: after an answer or a fault, and one after another.
 use Rattle.std.proofs.Common.{◌≡◌, ◌+◌, ℕ, [], refl, sym, ap, subst, ◌∙◌, Bool, true, false, true≢false, Option, Some, None, Result, Ok, Err, arith}
 use Rattle.std.specs.Prelude.{OnOk}
 use Rattle.std.specs.Result.{IsErrAnd}
@@ -117,7 +117,7 @@ leaves_spent (Err f) is stays pack = record { stays = stays; ready = tt; pack = 
 pub leaves_memory : {T : Type 0} {old new : Level} {areas : Areas} {s : PoolState} (result : Result T SectorFault) → IsErrAnd result (λ f. f ≡ NoMemory) → IsPackReady areas s.contents → Stays old new → Leaves result old new areas areas s s
 leaves_memory {old = old} {areas = areas} {s = s} result is ready stays = leaves_spent result is stays (pack_kept old.id areas s (tt {0}) ready)
 
--- a call behind one that left the pack as it was
+-- a call after one that left the pack unchanged
 pub leaves_behind : {T : Type 0} {result : Result T SectorFault} {old middle new : Level} {before after : Areas} {s t : PoolState} → Stays old middle → Leaves result middle new before after s t → Leaves result old new before after s t
 leaves_behind {result = result} {old = old} {middle = middle} {new = new} {before = before} {after = after} {s = s} {t = t} stays leaves = record {
   stays = stays_then old middle new stays leaves.stays;
@@ -125,7 +125,7 @@ leaves_behind {result = result} {old = old} {middle = middle} {new = new} {befor
   pack = subst (λ (level : LevelId). LeavesPack level result before after s t) stays.id leaves.pack;
 }
 
--- and behind one that didn't
+-- and after one that didn't
 pub leaves_then : {T U : Type 0} {first : T} {result : Result U SectorFault} {old middle new : Level} {before between after : Areas} {s t u : PoolState} → Leaves (Ok first) old middle before between s t → Leaves result middle new between after t u
     → Leaves result old new before after s u
 leaves_then {result = result} {old = old} {middle = middle} {new = new} {between = between} {after = after} {t = t} {u = u} first second = record {

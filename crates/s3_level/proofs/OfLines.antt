@@ -1,4 +1,4 @@
--- The open file of a request: it is that of the F line that allows the request.
+-- The open file of a request: the file of the F line that allows the request.
 use Rattle.std.proofs.Common.{◌≡◌, ◌<◌, ◌≤◌, ◌+◌, ℕ, zero, suc, Bool, true, false, List, [], ◌∷◌, length, map, filter, get_or, refl, sym, ap, ◌∙◌, subst, arith}
 use Rattle.std.specs.Prelude.{slice_get, Option, Some, None, is_some, unwrap_or, nat_le, cond}
 use Rattle.std.specs.List.{position_from}
@@ -108,7 +108,7 @@ file_of_line level job slot place line file ready there found at =
     let among = in_filtered (is_used ready.switches) (files job.cycle) place is.0 is.1 in
     subst (λ (one : FileLine). IsOfLine one file) (line_named job.cycle among.0 slot is.0 line among.1 there (sym is.2.name ∙ named)) is.2
 
--- the place that stands at a slot is that of the file of its name
+-- the place that a slot has is the place of the file of its name
 named_at : (level : LevelId) (job : OpenJob) (slot : ℕ) (line : FileLine) → IsJobReady level job → slice_get (files job.cycle) slot ≡ Some line
     → slice_get job.places.items slot ≡ Some (place_named line.name (map job_file_of job.files.files.items))
 named_at level job slot line ready there =
@@ -172,7 +172,7 @@ sought_by None (RecordNumber number) line file is right of_line = tt
 takes_record : (line : FileLine) (file : OpenFile) (bytes : List ℕ) → TakesRecord (length bytes) line → IsOfLine line file → Takes bytes file
 takes_record line file bytes takes of_line = record { own = of_line.own takes.put_out; long = takes.long ∙ sym of_line.layout.record_length }
 
--- an open job that calls the file of a slot, with the place that stands there
+-- an open job that calls the file of a slot, with the place of that slot
 pub record IsCalled (job : OpenJob) (slot : ℕ) (call : FileCall) (place : Option ℕ) : Type 0 where
   pub ready : IsJobReady job.files.level job
   pub is : asked job.cycle ≡ asks.File slot call
@@ -189,7 +189,7 @@ called {job = job} {slot = slot} {known = known} ready pends fits is which there
 call_open : {job : OpenJob} {slot place : ℕ} (call : FileCall) → IsCalled job slot call (Some place) → AllAt job.files.files.items place (IsOpenAs (Allows call (length (put job.cycle))))
 call_open {job = job} {slot = slot} {place = place} call it = open_as job.files.level job slot place (Allows call (length (put job.cycle))) it.ready it.fits it.there
 
--- the file whose place stands at a slot has records of the length that is read
+-- the file at the place of a slot has records of the length that is read
 pub read_long : {job : OpenJob} {slot place size : ℕ} (n : ℕ) → IsCalled job slot (calls.Read size) (Some place) → n ≡ size → AllAt job.files.files.items place (λ one. n ≡ one.label.record_length)
 read_long {size = size} n it same = λ one at. let opened = call_open (calls.Read size) it one at in same ∙ opened.suits.long ∙ sym opened.of_line.layout.record_length
 
@@ -227,7 +227,7 @@ few_read {job = job} {slot = slot} it = subst (λ k. k ≤ 1024) (sym it.fits.su
 pub few_chained : {job : OpenJob} {slot size : ℕ} {what : Sought} {place : Option ℕ} → IsCalled job slot (calls.Chain size what) place → size ≤ 1024
 few_chained {job = job} {slot = slot} it = subst (λ k. k ≤ 1024) (sym it.fits.suits.long) (few_bytes job.cycle slot it.fits.line it.fits.there it.fits.on_disk)
 
--- ---- behind a request
+-- ---- after a request
 still_of_line : (line : FileLine) (old new : OpenFile) → opened_as new ≡ opened_as old → IsOfLine line old → IsOfLine line new
 still_of_line line old new same is = record {
   name = ap (λ (o : OpenedAs). o.name) same ∙ is.name;

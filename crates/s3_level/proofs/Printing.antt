@@ -1,4 +1,4 @@
--- Printed lines: those that the level has drained, and behind them those in its queue.
+-- Printed lines: those that the level has drained, and then those in its queue.
 use Rattle.std.specs.Prelude.{map}
 use Rattle.std.proofs.Common.{◌≡◌, ℕ, ◌-◌, ◌<◌, ◌≤◌, List, [], ◌∷◌, ◌++◌, length, Bool, nat_lt, if◌then◌else◌, Option, Some, None, Result, Ok, Err, OnOk, refl, sym, ap, subst, ◌∙◌, arith, lt-ltb, le-ltb, length-append, append_assoc, IsErr, true≢false}
 use Rattle.s3_cards.specs.Printed.{Printed}

@@ -182,13 +182,13 @@ then_turned n all taken old middle new before between after is so acts once more
       first = λ none. absurd (omega (arith, none, once));
     })
 
--- the first one acts, where one behind it does
+-- the first entry acts, if one after it does
 pub first_acts : (n : ℕ) (old middle : Level) (before between : Around) → TurnedSo n old middle before between → ((w : World) → Holds middle between w → (step_of w Turn).did ≡ Acted)
     → (w : World) → Holds old before w → (step_of w Turn).did ≡ Acted
 first_acts zero old middle before between so acts w held = acts w (so.worlds w held).1
 first_acts (suc n) old middle before between so acts w held = sym ((so.worlds w held).0 0 (omega arith))
 
--- one that doesn't act is behind them
+-- an entry that doesn't act comes after them
 pub ends_idle : (n : ℕ) (taken result : Taken) (old middle new : Level) (before between after : Around) → (n ≡ 0 → result ≡ taken) → (1 ≤ n → result ≡ record { did = Acted; times = n }) → TurnedSo n old middle before between
     → 1 ≤ taken.times
     → taken.did ≢ Acted
@@ -220,7 +220,7 @@ pub ends_up_to : (n most : ℕ) (taken result : Taken) → n ≤ most → (n ≡
 ends_up_to zero most taken result few none some up_to = subst (IsUpTo most) (sym (none refl)) up_to
 ends_up_to (suc n) most taken result few none some up_to = subst (IsUpTo most) (sym (some (omega arith))) (record { some = omega arith; few = few })
 
--- where what is told didn't act, none was before it
+-- if the reported entry didn't act, there was none before it
 pub is_first : (n : ℕ) (result : Taken) → (1 ≤ n → result ≡ record { did = Acted; times = n }) → result.did ≢ Acted → n ≡ 0
 is_first zero result some not = refl
 is_first (suc n) result some not = absurd (not (ap (λ (t : Taken). t.did) (some (omega arith))))

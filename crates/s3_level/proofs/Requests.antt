@@ -120,7 +120,7 @@ pub chains_same : {E : Type 0} (result : Result Bool E) (what same_what : MeantS
     → IfOk result (λ found. Serving (record_chained what) place (answer found) old new) → IfOk result (λ found. Serving (record_chained same_what) place (answer found) old new)
 chains_same result what same_what place answer old new same serves = subst (λ (w : MeantSought). IfOk result (λ found. Serving (record_chained w) place (answer found) old new)) same serves
 
--- a record's codes, and where they are put, are what is put at its positions
+-- the codes of a record, with their positions, are what is put there
 told_again : (positions : List (Option ℕ)) → changes_of (filled positions) (map is_some positions) ≡ positions
 told_again [] = refl
 told_again (None ∷ positions) = ap (λ (rest : List (Option ℕ)). None ∷ rest) (told_again positions)

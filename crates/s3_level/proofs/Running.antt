@@ -33,7 +33,7 @@ job_held deck open_job w job o meant is_open is_job held =
     let P : Option OpenJob → Type 0 = λ k. HoldsAtWork deck k w (Some job) in
     subst P is_open (let Q : Option JobAtWork → Type 0 = λ m. HoldsAtWork deck o w m in subst Q is_job held)
 
--- the pending request of the open job is that of the world's job
+-- the pending request of the open job is the one of the world's job
 pub pends : (s : Shown) (level : Level) (w : World) → HoldsParts level s w → Pends (waits_by level.job) w
 pends s level w held = by level.job w.job refl held.job
   where
@@ -95,7 +95,7 @@ card_taken s old job after is_open number files resumes read = λ w meant is_job
     subst (λ (cards : List (List ℕ)). HoldsParts (record old { job = Some after }) s (record w { job = Some (with_answer (card_answer cards) (with_card_read meant)) })) (sym h.cards) goes
 
 -- ---- what it comes to
--- where it stands says nothing of what else is there
+-- where a job is in its run depends on nothing else
 pub standing_same : (request : Request) (job : JobAtWork) (w : World) (other : Option JobAtWork) → standing_at request job (record w { job = other }) ≡ standing_at request job w
 standing_same Card job w other = refl
 standing_same (Read file size) job w other = refl
@@ -109,7 +109,7 @@ standing_same (Ask code) job w other = refl
 standing_same (End true) job w other = refl
 standing_same (End false) job w other = refl
 
--- a job that was changed stands as it then asks
+-- a changed job is where its next request is
 pub then_stands : {T E : Type 0} (result : Result T E) (change : JobAtWork → JobAtWork) (old middle new : World → Type 0)
     → AtWorkBecomes (λ job w. record w { job = Some (change job) }) old middle
     → OnOk result (AtWorkBecomes at_work middle new)

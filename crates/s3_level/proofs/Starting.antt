@@ -126,7 +126,7 @@ no_job_left deck from none = elim (cases_lt (next_job deck from) (length deck)) 
   | inr past ↦ jobs_from-none deck from past
 ]
 
--- behind the last card none is left
+-- after the last card none is left
 pub no_job_behind : (deck : List (List ℕ)) → jobs_from deck (length deck) ≡ []
 no_job_behind deck = jobs_from-none deck (length deck) (omega arith)
 
@@ -138,7 +138,7 @@ some_job_left deck from place some empty = elim (cases_lt (next_job deck from) (
       absurd (none-some place (sym none ∙ some))
 ]
 
--- the job that a call gave is the next one, and the others stand behind it
+-- the job that a call gave is the next one, and the others come after it
 pub next_is : (deck : List (List ℕ)) (from : ℕ) (result : Result Job OclFault) → next_job deck from < length deck
     → Gives result (job_at deck (next_job deck from)) → NextIs deck from result
 next_is deck from (Ok job) less gives = jobs_from-next deck from less ∙ ap (λ (next : Result Job FaultyJob). next ∷ jobs_from deck (place_after next)) gives

@@ -20,7 +20,7 @@ uday = record { codes = LETTER_U ∷ LETTER_D ∷ LETTER_A ∷ LETTER_Y ∷ BLAN
 abbrev pub uyear : Name
 uyear = record { codes = LETTER_U ∷ LETTER_Y ∷ LETTER_E ∷ LETTER_A ∷ LETTER_R ∷ BLANK ∷ BLANK ∷ BLANK ∷ [] }
 
--- RPGOBJ, the name of a program whose H line bears none
+-- RPGOBJ, the name of a program whose H line has none
 abbrev pub rpgobj : Name
 rpgobj = record { codes = LETTER_R ∷ LETTER_P ∷ LETTER_G ∷ LETTER_O ∷ LETTER_B ∷ LETTER_J ∷ BLANK ∷ BLANK ∷ [] }
 

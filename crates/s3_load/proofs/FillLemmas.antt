@@ -77,7 +77,7 @@ tail_later first last old new sectors long counts same =
     λ contents. ap₂ (λ n s. drop n (bytes_at s contents)) at sectors ∙ sym (drop-drop first.record_length (first.count * first.record_length) (bytes_at first.sectors contents)) in
     past new ∙ ap (drop first.record_length) same ∙ sym (past old)
 
--- those after a record that was put behind the others
+-- the records after one that was appended
 tail_grown : (first last : Sequential) (old new : List (List ℕ)) → last.sectors ≡ first.sectors → last.record_length ≡ first.record_length → last.count ≡ first.count + 1 → ChangesRecord (shape_of first) first.count old new → KeepsTail (shape_of last) old new
 tail_grown first last old new sectors long counts others =
     let at = longer last.count first.count last.record_length first.record_length counts long in

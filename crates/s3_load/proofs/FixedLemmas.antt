@@ -44,7 +44,7 @@ pub whole_cut : (unit : ℕ) (text : List ℕ) → 1 ≤ unit → 0 < length tex
 whole_cut unit [] u some = absurd (omega (arith, some))
 whole_cut unit (byte ∷ text) u some = one_cut unit byte text u
 
--- in the words of the code
+-- the same statement in the form of the code
 pub first_cut : (unit : ℕ) (text : List ℕ) → 1 ≤ unit → unit < length text → cut unit text ≡ take unit text ∷ cut unit (take (length text - unit) (drop unit text))
 first_cut unit text u more = whole_cut unit text u (omega (arith, more)) ∙ ap (λ rest. take unit text ∷ cut unit rest) (sym (take_rest text unit))
 

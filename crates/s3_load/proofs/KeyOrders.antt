@@ -1,4 +1,4 @@
--- Records that stand in the order of their keys.
+-- Records in the order of their keys.
 use Rattle.std.proofs.Common.{◌≡◌, ℕ, zero, suc, ◌+◌, ◌-◌, ◌*◌, ◌^◌, ◌<◌, ◌≤◌, ◌⊎◌, refl, arith, sym, ◌∙◌, ap, ap₂, subst, inl, inr, true, false, cond, List, [], ◌∷◌, ◌++◌, length, map, get_or, nat_le, nat_lt, drop, append-nil, append_assoc}
 use Rattle.std.specs.Cmp.Lexicographic.{slice_cmp}
 use Rattle.std.specs.List.{All, AllPairs}

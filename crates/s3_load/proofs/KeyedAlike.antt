@@ -1,4 +1,4 @@
--- Records in the order of their keys: the same records stand the same way.
+-- Records in the order of their keys: the same records have the same order.
 use Rattle.std.proofs.Common.{◌≡◌, ℕ, zero, suc, ◌<◌, ◌⊎◌, inl, inr, refl, arith, sym, ◌∙◌, ap, subst, List, [], ◌∷◌, length, get_or}
 use Rattle.std.specs.Prelude.{None, Option, Some, IsPermutation}
 use Rattle.std.specs.Cmp.Lexicographic.{slice_cmp}

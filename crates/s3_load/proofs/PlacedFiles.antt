@@ -318,7 +318,7 @@ module _ (order : Order) (new : NewFile) (areas after : Areas) (s t : List (List
   is_made : IsMade areas.header.format (region_at order.level areas) new (slots_at order.level areas) (slots_at order.level after)
   is_made = made_is areas.header.format (region_at order.level areas) areas.masters new (slots_at order.level areas) (slots_at order.level after) make
 
-  -- the new label stands where the make has put it
+  -- the new label is in the slot of the make
   new_place : slot ≡ is_made.at
   new_place =
       let at_place : slice_get (slots_at order.level after) is_made.at ≡ Some (Sound is_made.label) =

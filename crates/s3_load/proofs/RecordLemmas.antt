@@ -180,7 +180,7 @@ one_more_tried columns cells start old new i f h is apart lies before tries = el
   | inr refused ↦ subst (λ bytes. HasTried columns cells start (i + 1) bytes) (sym refused.1) (one_more_refused columns cells start old i f h is before refused.0)
 ]
 
--- faults that are told stay told
+-- a reported fault stays reported
 pub still_told : (old new : ℕ) → (new ≡ 0 → old ≡ 0) → 0 < old → 0 < new
 still_told old zero before told = let none : old ≡ 0 = before refl in omega arith
 still_told old (suc new) before told = omega arith
@@ -197,7 +197,7 @@ is_record n columns filled chosen cells start bytes is long counted taken is_mea
       is_meant = is_meant;
     }
 
--- a row whose key is taken, or of which something is told, and more may be told
+-- a row whose key is taken, or with a reported fault; more may be reported
 pub key_or_told : (has_key : Bool) (old new : ℕ) → (has_key ≡ true) ⊎ (0 < old) → (new ≡ 0 → old ≡ 0) → (has_key ≡ true) ⊎ (0 < new)
 key_or_told has_key old new (inl it) before = inl it
 key_or_told has_key old new (inr told) before = inr (still_told old new before told)

@@ -23,7 +23,7 @@ use Rattle.s3_match.specs.Inner.Reading.{is_input_slot}
 use Rattle.s3_match.proofs.SelectLemmas.{file_here}
 use Rattle.s3_match.proofs.SlotLemmas.{one_more_kept}
 
--- the slots behind one more, and the files
+-- the slots after one more, and the files
 pub slots_more : (program : Program) (slot : ℕ) (d : FileLine) (b : Bool) → slot < length program.files.items → is_input (get_or program.files.items slot d) ≡ b
     → filter (is_input_slot program) (range_with_len 0 (slot + 1)) ≡ filter (is_input_slot program) (range_with_len 0 slot) ++ cond b (slot ∷ []) []
 slots_more program slot d b within is =

@@ -78,7 +78,7 @@ some_is_in program files group last sound =
     any_kept (selected_of program) (picks group last) (is_in program group last) files
     (λ k d within. picked program group last (get_or files k d) (selected_of program (get_or files k d)) (seen program (get_or files k d) (sound k d within)))
 
--- the least of what is left, onto what stands behind
+-- the least of the remaining heads and of one after them
 abbrev pub least_in : Program → Group → (last : Option (List ℕ)) → (behind : Option Selected) → List InputFile → Option Selected
 least_in program group last behind files = least_onto (filter (picks group last) (heads program files)) behind
 

@@ -151,7 +151,7 @@ field_is program start key level indicator is e =
     ∙ fields_named (kind_at program start) key level (tables_in program) (drop start.fields program.inputs.items)
     ∙ ap (λ (fields : List (FieldLine Name)). find (λ field. has_level level (level_of key field)) (filter (is_field_of (kind_at program start)) fields)) (sym (kind_fields program start is))
 
--- no field stands among the AND and OR lines before the first one
+-- no field is among the AND and OR lines before the first one
 behind_codes : (indicator : Indicator) (key : Key) (level : Option ℕ) (all : List (InputLine Reference)) (k : ℕ) (lines : List (InputLine Reference)) → drop k all ≡ lines
     → first_field indicator key level lines ≡ first_field indicator key level (drop (fields_begin k lines) all)
 unfolding first_field first_from

@@ -101,7 +101,7 @@ or_again : (a b c : Bool) → (a || b) ≡ c → (a || (a || b)) ≡ c
 or_again true b c e = e
 or_again false b c e = e
 
--- behind a type's line
+-- after a type's line
 open_levels : (tables : Tables) (file : Name) (lines : List (InputLine Reference))
     → (list_any controlled (group_fields (map (named_input tables) lines)) || list_any (λ kind. list_any controlled kind.fields) (types_from file (map (named_input tables) lines))) ≡ list_any (names_level key.Control) lines
 open_levels tables file [] = refl
@@ -128,7 +128,7 @@ program_levels : (program : Program) → some_type_names_level key.Control progr
 unfolding named
 program_levels program = sym (levels_shown (tables_in program) no_name program.inputs.items)
 
--- ---- whether total time is due behind a type
+-- ---- whether total time is due after a type
 pub due_with : (program : Program) (start : TypeStart) (fields : LevelFields) → AreFieldsOf key.Control program start fields → true ≡ some_type_names_level key.Control program.inputs.items
     → fields.is_any ≡ (not (has_levels (source_named program)) || has_control_fields (kind_at program start))
 due_with program start fields are is =

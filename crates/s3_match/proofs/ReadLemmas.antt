@@ -13,12 +13,12 @@ pub read_whole : (source : Source) (anew : Anew) (inputs : List InputFile) (go :
 unfolding read_from
 read_whole source anew inputs go = refl
 
--- what stands before comes first
+-- the earlier ones come first
 one_longer : (inputs later : List InputFile) (k : ℕ) → k < length inputs → take k inputs ++ input_at inputs k ∷ later ≡ take (k + 1) inputs ++ later
 one_longer inputs later k within =
     sym (append_assoc (take k inputs) (input_at inputs k ∷ []) later) ∙ ap (λ (xs : List InputFile). xs ++ later) (sym (take_more inputs k no_input within))
 
--- a file whose head stands, or that has ended, stays
+-- a file with a head, or one that has ended, is unchanged
 stays : (source : Source) (anew : Anew) (inputs : List InputFile) (k : ℕ) (go : List InputFile → Rest) (e : Environment) → k < length inputs → is_unread (input_at inputs k) ≡ false
     → read_from source anew inputs k go e ≡ read_from source anew inputs (k + 1) go e
 unfolding read_from files_read

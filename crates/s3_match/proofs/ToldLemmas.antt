@@ -1,4 +1,4 @@
--- What is told once of a program's records: the only types of files, and the places of record identifying indicators.
+-- What is kept once for a program's records: the only types of files, and the places of record identifying indicators.
 use Rattle.std.proofs.Common.{◌≡◌, ℕ, ◌<◌, ◌++◌, length, get_or, map, List, [], ◌∷◌, true, refl, sym, ◌∙◌, ap, arith}
 use Rattle.std.specs.Prelude.{Option, Some, None, is_some, option_map, unwrap_or}
 use Rattle.std.specs.List.{cons_option}

@@ -1,4 +1,4 @@
--- The type of a record: the first start of its file whose codes hold is that of the meaning's type.
+-- The type of a record: the first start of its file whose codes hold is the start of the meaning's type.
 use Rattle.std.proofs.Common.{◌≡◌, ℕ, ◌+◌, ◌<◌, ◌==◌, ◌&&◌, ◌++◌, length, drop, List, [], ◌∷◌, Bool, true, false, refl, sym, ◌∙◌, ap, arith, subst}
 use Rattle.std.specs.Prelude.{Option, Some, None, is_some, IsTrue, IfSome, unwrap_or, option_map, map, filter, filter_map, find, nat_lt, if◌then◌else◌}
 use Rattle.std.specs.List.{list_all}
@@ -112,7 +112,7 @@ type_found program file bytes within =
 same : (n : ℕ) → (n == n) ≡ true
 same n = grind (arith, nat_tests)
 
--- a type starts at the place of this line, its fields behind it
+-- a type starts at the place of this line, and its fields come after it
 abbrev begins : Tables → List (InputLine Reference) → TypeStart → Bool
 begins tables all start = is_some (type_at tables all start) && start.fields == fields_begin (start.place + 1) (drop (start.place + 1) all)
 

@@ -1,4 +1,4 @@
--- What stands in an area when a file was made.
+-- What an area has for a label after a file was made.
 use Rattle.std.proofs.Common.{◌≡◌, ◌+◌, ℕ, suc, Bool, true, false, List, [], ◌∷◌, arith, refl, ap, ap₂, sym, ◌∙◌}
 use Rattle.std.specs.Prelude.{slice_get, slice_set, Option, Some, None, Ok, Err, cond, if◌then◌else◌}
 use Rattle.std.specs.List.{list_any, position_from}
@@ -85,7 +85,7 @@ over_else format region new slots after (Present old) q is differs h = by (is_pe
     by true e = absurd cc
     by false e = placed_else format region new (dropped new.name slots) after q differs e ∙ dropped_else new.name slots old q is differs
 
--- what stands under any other name stays
+-- what it has for any other name is unchanged
 pub made_else : (format : Format) (region : Stretch) (masters : List Slot) (new : NewFile) (slots after : List Slot) (q : Name) → same_name new.name q ≡ false → made format region masters new slots ≡ Ok after
     → standing q after ≡ standing q slots
 unfolding made

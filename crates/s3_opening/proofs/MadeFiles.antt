@@ -54,7 +54,7 @@ use Rattle.s3_opening.specs.Inner.Starting.{IsMade}
 use Rattle.s3_opening.proofs.Made.{found_at, made_else}
 use Rattle.s3_opening.proofs.NewKept.{new_kept}
 
--- ---- the slot of a label that stands
+-- ---- the slot of a valid label
 none_before : (t : Slot → Bool) (k : ℕ) (slots : List Slot) (i : ℕ) (slot : Slot) → position_from t k slots ≡ None → slice_get slots i ≡ Some slot → t slot ≡ false
 none_before t k [] i slot h there = absurd cc
 none_before t k (first ∷ more) zero slot h there = let same : first ≡ slot = cc in by (t first) refl h same
@@ -90,7 +90,7 @@ sound_stands region slots i label kept here = by (position_from (bears label.nam
         (only_sound label.name found.element at slots i label region kept here refl there (found_passes (bears label.name) slots at found.element e there))
 
 -- ---- what a make changes
--- the direct file of the label is the one that stands under it
+-- the direct file of the label is the one that is found for it
 direct_is : (region : Stretch) (slots : List Slot) (i : ℕ) (label : FileLabel) (name : Name) (n : ℕ) → AreKept region slots → slice_get slots i ≡ Some (Sound label) → label.name ≡ name
     → IsOfDirect slots name n → Contains (sectors_of label) n
 direct_is region slots i label name n kept here named direct =
@@ -159,7 +159,7 @@ module _ (level : LevelId) (new : NewFile) (label : FileLabel) (areas new_areas 
   unchanged : (b : Bool) (one : FileLabel) → same_name new.name one.name ≡ false → standing one.name (slots_by b level areas) ≡ Present one → All (SameAt old fresh) (sectors_of one)
   unchanged b one other is = same_apart b level new_areas old fresh one label before (sound_by b one other is) made.stands (from_label one.name other) made.same
 
-  -- a file that stands still does
+  -- a valid label is still on the pack
   pub stands_still : (file : OpenFile) → same_name new.name file.label.name ≡ false → Stands level (seen areas old) file → Stands level (seen new_areas fresh) file
   stands_still file other stands = record {
     sound = sound_by file.is_master file.label other stands.sound;
@@ -225,7 +225,7 @@ module _ (level : LevelId) (new : NewFile) (label : FileLabel) (areas new_areas 
       }
 
 -- ---- what a make answers
--- the label that it answers stands, with what a new file has
+-- the returned label is on the pack, with what a new file has
 pub made_is : (level : LevelId) (new : NewFile) (label : FileLabel) (areas new_areas : Areas) (s t : PoolState) → IsPackReady new_areas t.contents
     → made areas.header.format (region_at level areas) areas.masters new (slots_at level areas) ≡ Ok (slots_at level new_areas) → new_areas ≡ with_slots level (slots_at level new_areas) areas
     → label ≡ new_label new label.extents → IsOfPack (length t.contents) label → IsWritten (area_of level) (slots_at level new_areas) t.contents label

@@ -39,7 +39,7 @@ use Rattle.s3_opening.specs.Inner.Tests.{Step, Makes, Tested, behind, is_label_o
 use Rattle.s3_opening.proofs.Refusals.{found_stands}
 
 -- ---- an opened file
--- the layout of a label that is that of the line
+-- the layout of a label that agrees with the line
 layout_parts : (line : FileLine) (label : FileLabel) → is_of_layout line label ≡ true → IsLaidOutAs line label
 unfolding is_of_layout
 layout_parts line label h =

@@ -254,7 +254,7 @@ readies_if_made level name new label areas new_areas old t u (Err fault) is read
 pub readies_open : (level : LevelId) (start : Start) (file : OpenFile) (s : Seen) → start ≡ Opened file → IsRight level s start → Readies level start file s s
 readies_open level start file s is right = subst (λ one. Readies level one file s s) (sym is) (readies_opened level file s (subst (IsRight level s) is right))
 
--- ---- it comes behind the others
+-- ---- the file is appended to the others
 labels_pushed : (items later : List OpenFile) (file : OpenFile) (label : Name) → later ≡ items ++ file ∷ [] → file.label.name ≡ label → labels_open later ≡ labels_open items ++ label ∷ []
 labels_pushed items later file label pushed named =
     ap labels_open pushed ∙ map-append (λ (f : OpenFile). f.label.name) items (file ∷ []) ∙ ap (λ n. labels_open items ++ n ∷ []) named

@@ -98,7 +98,7 @@ abbrev Ends : Option HaltCode → (came end : Result FilesInUse HaltCode) → Ty
 Ends None came end = end ≡ came
 Ends (Some code) came end = end ≡ Err code
 
--- by the plan, what is behind the steps
+-- what follows the steps, by the plan
 behind_steps : (refused : Option HaltCode) (plan : Result (List Slot) (ℕ × LabelFault)) (came : Result FilesInUse HaltCode) → AgreesWith plan came → IsOk plan → Ends refused came (unless_halted came (ending refused))
 behind_steps None (Ok slots) (Ok so_far) agrees ok = refl
 behind_steps (Some code) (Ok slots) (Ok so_far) agrees ok = refl

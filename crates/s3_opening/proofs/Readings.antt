@@ -1,4 +1,4 @@
--- What calls that change nothing of the pack leave: past an answer or a refusal, and one behind the other.
+-- What calls that change nothing on the pack leave unchanged: after an answer or a refusal, and one after another.
 use Rattle.std.proofs.Common.{◌≡◌, ◌+◌, ℕ, Result, Ok, Err, IsErrAnd, arith, refl, ap, ◌∙◌}
 use Rattle.s3_cards.specs.declared.levels.LevelId.{LevelId}
 use Rattle.s3_operator.specs.declared.halt_code.HaltCode.{HaltCode}
@@ -26,7 +26,7 @@ reads_halted {s = s} code = record { areas = refl; keeps = keeps_refl s; failure
 pub reads_ok : {T U : Type 0} {first : T} {old new : Areas} {s t : PoolState} (answer : U) → ReadsPack (Ok first) old new s t → ReadsPack (Ok answer) old new s t
 reads_ok answer reads = record { areas = reads.areas; keeps = reads.keeps; failures = reads.failures }
 
--- memory ran out behind it
+-- memory ran out afterwards
 pub reads_spent : {T U : Type 0} {first : T} {old new : Areas} {s t : PoolState} (result : Result U OpeningFault) → IsErrAnd result (λ f. f ≡ Sectors NoMemory) → ReadsPack (Ok first) old new s t → ReadsPack result old new s t
 reads_spent (Ok answer) is reads = absurd is
 reads_spent (Err f) is reads = rw is (record { areas = reads.areas; keeps = reads.keeps; failures = reads.failures })
@@ -62,7 +62,7 @@ reads_then {s = s} {t = t} {u = u} {result = result} before behind = record {
   failures = behind.failures ∙ ap (λ (n : ℕ). n + failed_opening result) (let same : t.failures ≡ s.failures = omega (arith, before.failures) in same);
 }
 
--- a call behind it may change the pack for a level
+-- a call afterwards may change the pack for a level
 pub leaves_then : {T U : Type 0} {level : LevelId} {first : T} {old middle new : Areas} {s t u : PoolState} {result : Result U SectorFault} → IsPackReady old s.contents → ReadsPack (Ok first) old middle s t
     → LeavesPack level result middle new t u → LeavesPack level result old new s u
 leaves_then {level = level} {first = first} {old = old} {middle = middle} {s = s} {t = t} ready before behind =

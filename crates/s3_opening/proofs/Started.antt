@@ -97,7 +97,7 @@ reads_planned {T = T} {s = s} value meant tested plan result plans came reads = 
 pub right_none : (level : LevelId) (s : Seen) (starts : List Start) → starts ≡ [] → AreRight level s starts
 right_none level s starts none = subst (AreRight level s) (sym none) (λ i start there. absurd cc)
 
--- ---- the files behind them
+-- ---- the files after them
 pub can_after : {T : Type 0} {first : T} (level : LevelId) (areas now : Areas) (s t : PoolState) (items : List OpenFile) (starts : List Start) → ReadsPack (Ok first) areas now s t → items ≡ []
     → CanStart level [] (seen areas s.contents) starts → CanStart level items (seen now t.contents) starts
 can_after level areas now s t items starts reads none can =

@@ -1,4 +1,4 @@
--- What an F line asks of the pack: whether its file is used, made or opened, and what a new file of it is.
+-- What an F line asks for: whether its file is used, made or opened, and what a new file is like.
 use Rattle.std.specs.Prelude.{ℕ, ◌==◌, Bool, true, not, ◌&&◌, List, Option, Some, None, is_some, if◌then◌else◌}
 use Rattle.s3_lines.specs.Files.{is_output_use, is_chained, is_disk}
 use Rattle.s3_lines.specs.declared.indicator.Indicator.{Indicator}
@@ -17,16 +17,16 @@ use Rattle.s3_slots.specs.declared.making.NewFile.{NewFile}
 use Rattle.s3_slots.specs.declared.making.Size.{Size}
 use Rattle.s3_slots.specs.declared.making.Size.TheVariants.{Records, Tracks}
 
--- the switch of its condition is on, or it has none
+-- the switch of the line's condition is on, or the line has no condition
 abbrev pub is_switched_on : ℕ → Option Indicator → Bool
 is_switched_on switches (Some (Switch n)) = switch_on switches n
 is_switched_on switches _ = true
 
--- a file on the pack that the job uses
+-- the line is for a file on the pack, and the job uses it
 abbrev pub is_used : ℕ → FileLine → Bool
 is_used switches line = is_disk line.device && is_switched_on switches line.condition
 
--- an output file without additions is made, every other is opened
+-- an output file without additions is made; any other file is opened
 abbrev pub is_new : FileLine → Bool
 is_new line = is_output_use line.usage && not line.has_additions
 
@@ -38,7 +38,7 @@ abbrev pub key_start_of : Option KeyField → ℕ
 key_start_of None = 0
 key_start_of (Some key) = key.start
 
--- the label agrees with the line: a file without a key is in order or direct
+-- the label agrees with the line; a file without a key is sequential or direct
 unfoldable pub is_of_layout : FileLine → FileLabel → Bool
 is_of_layout line label =
     (label.record_length == line.record_length)
@@ -46,7 +46,7 @@ is_of_layout line label =
     && (label.key_length == key_length_of line.key) && (label.key_start == key_start_of line.key)
 
 -- ---- a new file
--- by key, direct for a direct load, else in order
+-- indexed if the line has a key, direct for a direct load, else sequential
 abbrev pub organization_of : FileLine → Organization
 organization_of line = if is_some line.key then Indexed else (if is_chained line.designation then Direct else Sequential)
 

@@ -32,11 +32,11 @@ abbrev pub with_file : JobFile → FilesInUse → FilesInUse
 with_file file so_far = record so_far { job_files = so_far.job_files ++ file ∷ [] }
 
 -- ---- a file that is made
--- what a new file has: a direct one is full of blank records
+-- what a new file has: a direct file is full of blank records
 abbrev pub first_kept : NewFile → Kept
 first_kept new = if is_direct new.organization then record nothing_kept { records = replicate (capacity_of new) (replicate new.record_length BLANK) } else nothing_kept
 
--- why a file isn't made
+-- the halt for a file that can't be made
 abbrev pub halt_of_make : LabelFault → HaltCode
 halt_of_make Master = MasterForUpdate
 halt_of_make DamagedFault = DamagedLabel
@@ -51,13 +51,13 @@ after_make name new so_far (Err fault) = Err (halt_of_make fault)
 after_make name new so_far (Ok slots) =
     Ok (with_file (job_file name new.name false true) (record so_far { files = with_new new slots so_far.files }))
 
--- in place of the level's old file of that label
+-- the new file replaces the level's old file of its label
 unfoldable pub make_file : Name → NewFile → FilesInUse → Result FilesInUse HaltCode
 make_file name new so_far =
     after_make name new so_far (made so_far.files.format so_far.files.own.region so_far.files.masters.slots new so_far.files.own.slots)
 
 -- ---- a file that is opened
--- whether a file that stands can't be opened: a master is only read, the layout is the line's, and the index is good
+-- why an existing file can't be opened: a master may only be read, the layout must be the line's, and the index must be good
 unfoldable pub refusal_of : FileLine → (is_master : Bool) → FileLabel → (has_good_index : Bool) → Option HaltCode
 refusal_of line is_master label has_good_index =
     if is_master && not (is_only_read line) then Some MasterForUpdate
@@ -82,18 +82,18 @@ open_own line name so_far Blocked = Err DamagedLabel
 open_own line name so_far Absent = open_master line name so_far (standing name so_far.files.masters.slots)
 open_own line name so_far (Present label) = open_standing line false label (so_far.files.own.kept name) so_far
 
--- a label is looked up in the own area, then in the masters
+-- a label is looked up in the level's area, then in the masters' area
 unfoldable pub open_file : FileLine → Name → FilesInUse → Result FilesInUse HaltCode
 open_file line name so_far = open_own line name so_far (standing name so_far.files.own.slots)
 
 -- ---- the files of a job
--- its settings: FILE statements, switches, date
+-- the settings of a job: FILE statements, switches, date
 pub record Settings : Type 0 where
   pub statements : List FileStatement
   pub switches : ℕ
   pub date : List ℕ
 
--- one of its files so far has this label
+-- an earlier file of the job has this label
 abbrev pub is_taken : Name → List JobFile → Bool
 is_taken label files = list_any (λ file. same_name file.label label) files
 
@@ -117,7 +117,7 @@ abbrev pub unless_halted : Result FilesInUse HaltCode → (FilesInUse → Result
 unless_halted (Ok so_far) go = go so_far
 unless_halted (Err code) go = Err code
 
--- file by file in F sheet order, up to the first halt
+-- the files of the F lines, in order, up to the first halt
 unfoldable pub open_lines : Settings → List FileLine → FilesInUse → Result FilesInUse HaltCode
 open_lines settings [] so_far = Ok so_far
 open_lines settings (line ∷ lines) so_far = unless_halted (open_line settings line so_far) (open_lines settings lines)
@@ -126,6 +126,6 @@ open_lines settings (line ∷ lines) so_far = unless_halted (open_line settings 
 abbrev pub none_in_use : Files → FilesInUse
 none_in_use files = record { files = files; job_files = [] }
 
--- all files of a job, over these files: nothing is made unless all pass
+-- all files of a job; nothing is made unless all files pass
 abbrev pub opened : Settings → List FileLine → Files → Result FilesInUse HaltCode
 opened settings lines files = open_lines settings lines (none_in_use files)

@@ -10,6 +10,6 @@ goes_on GoesOn = true
 goes_on Ends = false
 goes_on NotStarted = false
 
--- 0 goes on where that can be; 2 and 3 are always allowed, and no other digit ever is
+-- 2 and 3 are always allowed; 0 continues, if the halt allows that; no other digit is allowed
 abbrev pub is_allowed : HaltCode → (digit : ℕ) → Bool
 is_allowed code digit = digit == 0 && goes_on (kind_of code) || digit == 2 || digit == 3

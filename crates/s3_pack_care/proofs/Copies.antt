@@ -109,7 +109,7 @@ module _ (header : Header) (contents : List (List ℕ)) (mounts : mounted conten
   files_apart (suc (suc (suc k))) slot a i label other n few small there other_there differ has other_has = absurd (omega (arith, few))
   files_apart area slot (suc (suc (suc k))) i label other n few small there other_there differ has other_has = absurd (omega (arith, small))
 
--- ---- the slots behind a write that changes no label
+-- ---- the slots after a write that changes no label
 pub slot_stays : (header : Header) (old new : List (List ℕ)) (a i : ℕ) → a < 3 → ((n : ℕ) → n < 168 → slice_get new n ≡ slice_get old n) → slot_on header new a i ≡ slot_on header old a i
 slot_stays header old new zero i few same = ap (λ slots. slice_get slots i) (judged_alike header.format header.masters 0 old new (λ n is. same n (omega (arith, is.1))))
 slot_stays header old new (suc zero) i few same = ap (λ slots. slice_get slots i) (judged_alike header.format header.level_one 1 old new (λ n is. same n (omega (arith, is.1))))

@@ -1,4 +1,4 @@
--- A slot that has the same bytes and is of the same kind is the same, whatever stands before it.
+-- A slot that has the same bytes and is of the same kind is the same, whatever comes before it.
 use Rattle.std.proofs.Common.{◌≡◌, ℕ, zero, suc, ◌+◌, ◌<◌, ◌==◌, Bool, true, false, List, [], ◌∷◌, ◌++◌, length, map, slice_get, slice_index, Option, Some, None, if◌then◌else◌, replicate, refl, sym, ap, ap₂, ◌∙◌, arith, length-append}
 use Rattle.std.specs.List.{range_with_len}
 use Rattle.s3_cards.specs.declared.name.Name.{Name}

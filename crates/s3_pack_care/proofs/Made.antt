@@ -1,4 +1,4 @@
--- What a make of a new file under a label that doesn't stand says of the slots: the room that it takes, or why there is none.
+-- What a make of a new file with an unused label shows about the slots: the space that it takes, or why there is none.
 use Rattle.std.proofs.Common.{◌≡◌, ℕ, ◌<◌, Bool, true, false, List, length, slice_get, slice_set, Option, Some, None, Result, Ok, Err, if◌then◌else◌, refl, sym, ap, ◌∙◌, subst}
 use Rattle.std.specs.List.{list_any}
 use Rattle.s3_store.proofs.SectorLists.{slice_get_set_same}

@@ -140,7 +140,7 @@ module _ (format : Format) (region : Stretch) (area slot : ℕ) (new_slot : Slot
       slots_each (λ j. judged format region [] (slot_bytes area new j)) 0 32 (slice_set before slot new_slot) (length_set before slot new_slot ∙ slots_32 format region area old)
       (λ i few. let e : i ≡ 0 + i = omega arith in said i few ∙ ap (λ j. Some (judged format region [] (slot_bytes area new j))) e)
 
--- ---- the labels of the masters, moved to where those of level 1 stand
+-- ---- the labels of the masters, moved to the place of level 1's labels
 abbrev eight : List (List ℕ)
 eight = [] ∷ [] ∷ [] ∷ [] ∷ [] ∷ [] ∷ [] ∷ [] ∷ []
 

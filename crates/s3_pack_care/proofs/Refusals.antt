@@ -56,7 +56,7 @@ pub source_blocked : (area : ℕ) (areas : Areas) (contents : List (List ℕ)) (
 source_blocked area areas contents name now found slots is found_is mounts =
     are_on areas contents (λ a. refusal (standing name (slots_in area a)) ≡ Some DamagedLabel) mounts (ap refusal (stands_so area areas name now found Blocked slots is found_is))
 
--- ---- what stands under the name of a copy
+-- ---- the slot that has the name of a copy
 pub exists_there : (area : ℕ) (areas : Areas) (name : Name) (source : FileLabel) (now : List Slot) (found : Standing) (label : FileLabel) → now ≡ slots_in area areas → found ≡ standing name now → found ≡ Present label
     → RefusesRoom area name source areas Exists
 exists_there area areas name source now found label slots is found_is = (label, stands_so area areas name now found (Present label) slots is found_is)

@@ -93,7 +93,7 @@ relabelled_is area slot at bytes before after old new area_in slot_in room width
       sectors = sectors;
     }
 
--- ---- files lie behind the labels
+-- ---- files come after the labels
 pub in_region : (format : Format) (region : Stretch) (area i : ℕ) (label : FileLabel) (contents : List (List ℕ)) (n : ℕ) → slice_get (slots_of format region area contents) i ≡ Some (Sound label)
     → Contains (sectors_of label) n → IsIn region n
 unfolding sectors_of

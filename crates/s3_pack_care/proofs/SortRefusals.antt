@@ -47,7 +47,7 @@ module _ (area : ℕ) (name : Name) (fields : List SortField) (old : List (List 
     mounted_here : IsMounted areas old
     mounted_here = subst (λ (s : List (List ℕ)). IsMounted areas s) here is
 
-    -- the label doesn't stand, or is blocked
+    -- no file has the label, or a damaged slot has it
     pub absent_refuses : standing name (slots_in area areas) ≡ Absent → RefusesSort area name fields old (Label NotFound)
     absent_refuses h = are_on areas old (λ a. refusal (standing name (slots_in area a)) ≡ Some NotFound) mounted_here (ap refusal h)
 

@@ -1,4 +1,4 @@
--- What is told of a pack: of each slot, of an area, and nothing of a pack that is sound.
+-- What is reported for a pack: for each slot, for an area, and nothing for a valid pack.
 use Rattle.std.proofs.Common.{◌≡◌, ℕ, zero, suc, ◌+◌, ◌-◌, ◌<◌, ◌≤◌, Bool, true, false, List, [], ◌∷◌, ◌++◌, slice_get, Option, Some, None, Result, if◌then◌else◌, refl, sym, ap, ap₂, ◌∙◌, subst, arith, append_assoc}
 use Rattle.std.specs.List.{flat_map, range_with_len}
 use Rattle.s3_cards.specs.declared.name.Name.{Name}
@@ -21,7 +21,7 @@ use Rattle.s3_pack_check.specs.declared.checking.Cause.TheVariants.{Index}
 use Rattle.s3_pack_check.specs.declared.checking.Wrong.{Wrong}
 use Rattle.s3_pack_check.specs.declared.fault.CheckFault.{CheckFault}
 
--- ---- what is told of the slots of an area, one after another
+-- ---- what is reported for the slots of an area, one after another
 pub begun : (areas : Areas) (area : ℕ) (contents : List (List ℕ)) (before : List Wrong) → before ++ flat_map (slot_wrongs areas area contents) (range_with_len 0 (32 - 0)) ≡ before ++ area_wrongs areas area contents
 unfolding area_wrongs
 begun areas area contents before = refl
@@ -42,7 +42,7 @@ pub ended : (f : ℕ → List Wrong) (all wrongs : List Wrong) (i : ℕ) → i �
 ended f all wrongs i e so =
     sym (append_none wrongs) ∙ sym (ap (λ n. wrongs ++ flat_map f (range_with_len n (32 - n))) e) ∙ so
 
--- ---- what is told of a pack
+-- ---- what is reported for a pack
 refused_by : (contents : List (List ℕ)) (found : Result Header MountFault) (refusal : Refusal) → IsRefusal found refusal → IsRefused (told_if contents found) (fault_of refusal)
 refused_by contents found (BadPack fault) is_err = ap (told_if contents) is_err
 refused_by contents found (Sectors fault) refused = tt
@@ -54,7 +54,7 @@ refused_told pack items store refusal fault same is_store refused is_fault =
     subst (λ (f : CheckFault). IsRefused (told pack) f) (sym is_fault)
     (refused_by (contents_of pack) (mounted (contents_of pack)) refusal (subst (λ (s : List (List ℕ)). IsRefusal (mounted s) refusal) is_contents refused))
 
--- ---- packs of which nothing is told
+-- ---- packs for which nothing is reported
 abbrev file_choice : (indexed good : Bool) → Cause → Option Cause
 file_choice indexed good cause = if indexed then (if good then None else Some cause) else None
 

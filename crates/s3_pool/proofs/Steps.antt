@@ -270,7 +270,7 @@ held_overwritten {b} {xs} n k x w s at on = record {
   stored = λ i other. inl refl;
 }
 
--- the store has them, where no buffer held it
+-- the store has them, if no buffer had the sector
 pub stored_overwritten : {b : List (List ℕ)} {xs : List Buffer} (n : ℕ) (w : List ℕ) → IsSound b xs → IsMissed n xs → Overwrites n w b xs (slice_set b n w) xs
 stored_overwritten {b} {xs} n w s missed = record {
   sound = record {
@@ -322,7 +322,7 @@ kept f f' m m' result keeps failures = record { contents = keeps_contents f f' m
 pub inside : (n : ℕ) (b : List (List ℕ)) (f : List Buffer) → n < length (laid f b) → n < length b
 inside n b f within = omega (arith, within, length_laid f b)
 
--- a refusal for the store's count of sectors is one for that of the contents
+-- a refusal by the store's count of sectors is one by the count of the contents
 pub no_sector_err : {T U : Type 0} (n : ℕ) (b : List (List ℕ)) (f : List Buffer) (fault : PoolFault) → (IsErrOf {T = U} (Err fault) NoSector ↔ (length b ≤ n)) → IsErrOf {T = T} (Err fault) NoSector ↔ (length (laid f b) ≤ n)
 no_sector_err n b f fault h = (λ is. let past : length b ≤ n = h.0 cc in omega (arith, length_laid f b), λ past. let is = h.1 (omega (arith, length_laid f b)) in cc)
 

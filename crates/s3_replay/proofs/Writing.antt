@@ -40,7 +40,7 @@ split_line (c ∷ x) rest plain =
     not_ten : (c : ℕ) → is_plain c ≡ true → (c == 10) ≡ false
     not_ten c plain = grind (arith, nat_tests)
 
--- a part behind which others stand is a line
+-- a part that others follow is a line
 before_parts : (x : List ℕ) (parts : List (List ℕ)) → 0 < length parts → lines_of_parts (x ∷ parts) ≡ strip_carriage_return x ∷ lines_of_parts parts
 before_parts x [] some = absurd (omega arith)
 before_parts x (part ∷ parts) some = refl
@@ -169,7 +169,7 @@ asks entry n fits some few = by entry.level entry.action fits few
     by Two (Reply digit) fits few = ap (reply Two) (digit_read digit fits) ∙ ap (λ k. Some (command (record { level = Two; action = Reply digit }) k)) (omega (arith, few, some))
 
 -- ---- texts
--- a line with a command, before the lines behind it
+-- a line with a command, before the lines after it
 line_before : (n : ℕ) (line : List ℕ) (command : Command) (meant : Result (List Entry) ℕ) → command_of line ≡ Some command → with_line n line meant ≡ before_those (entries_by command) meant
 unfolding command_of
 line_before n [] command meant is = absurd cc

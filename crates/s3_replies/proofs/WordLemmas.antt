@@ -37,7 +37,7 @@ begins_after_blanks (byte ∷ bytes) = by_test (is_blank byte) refl (begins_afte
         subst P n so_far
     by_test false e so_far = e
 
--- no bytes have no words
+-- an empty text has no words
 no_words_in : words [] ≡ []
 unfolding words
 no_words_in = refl

@@ -251,7 +251,7 @@ put_kept format region new slots after whole is kept unused h = by (free_slot sl
     by None h = absurd cc
     by (Some at) h = placing at (placed format region slots (tracks_of new)) refl h
 
--- ---- no slot bears the name of a new file
+-- ---- no slot has the name of a new file
 none_from : (p : Slot → Bool) (xs : List Slot) → ((j : ℕ) (x : Slot) → slice_get xs j ≡ Some x → p x ≡ false) → list_any p xs ≡ false
 none_from p [] each = refl
 none_from p (x ∷ xs) each = or_from (p x) (list_any p xs) (each 0 x refl) (none_from p xs (λ j y is. each (suc j) y is))
@@ -282,7 +282,7 @@ position_none p k (x ∷ xs) h = elim (cases_Bool (p x)) [
   | inr fails ↦ or_from (p x) (list_any p xs) fails (position_none p (k + 1) xs (sym (cond-false (p x) (Some k) (position_from p (k + 1) xs) fails) ∙ h))
 ]
 
--- where nothing stands under a name, no slot bears it
+-- if no file is found for a name, no slot has it
 pub absent_nowhere : (name : Name) (slots : List Slot) → standing name slots ≡ Absent → position_from (bears name) 0 slots ≡ None
 unfolding standing
 absent_nowhere name slots h = by (position_from (bears name) 0 slots) refl

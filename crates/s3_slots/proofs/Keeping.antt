@@ -107,7 +107,7 @@ extents_there region extents sectors h within =
     λ k d lt. all_from_list (λ run. end_of run ≤ sectors) (is_extent region) extents (λ x is. extent_there region x sectors within is) b.1 k d lt
 
 -- ---- what keeps slots so
--- a sound slot that stands for one that stood there before, in the same sectors and under the same name
+-- a valid slot in place of an earlier one, with the same sectors and name
 pub record IsLike (region : Stretch) (old : List Slot) (j : ℕ) (label : FileLabel) : Type 0 where
   pub before : FileLabel
   pub there : slice_get old j ≡ Some (Sound before)

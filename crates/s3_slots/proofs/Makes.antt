@@ -1,4 +1,4 @@
--- The slot that stands under a name.
+-- The slot that is found for a name.
 use Rattle.std.proofs.Common.{◌≡◌, ℕ, Bool, true, false, List, slice_get, slice_set, Option, Some, None, refl, sym, ap, ◌∙◌}
 use Rattle.std.specs.List.{list_any, position_from}
 use Rattle.s3_store.proofs.SectorLists.{slice_set_known, slice_set_set_same}

@@ -94,7 +94,7 @@ pub record IsRoom (region : Stretch) (slots : List Slot) (low : ℕ) (run : Stre
   pub high : end_of run ≤ end_of region
   pub clear : is_clear slots run ≡ true
 
--- one behind the other
+-- one after another
 abbrev pub AreRooms : Stretch → List Slot → ℕ → List Stretch → Type 0
 AreRooms region slots low [] = Unit {0}
 AreRooms region slots low (run ∷ runs) = IsRoom region slots low run × AreRooms region slots (end_of run) runs

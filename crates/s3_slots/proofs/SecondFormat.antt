@@ -36,8 +36,8 @@ put_same format region new slots = by (free_slot slots)
         in_slot at (placed format region slots (tracks_of new)) (placed Second region slots (tracks_of new))
         (extents_same format region slots (tracks_of new) (lowest_place region slots (tracks_of new))) room
 
--- A file that is made in a format is made in the second so that the slots are the same, and one that is refused is refused likewise, but
--- for want of space.
+-- A file that is made in a format is made in the second one with the same slots. A refused file is refused there too, unless space was
+-- lacking.
 pub made_same : (format : Format) (region : Stretch) (masters : List Slot) (new : NewFile) (slots : List Slot) → (made format region masters new slots ≡ Err NoSpace → ⊥)
     → made Second region masters new slots ≡ made format region masters new slots
 unfolding made

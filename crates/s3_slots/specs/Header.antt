@@ -44,7 +44,7 @@ format_in bytes =
 abbrev pub stretch_at : ℕ → List ℕ → Stretch
 stretch_at at bytes = record { start = big_number 2 (drop at bytes); sectors = big_number 2 (drop (at + 2) bytes) }
 
--- 64 lines in the first format
+-- the quota; the first format always has 64 lines
 abbrev pub quota_in : Format → ℕ → List ℕ → ℕ
 quota_in First at bytes = 64
 quota_in Second at bytes = slice_index bytes at
@@ -62,11 +62,11 @@ header_in format bytes =
     }
 
 -- ---- the tests
--- each level may have a line queued, and both together 128
+-- each level can queue at least one line, and both together at most 128
 abbrev pub are_quotas : ℕ → ℕ → Bool
 are_quotas one two = nat_le 1 one && nat_le 1 two && nat_le (one + two) 128
 
--- a region is whole tracks, behind the spool blocks and before the end
+-- a region is whole tracks, after the spool blocks and before the end of the pack
 abbrev pub is_region : ℕ → Stretch → Bool
 is_region total region =
     nat_le first_region region.start && (region.start % 24 == 0) && (region.sectors % 24 == 0) && nat_le (end_of region) total
@@ -74,7 +74,7 @@ is_region total region =
 abbrev pub are_regions : Header → Bool
 are_regions header = list_all (is_region header.total) (regions header) && are_apart (regions header)
 
--- the tests in their order; none reads a label
+-- the tests in order; none reads a label
 abbrev pub accepted : ℕ → Option Header → Result Header MountFault
 accepted sectors None = Err BadHeader
 accepted sectors (Some header) =
@@ -86,7 +86,7 @@ abbrev pub header_by : List ℕ → Option Format → Option Header
 header_by bytes None = None
 header_by bytes (Some format) = Some (header_in format bytes)
 
--- the header of a pack, or why it isn't mounted
+-- the header of a pack, or why it can't be mounted
 abbrev pub mounted : List (List ℕ) → Result Header MountFault
 mounted contents =
     if nat_lt (length contents) first_region then Err Short

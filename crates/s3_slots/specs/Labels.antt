@@ -41,15 +41,15 @@ abbrev pub retention_by : ℕ → Option Retention
 retention_by code =
     if code == LETTER_T then Some Temporary else (if code == LETTER_S then Some Scratch else (if code == LETTER_P then Some Permanent else None))
 
--- eight codes, if they are a name
+-- the name in these bytes, if they are one
 abbrev pub name_by : List ℕ → Option Name
 name_by codes = if is_name codes then Some (record { codes = codes }) else None
 
--- both numbers are 0 where an extent isn't used
+-- an extent that isn't used has 0 in both numbers
 abbrev pub is_unused : Stretch → Bool
 is_unused stretch = (stretch.start == 0) && (stretch.sectors == 0)
 
--- how many there are up to the last one that is used
+-- the number of extents up to the last used one
 abbrev pub used_count : List Stretch → ℕ
 used_count [] = 0
 used_count (stretch ∷ stretches) = if (used_count stretches == 0) && is_unused stretch then 0 else used_count stretches + 1
@@ -57,7 +57,7 @@ used_count (stretch ∷ stretches) = if (used_count stretches == 0) && is_unused
 abbrev pub used : List Stretch → List Stretch
 used stretches = take (used_count stretches) stretches
 
--- where the extents stand in a slot
+-- the places of the extents in a slot
 abbrev pub extent_places : Format → List ℕ
 extent_places First = 16 ∷ []
 extent_places Second = 16 ∷ 34 ∷ 38 ∷ 42 ∷ []
@@ -65,7 +65,7 @@ extent_places Second = 16 ∷ 34 ∷ 38 ∷ 42 ∷ []
 abbrev pub extents_in : Format → List ℕ → List Stretch
 extents_in format bytes = used (map (λ at. stretch_at at bytes) (extent_places format))
 
--- the fields, where the label, the organization and the retention can be read
+-- the fields of a label, if its name, organization and retention are valid
 abbrev pub label_with : Format → List ℕ → Option Name → Option Organization → Option Retention → Option FileLabel
 label_with format bytes (Some name) (Some organization) (Some retention) =
     Some (record {

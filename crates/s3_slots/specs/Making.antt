@@ -1,4 +1,4 @@
--- Making files, setting counts and dropping labels: what becomes of the slots of an area.
+-- Making files, setting counts and dropping labels: the resulting slots of an area.
 use Rattle.std.specs.Prelude.{ℕ, zero, suc, ◌*◌, ◌/◌, Bool, true, false, nat_le, List, slice_get, slice_set, Option, Some, None, Result, Ok, Err, if◌then◌else◌}
 use Rattle.std.specs.List.{list_any, position_from}
 use Rattle.s3_cards.specs.declared.name.Name.{Name}
@@ -22,13 +22,13 @@ use Rattle.s3_slots.specs.declared.slot.Standing.{Standing}
 use Rattle.s3_slots.specs.declared.slot.Standing.TheVariants.{Absent, Blocked, Present}
 use Rattle.s3_store.specs.declared.stretch.Stretch.{Stretch}
 
--- ---- its size
+-- ---- the size of a file
 -- the greatest number up to n that passes a test, or 0
 abbrev pub greatest : (ℕ → Bool) → ℕ → ℕ
 greatest test zero = 0
 greatest test (suc n) = elim (test (suc n)) as (λ is_so. ℕ) [ true ↦ suc n | false ↦ greatest test n ]
 
--- the greatest capacity that fits so many sectors
+-- the greatest capacity for so many sectors
 unfoldable pub greatest_capacity : NewFile → ℕ → ℕ
 greatest_capacity new sectors =
     greatest (λ capacity. nat_le (sectors_needed new.organization new.record_length new.key_length capacity) sectors) (sectors * 256 / new.record_length)
@@ -47,7 +47,7 @@ capacity_of_size new (Tracks n) = greatest_capacity new (sectors_of_tracks n)
 abbrev pub capacity_of : NewFile → ℕ
 capacity_of new = capacity_of_size new new.size
 
--- a direct file is full of blank records from the start
+-- a direct file is full of blank records when it is made
 abbrev pub first_count : Organization → ℕ → ℕ
 first_count Direct capacity = capacity
 first_count _ capacity = 0
@@ -67,8 +67,8 @@ new_label new extents =
       date = new.date;
     }
 
--- ---- what is done to the slots
--- the slots with what a label becomes in the slot at this place
+-- ---- changes of the slots
+-- the slots, with the slot at this place changed by a function of its label
 abbrev pub changed_at : (FileLabel → Slot) → List Slot → ℕ → Option Slot → List Slot
 changed_at change slots i (Some (Sound label)) = slice_set slots i (change label)
 changed_at change slots i _ = slots
@@ -77,15 +77,15 @@ abbrev pub changed_in : (FileLabel → Slot) → List Slot → Option ℕ → Li
 changed_in change slots None = slots
 changed_in change slots (Some i) = changed_at change slots i (slice_get slots i)
 
--- without the file of that label
+-- the slots without the file of that label
 unfoldable pub dropped : Name → List Slot → List Slot
 dropped name slots = changed_in (λ label. Free) slots (position_from (bears name) 0 slots)
 
--- the count of that label's file is n
+-- the slots with n as the count of that label's file
 unfoldable pub counted : Name → ℕ → List Slot → List Slot
 counted name n slots = changed_in (λ label. Sound (record label { count = n })) slots (position_from (bears name) 0 slots)
 
--- a new file in a slot, with its extents
+-- the slots with a new file in a slot, if it has extents
 abbrev pub put_in : NewFile → List Slot → ℕ → Option (List Stretch) → Result (List Slot) LabelFault
 put_in new slots at None = Err NoSpace
 put_in new slots at (Some extents) = Ok (slice_set slots at (Sound (new_label new extents)))
@@ -101,13 +101,13 @@ abbrev pub is_permanent : Retention → Bool
 is_permanent Permanent = true
 is_permanent _ = false
 
--- in place of what stands under its label
+-- the slots with the new file in place of the old file of its label, unless that one is permanent or its slot is damaged
 abbrev pub put_over : Format → Stretch → NewFile → List Slot → Standing → Result (List Slot) LabelFault
 put_over format region new slots Absent = put format region new slots
 put_over format region new slots Blocked = Err DamagedLabel
 put_over format region new slots (Present old) = if is_permanent old.retention then Err Retained else put format region new (dropped new.name slots)
 
--- the slots of an area after a make, beside those of the masters
+-- the slots of an area after a make; the masters' slots are given, since a label of theirs can't be used
 unfoldable pub made : Format → Stretch → (masters : List Slot) → NewFile → List Slot → Result (List Slot) LabelFault
 made format region masters new slots =
     if list_any (bears new.name) masters then Err Master else put_over format region new slots (standing new.name slots)

@@ -1,4 +1,4 @@
--- Where a made file goes.
+-- The slot and the extents of a new file.
 use Rattle.std.specs.Prelude.{ℕ, ◌+◌, ◌-◌, ◌*◌, ◌/◌, ◌==◌, Bool, true, false, nat_le, List, [], ◌∷◌, ◌++◌, map, take, Option, Some, None, find, if◌then◌else◌}
 use Rattle.std.specs.List.{range_with_len, sum_by, position_from}
 use Rattle.s3_store.specs.Stretches.{end_of}
@@ -19,8 +19,8 @@ is_free _ = false
 abbrev pub free_slot : List Slot → Option ℕ
 free_slot slots = position_from is_free 0 slots
 
--- ---- the room
--- so many tracks from a track of the region on
+-- ---- the space
+-- so many tracks that begin at a track of the region
 abbrev pub tracks_at : Stretch → ℕ → ℕ → Stretch
 tracks_at region tracks track = record { start = region.start + 24 * track; sectors = sectors_of_tracks tracks }
 
@@ -28,7 +28,7 @@ tracks_at region tracks track = record { start = region.start + 24 * track; sect
 abbrev pub places : Stretch → ℕ → List Stretch
 places region tracks = map (tracks_at region tracks) (range_with_len 0 (region.sectors / 24 + 1 - tracks))
 
--- the lowest place that meets no sound extent
+-- the lowest place without a sector of a valid extent
 unfoldable pub lowest_place : Stretch → List Slot → ℕ → Option Stretch
 lowest_place region slots tracks = find (is_clear slots) (places region tracks)
 
@@ -42,17 +42,17 @@ grown run track = record { start = run.start; sectors = run.sectors + track.sect
 abbrev pub empty_behind : Stretch → Stretch
 empty_behind track = record { start = end_of track; sectors = 0 }
 
--- the runs of these tracks without those that meet a sound extent, the first of them behind an open run
+-- the free runs of these tracks, of which the first continues the given run; a track with a sector of a valid extent ends a run
 abbrev pub free_runs : List Slot → Stretch → List Stretch → List Stretch
 free_runs slots run [] = ended run
 free_runs slots run (track ∷ tracks) =
     if is_clear slots track then free_runs slots (grown run track) tracks else ended run ++ free_runs slots (empty_behind track) tracks
 
--- the free stretches of a region, from the lowest up
+-- the free extents of a region, from the lowest up
 unfoldable pub free_stretches : Stretch → List Slot → List Stretch
 free_stretches region slots = free_runs slots (record { start = region.start; sectors = 0 }) (places region 1)
 
--- so many sectors of these stretches, the last one as far as needed
+-- so many sectors of these extents; the last extent may be cut
 abbrev pub cut : ℕ → List Stretch → List Stretch
 cut sectors [] = []
 cut sectors (stretch ∷ stretches) =
@@ -63,13 +63,13 @@ abbrev pub cut_if : Bool → ℕ → List Stretch → Option (List Stretch)
 cut_if true sectors stretches = Some (cut sectors stretches)
 cut_if false sectors stretches = None
 
--- so many sectors of the lowest four free stretches, if these have them
+-- so many sectors of the lowest four free extents, if these have so many
 abbrev pub lowest_stretches : Stretch → List Slot → ℕ → Option (List Stretch)
 lowest_stretches region slots sectors =
     let lowest : List Stretch = take 4 (free_stretches region slots) in
     cut_if (nat_le sectors (sum_by (λ stretch. stretch.sectors) lowest)) sectors lowest
 
--- one extent where one suffices; else none in the first format, and up to four in the second
+-- one extent if one suffices; else none in the first format, and up to four in the second
 abbrev pub placed_or : Format → Stretch → List Slot → ℕ → Option Stretch → Option (List Stretch)
 placed_or format region slots tracks (Some extent) = Some (extent ∷ [])
 placed_or First region slots tracks None = None

@@ -1,4 +1,4 @@
--- The standing of the slots of an area, judged in their order.
+-- The validation of the slots of an area, in order.
 use Rattle.std.specs.Prelude.{ℕ, ◌+◌, ◌-◌, ◌*◌, ◌/◌, ◌%◌, ◌==◌, Bool, false, not, ◌&&◌, nat_le, List, [], ◌∷◌, ◌++◌, length, map, slice_index, slice_get, Option, Some, None, if◌then◌else◌}
 use Rattle.std.specs.List.{list_all, list_any, range_with_len, sum_by, position_from}
 use Rattle.s3_cards.specs.declared.name.Name.{Name}
@@ -16,8 +16,8 @@ use Rattle.s3_slots.specs.declared.slot.Standing.{Standing}
 use Rattle.s3_slots.specs.declared.slot.Standing.TheVariants.{Absent, Blocked, Present}
 use Rattle.s3_store.specs.declared.stretch.Stretch.{Stretch}
 
--- ---- the room that a file takes
--- the sectors of its records
+-- ---- the space of a file
+-- the number of sectors for the records
 abbrev pub record_sectors : (capacity record_length : ℕ) → ℕ
 record_sectors capacity record_length = (capacity * record_length + 255) / 256
 
@@ -32,7 +32,7 @@ abbrev pub sectors_needed : Organization → (record_length key_length capacity 
 sectors_needed Indexed record_length key_length capacity = record_sectors capacity record_length + index_sectors capacity key_length
 sectors_needed _ record_length key_length capacity = record_sectors capacity record_length
 
--- ---- a label by itself
+-- ---- a label alone
 abbrev pub is_key_of : Organization → (record_length key_length key_start : ℕ) → Bool
 is_key_of Indexed record_length key_length key_start =
     nat_le 1 key_length && nat_le key_length 29 && nat_le 1 key_start && nat_le (key_start + key_length) (record_length + 1)
@@ -58,13 +58,13 @@ is_well_formed region label =
     && nat_le 1 label.capacity && is_count_of label.organization label.capacity label.count
     && nat_le (sectors_needed label.organization label.record_length label.key_length label.capacity) (sum_by (λ extent. extent.sectors) label.extents)
 
--- ---- a label beside those before it
--- the extents of a sound slot
+-- ---- a label and the ones before it
+-- the extents of a valid slot
 abbrev pub extents_of : Slot → List Stretch
 extents_of (Sound label) = label.extents
 extents_of _ = []
 
--- it meets no sound extent
+-- it has no sector of a valid slot's extents
 abbrev pub is_apart_from_slot : Stretch → Slot → Bool
 is_apart_from_slot stretch slot = is_apart_from_all stretch (extents_of slot)
 
@@ -75,11 +75,11 @@ abbrev pub bears : Name → Slot → Bool
 bears name (Sound label) = same_name label.name name
 bears name _ = false
 
--- it neither meets a sound extent nor repeats the label of a sound slot
+-- it has no sector of a valid extent, and no valid slot has its label
 abbrev pub is_disentangled : List Slot → FileLabel → Bool
 is_disentangled earlier label = list_all (is_clear earlier) label.extents && not (list_any (bears label.name) earlier)
 
--- ---- judging
+-- ---- validating
 abbrev pub is_sound : Stretch → List Slot → FileLabel → Bool
 is_sound region earlier label = is_well_formed region label && is_disentangled earlier label
 
@@ -87,7 +87,7 @@ abbrev pub judged_label : Stretch → List Slot → Option Name → Option FileL
 judged_label region earlier name None = Damaged name
 judged_label region earlier name (Some label) = if is_sound region earlier label then Sound label else Damaged name
 
--- a slot of these bytes behind those that were judged before it
+-- a slot with these bytes, after the slots that were validated before it
 abbrev pub judged : Format → Stretch → List Slot → List ℕ → Slot
 judged format region earlier bytes =
     if slice_index bytes 0 == 0 then Free
@@ -105,11 +105,11 @@ labels_at area = 1 + 8 * area
 abbrev pub slot_bytes : ℕ → List (List ℕ) → ℕ → List ℕ
 slot_bytes area contents i = part (sector_bytes contents (labels_at area + i / 4)) (i % 4 * 64) 64
 
--- the 32 slots of an area, as they stand
+-- the 32 slots of an area, validated
 unfoldable pub slots_of : Format → Stretch → ℕ → List (List ℕ) → List Slot
 slots_of format region area contents = judged_behind format region [] (map (slot_bytes area contents) (range_with_len 0 32))
 
--- A slot is entangled where it is damaged for an overlap or a repeated label alone.
+-- A slot is entangled if it is damaged only by an overlapping or duplicate label.
 abbrev pub is_entangled_label : Stretch → List Slot → Option FileLabel → Bool
 is_entangled_label region earlier None = false
 is_entangled_label region earlier (Some label) = is_well_formed region label && not (is_disentangled earlier label)
@@ -125,7 +125,7 @@ is_damaged_under name _ = false
 abbrev pub without_file : Bool → Standing
 without_file is_blocked = if is_blocked then Blocked else Absent
 
--- the sound slot of that label; else it is blocked where a damaged slot bears it
+-- the valid slot of that label; without one, the label is blocked if a damaged slot has it
 abbrev pub standing_with : Bool → Option Slot → Standing
 standing_with is_blocked (Some (Sound label)) = Present label
 standing_with is_blocked _ = without_file is_blocked

@@ -73,7 +73,7 @@ its_job w job other one two = let same : Some job ≡ Some other = sym one ∙ t
 asks_as : (w : World) (job : JobAtWork) → w.job ≡ Some job → waiting w.halts ≡ halt_asked (pending job w) → IsAsked w
 asks_as w job is waits other is_other = subst (λ (j : JobAtWork). waiting w.halts ≡ halt_asked (pending j w)) (its_job w job other is is_other) waits
 
--- where no halt waits, a job that stands at its request asks as it should
+-- if no halt waits, a running job at its request asks as it must
 stands : (job : JobAtWork) (w : World) → waiting w.halts ≡ None → IsAsked (at_work job w)
 stands job w none = by (pending job w) refl
   where

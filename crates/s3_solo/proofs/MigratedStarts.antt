@@ -1,4 +1,4 @@
--- A level begins over a migrated pack as over the old one, but for the format.
+-- A level begins over a migrated pack as over the old one, apart from the format.
 use Rattle.std.proofs.Common.{◌≡◌, ℕ, false, List, slice_get, Some, Ok, refl, sym, ap, ap₂, ◌∙◌}
 use Rattle.std.proofs.Math.Path.{fun_ext}
 use Rattle.s3_cards.specs.declared.levels.LevelId.{LevelId}

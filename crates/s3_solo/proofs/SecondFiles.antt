@@ -35,7 +35,7 @@ abbrev second_opened : Result FilesInUse HaltCode → Result FilesInUse HaltCode
 second_opened (Ok so_far) = Ok (second_in_use so_far)
 second_opened (Err code) = Err code
 
--- the other is the same but for the format, unless there was no space
+-- the other world is the same apart from the format, unless space was lacking
 abbrev pub Opens : (one other : Result FilesInUse HaltCode) → Type 0
 Opens one other = (one ≡ Err halt.NoSpace → ⊥) → other ≡ second_opened one
 

@@ -1,5 +1,5 @@
--- Each entry is answered the same over a pack of the second format, and leaves the same world but for the format, where no halt for
--- want of space is shown.
+-- Over a pack of the second format each entry has the same answer and leaves the same world apart from the format, if no halt is shown
+-- because space was lacking.
 use Rattle.std.proofs.Common.{◌≡◌, ℕ, zero, suc, ◌-◌, Bool, true, false, ◌||◌, List, [], ◌∷◌, length, set, slice_get, Option, Some, None, Result, Ok, Err, if◌then◌else◌, refl, sym, ap, ◌∙◌, true≢false}
 use Rattle.std.proofs.lemmas.Bool.{or_parts}
 use Rattle.std.proofs.lemmas.List.Folds.{list_any-append}
@@ -57,7 +57,7 @@ replied_shows digit halts = by (last_halt halts) refl
         ap shows_no_space now ∙ replied_at digit halts (length halts - 1) halt some
 
 -- ---- worlds and outcomes
--- without want of space the other is the same but for the format, and there was none before
+-- if space wasn't lacking, the other world is the same apart from the format, and it wasn't lacking before
 abbrev Follows : List ShownHalt → (one other : World) → Type 0
 Follows halts one other = shows_no_space one.halts ≡ false → (shows_no_space halts ≡ false) × (other ≡ over_second one)
 
@@ -197,7 +197,7 @@ entry_same w action.Turn = turns w
 entry_same w (action.Reply digit) = replies digit w
 entry_same w action.Drain = drains w
 
--- ---- the solo run
+-- ---- the reference model
 record IsSame (w : World) (actions : List Action) : Type 0 where
   pub before : shows_no_space w.halts ≡ false
   pub run : solo (over_second w) actions ≡ over_second (solo w actions)

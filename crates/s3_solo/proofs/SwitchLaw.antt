@@ -36,7 +36,7 @@ lower true rest unit more some =
     ap (λ n. n % 2 == 1) e ∙ ap (λ n. n == 1) (add-mul-mod_self_left (rest / unit) 2 more)
 lower false rest unit more some = ap (λ n. n / unit % 2 == 1) (omega arith)
 
--- each of the bits stands at its place, counted from the highest
+-- each of the bits is at its place, counted from the highest
 bit_of : (bits : List Bool) (i : ℕ) → i < length bits → (value bits / 2 ^ (length bits - 1 - i) % 2 == 1) ≡ get_or bits i false
 bit_of [] i in' = absurd (omega (arith, in'))
 bit_of (bit ∷ bits) zero in' =

@@ -1,4 +1,4 @@
--- The printed lines of a level: those that were drained, those that are queued, and its quota.
+-- The printed lines of a level, drained and queued, and its quota.
 use Rattle.std.specs.Prelude.{ℕ, ◌+◌, ◌-◌, nat_lt, Bool, List, [], ◌∷◌, ◌++◌, length}
 use Rattle.s3_cards.specs.Printed.{Printed}
 
@@ -11,11 +11,11 @@ pub record Lines : Type 0 where
 abbrev pub no_lines : (quota : ℕ) → Lines
 no_lines quota = record { printed = []; drained = 0; quota = quota }
 
--- a line is printed only while fewer lines are queued than may be
+-- a line can be printed only while fewer lines are queued than the quota
 abbrev pub has_room : Lines → Bool
 has_room lines = nat_lt (length lines.printed - lines.drained) lines.quota
 
--- a line is put last
+-- a line is added at the end
 abbrev pub with_line : Printed → Lines → Lines
 with_line line lines = record lines { printed = lines.printed ++ line ∷ [] }
 

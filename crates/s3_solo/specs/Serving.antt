@@ -30,7 +30,7 @@ use Rattle.s3_solo.specs.Lines.{has_room, with_line}
 use Rattle.s3_operator.specs.Halts.{with_halt}
 use Rattle.s3_solo.specs.World.{World, JobAtWork, number_after}
 
--- what an entry is answered, and the world after it
+-- the answer to an entry, and the world after it
 pub record Outcome : Type 0 where
   pub did : Did
   pub world : World
@@ -45,8 +45,8 @@ acted w = record { did = Acted; world = w }
 abbrev pub halting : ℕ → HaltCode → List (ℕ × ℕ) → World → World
 halting number code details w = record w { halts = with_halt number code details w.halts }
 
--- ---- the job at work
--- the request that stands
+-- ---- the running job
+-- the pending request
 abbrev pub pending : JobAtWork → World → Request
 pending job w = Req job.source w.switches w.date job.past
 
@@ -54,7 +54,7 @@ pending job w = Req job.source w.switches w.date job.past
 abbrev pub job_over : JobAtWork → World → World
 job_over job w = record w { pack = files_closed job.files w.pack; job = None }
 
--- the job at work, if there is one, is over
+-- the running job, if there is one, is over
 abbrev pub over : Option JobAtWork → World → World
 over None w = w
 over (Some job) w = job_over job w
@@ -62,7 +62,7 @@ over (Some job) w = job_over job w
 abbrev pub job_ended : World → World
 job_ended w = over w.job w
 
--- where the job asks for a reply, its halt is shown; where a reply has ended it, it is over at once
+-- if the job asks for a reply, its halt is shown; if a reply has ended it, it is over at once
 abbrev pub standing_at : Request → JobAtWork → World → World
 standing_at (Ask code) job w = halting job.number code [] (record w { job = Some job })
 standing_at (End true) job w = job_over job w
@@ -86,26 +86,26 @@ card_answer (card ∷ cards) = Found card
 abbrev pub with_card_read : JobAtWork → JobAtWork
 with_card_read job = record job { cards = drop 1 job.cards }
 
--- a line is put last
+-- a line is added at the end
 abbrev pub line_put : (page line : ℕ) → List ℕ → World → World
 line_put page line text w = record w { lines = with_line (record { page = page; line = line; text = text }) w.lines }
 
--- a line is printed, unless as many are queued as the level's quota
+-- a line is printed, unless as many lines are queued as the level's quota
 abbrev pub line_printed : (page line : ℕ) → List ℕ → JobAtWork → World → Outcome
 line_printed page line text job w = if has_room w.lines then acted (answered Done job (line_put page line text w)) else idle w
 
 -- ---- files
--- the files that the job has in use, over those of the world
+-- the files that the job uses, over those of the world
 abbrev pub in_use : JobAtWork → World → FilesInUse
 in_use job w = record { files = w.pack; job_files = job.files }
 
--- A request to a file has this answer, and leaves these files. The files of a job are all those that its requests can name, so
--- that one to another file is never made.
+-- A request to a file has this answer, and leaves these files. A job has all files that its requests can name, so the last case never
+-- occurs.
 abbrev pub file_served : Option Served → JobAtWork → World → Outcome
 file_served None job w = idle w
 file_served (Some served) job w = acted (answered served.answer (record job { files = served.in_use.job_files }) (record w { pack = served.in_use.files }))
 
--- the pending request is served; one for a reply waits
+-- the pending request is served; a request for a reply waits
 abbrev pub served : Request → JobAtWork → World → Outcome
 served Card job w = acted (answered (card_answer job.cards) (with_card_read job) w)
 served (Print page line text) job w = line_printed page line text job w
@@ -124,14 +124,14 @@ abbrev pub first_else : List Diagnostic → List Diagnostic → List Diagnostic
 first_else [] others = others
 first_else (diagnostic ∷ more) others = diagnostic ∷ more
 
--- the diagnostics of a source: those of its cards, or, where there are none, those of the whole
+-- the diagnostics of a source: those of its cards; or, if its cards have none, those of the whole source
 abbrev pub diagnostics_of : (run_card from : ℕ) → List (List ℕ) → List Diagnostic
 diagnostics_of run_card from cards = first_else (sheet_diagnostics from cards) (compile_diagnostics run_card (lines_of from cards))
 
 abbrev pub details_of : List Diagnostic → List (ℕ × ℕ)
 details_of diagnostics = map (λ diagnostic. (diagnostic.card, diagnostic.number)) diagnostics
 
--- a source goes into the library under its program's name, in place of an earlier one of that name
+-- a source goes into the library under its program's name, and replaces an earlier one of that name
 abbrev pub stocked : Name → Source → World → World
 stocked name source w = record w { library = λ other. if same_name name other then Some source else w.library other }
 
@@ -140,7 +140,7 @@ abbrev pub compiled : ℕ → List Line → List Diagnostic → World → World
 compiled number lines [] w = stocked (program_name lines) (source_of lines) w
 compiled number lines (first ∷ more) w = halting number FaultySource (details_of (first ∷ more)) w
 
--- a source is started over its files, or halts for one of them
+-- a source is started over its files, or halts because of one of them
 abbrev pub run_over : ℕ → List (List ℕ) → Source → Result FilesInUse HaltCode → World → World
 run_over number cards source (Err code) w = halting number code [] w
 run_over number cards source (Ok opening) w =
@@ -154,11 +154,11 @@ abbrev pub run : ℕ → List FileStatement → List (List ℕ) → Option Sourc
 run number statements cards None w = halting number NoProgram [] w
 run number statements cards (Some source) w = run_over number cards source (opened (settings statements w) source.files w.pack) w
 
--- the data of a job: the cards behind its RUN card
+-- the data of a job: the cards after its RUN card
 abbrev pub data_of : List (List ℕ) → Job → List (List ℕ)
 data_of deck job = slice_range deck job.data_from job.data_to
 
--- the source on these cards, the first at a place, is compiled
+-- the source on these cards is compiled; the first card has this place in the deck
 abbrev pub compiled_data : (number run_card from : ℕ) → List (List ℕ) → World → World
 compiled_data number run_card from cards w = compiled number (lines_of from cards) (diagnostics_of run_card from cards) w
 
@@ -166,7 +166,7 @@ compiled_data number run_card from cards w = compiled number (lines_of from card
 abbrev pub run_card_of : Job → ℕ
 run_card_of job = job.data_from
 
--- a job compiles its data, or starts a program over them
+-- a job compiles its data, or starts a program that reads them
 abbrev pub performed : ℕ → Job → List (List ℕ) → World → World
 performed number job cards w =
     if is_compile job
@@ -184,7 +184,7 @@ is_on_after Leave was_on = was_on
 abbrev pub switch_of : List Switch → ℕ → Switch
 switch_of switches n = slice_index_or switches (n - 1) Leave
 
--- the bit of one of U1 to U8 after what a job does with it, where it is on
+-- the bit of one of U1 to U8 if it is on after what a job does with it, else 0
 abbrev pub bit_after : List Switch → ℕ → ℕ → ℕ
 bit_after switches was n = if is_on_after (switch_of switches n) (switch_on was n) then 2 ^ (8 - n) else 0
 
@@ -192,12 +192,12 @@ bit_after switches was n = if is_on_after (switch_of switches n) (switch_on was 
 abbrev pub switches_after : List Switch → ℕ → ℕ
 switches_after switches was = sum_by (bit_after switches was) (1 ∷ 2 ∷ 3 ∷ 4 ∷ 5 ∷ 6 ∷ 7 ∷ 8 ∷ [])
 
--- the date is the job's, if it gives one, and each switch as the job sets it; both stay for later jobs
+-- The date is the job's, if it gives one. Each switch is as the job sets it. Both stay for later jobs.
 abbrev pub with_settings : Job → World → World
 with_settings job w = record w { switches = switches_after job.switches w.switches; date = unwrap_or job.date w.date }
 
 -- ---- the next job
--- a job that isn't faulty sets date and switches, whatever it halts for then; a faulty job sets nothing and halts
+-- a job without a fault sets date and switches, even if it then halts; a faulty job sets nothing and halts
 abbrev pub started : ℕ → Result Job FaultyJob → World → World
 started number (Ok job) w = performed number job (data_of w.deck.cards job) (with_settings job w)
 started number (Err faulty) w = halting number FaultyStatements ((faulty.card, fault_number faulty.fault) ∷ []) w

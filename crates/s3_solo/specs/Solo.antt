@@ -1,4 +1,4 @@
--- The solo run: one level's entries alone, over its own world.
+-- The reference model: one level's entries alone, over its own world.
 use Rattle.std.specs.Prelude.{ℕ, List, [], ◌∷◌, Option, Some, None, Result, Ok, Err, if◌then◌else◌}
 use Rattle.s3_solo.specs.declared.action.Action.{Action}
 use Rattle.s3_solo.specs.declared.action.Action.TheVariants.{Turn, Drain}
@@ -14,22 +14,22 @@ use Rattle.s3_solo.specs.Serving.{Outcome, idle, acted, answered, pending, serve
 abbrev pub refused : ℕ → World → Outcome
 refused number w = record { did = Refused number; world = w }
 
--- the pending request of the job at work is served, or the next job begins
+-- the pending request of the running job is served, or the next job begins
 abbrev pub gone_on : Option JobAtWork → World → Outcome
 gone_on (Some job) w = served (pending job w) job w
 gone_on None w = begun w.deck.jobs w
 
--- but nothing happens while a halt waits
+-- a turn; nothing happens while a halt waits
 abbrev pub turned : World → Outcome
 turned w = if is_waiting w.halts then idle w else gone_on w.job w
 
--- the job at work, if there is one, goes on with the reply
+-- the running job, if there is one, continues with the reply
 abbrev pub resumed : (digit : ℕ) → Option JobAtWork → World → World
 resumed digit None w = w
 resumed digit (Some job) w = answered (Reply digit) job w
 
--- The halt that waits gets its reply, unless it is refused. Of a job that couldn't be started that passes the job over: the
--- next turn begins the next one. A job at work goes on with it.
+-- The waiting halt gets its reply, unless the reply is refused. If the job couldn't be started, the reply passes the job over, and the next
+-- turn begins the next job. A running job continues with the reply.
 abbrev pub reply_given : (digit : ℕ) → Result (Unit {0}) ReplyFault → World → Outcome
 reply_given digit (Err fault) w = refused (fault_number fault) w
 reply_given digit (Ok allowed) w = acted (resumed digit w.job (record w { halts = with_reply digit w.halts }))
@@ -47,11 +47,11 @@ step_of w Turn = turned w
 step_of w (action.Reply digit) = replied digit w
 step_of w Drain = drained w
 
--- the level's entries, one after the other
+-- the level's entries, in order
 abbrev pub solo : World → List Action → World
 solo w [] = w
 solo w (action ∷ actions) = solo (step_of w action).world actions
 
--- the job at work is ended without its pending request, a halt that waits keeps no reply, and all lines are drained
+-- the running job ends and its pending request isn't served; a waiting halt has no reply; all lines are drained
 abbrev pub closed : World → World
 closed w = record (job_ended w) { lines = all_drained w.lines }

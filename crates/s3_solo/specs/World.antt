@@ -1,5 +1,5 @@
--- The world of one level: its deck and the jobs left, library, switches and date, its files and the masters', the job at work
--- with its answers so far, printed lines, and halts. It knows no slot of a program, and nothing of the other level.
+-- The world of one level: its deck and the jobs left, library, switches and date, its files and the masters', the running job with its
+-- answers so far, printed lines, and halts. It has no slot of a program, and nothing of the other level.
 use Rattle.std.specs.Prelude.{ℕ, ◌+◌, ◌==◌, List, [], replicate, Option, None, Result, if◌then◌else◌}
 use Rattle.s3_cards.specs.declared.levels.LevelId.{LevelId}
 use Rattle.s3_cards.specs.declared.name.Name.{Name}
@@ -14,14 +14,14 @@ use Rattle.s3_ocl.specs.Streams.{jobs_from}
 use Rattle.s3_solo.specs.Lines.{Lines, no_lines}
 use Rattle.s3_operator.specs.Halts.{ShownHalt}
 
--- the cards of the deck, its jobs that are not begun, and the number of the next one. A job has its data by their places
--- among the cards, which never change.
+-- The cards of the deck, its jobs that haven't begun, and the number of the next job. A job has the places of its data cards in the deck;
+-- these never change.
 pub record JobsLeft : Type 0 where
   pub cards : List (List ℕ)
   pub jobs : List (Result Job FaultyJob)
   pub number : ℕ
 
--- the job at work: its number, its source, its data cards not yet read, its files, and what its requests were answered so far
+-- the running job: its number, its source, its unread data cards, its files, and the answers to its requests so far
 pub record JobAtWork : Type 0 where
   pub number : ℕ
   pub source : Source
@@ -36,13 +36,13 @@ pub record World : Type 0 where
   -- U1 to U8, U1 as the highest of eight bits, and six digits
   pub switches : ℕ
   pub date : List ℕ
-  -- its own files and those of the masters
+  -- the level's own files and those of the masters
   pub pack : Files
   pub job : Option JobAtWork
   pub lines : Lines
   pub halts : List ShownHalt
 
--- the world of a level with this deck over a pack, before its first entry: its files are those of the pack
+-- the world of a level with this deck over a pack, before its first entry; its files are those of the pack
 abbrev pub at_start : LevelId → Header → (contents : List (List ℕ)) → (deck : List (List ℕ)) → World
 at_start level header contents deck =
     record {

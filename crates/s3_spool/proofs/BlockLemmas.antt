@@ -60,7 +60,7 @@ take_padded text n padding same = ap (λ m. take m (text ++ padding)) same ∙ t
 pub drop_padded : (text : List ℕ) (n : ℕ) (padding : List ℕ) → n ≡ length text → drop n (text ++ padding) ≡ padding
 drop_padded text n padding same = ap (λ m. drop m (text ++ padding)) same ∙ drop-append_seam text padding
 
--- all positions of a block, and those behind its text made blank
+-- all positions of a block, with blanks after its text
 pub text_of_positions : (block positions blanked : List ℕ) (n : ℕ) → n ≤ 132 → length positions ≡ 132 → positions ≡ take 132 (drop 4 block)
     → blanked ≡ take n positions ++ replicate (length positions - n) BLANK → blanked ≡ part block 4 n ++ replicate (132 - n) BLANK
 text_of_positions block positions blanked n short whole are blanks =

@@ -41,7 +41,7 @@ unfolding sector_bytes
 read_sector_bytes contents n bytes there whole =
     ap (λ found. take 256 (unwrap_or found [] ++ replicate 256 0)) there ∙ ap (λ k. take k (bytes ++ replicate 256 0)) (sym whole) ∙ take-append_seam bytes (replicate 256 0)
 
--- ---- how often a block stands among some
+-- ---- how often a block occurs in a list
 pub times-same : (block other : ℕ) (blocks : List ℕ) → block ≡ other → times block (other ∷ blocks) ≡ 1 + times block blocks
 times-same block other blocks same = grind (arith, nat_tests)
 
@@ -101,7 +101,7 @@ pub is_any_free : (free one two : List ℕ) (most_one most_two : ℕ) → AreBlo
     → most_one + most_two ≤ 128 → length one + length two < most_one + most_two → 0 < length free
 is_any_free free one two most_one most_two are few_one few_two sum room = omega (arith, are.count)
 
--- a free block stands nowhere else
+-- a free block occurs nowhere else
 pub free_elsewhere : (free one two : List ℕ) (b : ℕ) → AreBlocks free one two → slice_get free 0 ≡ Some b → times b one + times b two ≡ 0
 free_elsewhere free one two b are first = omega (arith, are.each b (first_below free one two b are first), times-first b b free first, once b)
 
@@ -230,7 +230,7 @@ put_last own b bytes contents line elsewhere whole there reads =
     ∙ ap (λ lines. lines ++ lines_in (b ∷ []) (slice_set contents (block_sector b) bytes)) (kept_lines own b bytes contents elsewhere)
     ∙ ap (λ lines. lines_in own contents ++ lines) (written_line b bytes contents line whole there reads)
 
--- the first line is that of the first block
+-- the first line is the line of the first block
 pub first_line : (own : List ℕ) (b : ℕ) (contents : List (List ℕ)) → slice_get own 0 ≡ Some b
     → lines_in own contents ≡ line_of_block (sector_bytes contents (block_sector b)) ∷ lines_in (drop 1 own) contents
 unfolding lines_in

@@ -1,4 +1,4 @@
--- What calls on sectors leave: past an answer, and one behind the other.
+-- What calls on sectors leave unchanged: after an answer, and one after another.
 use Rattle.std.proofs.Common.{◌≡◌, ◌+◌, ℕ, List, refl, sym, ap, ◌∙◌, Result, Ok, Err, IsErrAnd, arith}
 use Rattle.std.specs.List.{Contains}
 use Rattle.s3_store.specs.Inner.Failures.{failed_transfers}

@@ -1,9 +1,9 @@
--- Runs of sectors: regions, extents, free room.
+-- Runs of sectors: regions, extents, free space.
 use Rattle.std.specs.Prelude.{ℕ, ◌+◌, List}
 use Rattle.std.specs.List.{range_with_len, flat_map}
 use Rattle.s3_store.specs.declared.stretch.Stretch.{Stretch}
 
--- the first sector behind it
+-- the first sector after a run
 abbrev pub end_of : Stretch → ℕ
 end_of stretch = stretch.start + stretch.sectors
 

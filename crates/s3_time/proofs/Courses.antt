@@ -10,7 +10,7 @@ use Rattle.s3_solo.specs.Solo.{closed, drained, replied, solo, turned}
 use Rattle.s3_time.specs.Inner.Moves.{AllAct, IsAtRest, accepted, emptied, moves, replies, unhindered, with_move}
 use Rattle.s3_time.proofs.Entries.{ActsOrIdle, Follows, closed_emptied, drain_same, reply_acts, reply_follows, reply_or_turn, turn_acts, turn_follows}
 
--- these moves lead from a world to another, but for how many lines are drained: each acts where no line is queued
+-- these moves lead from one world to another, apart from the number of drained lines: each acts while no line is queued
 Went : World → List Action → World → Type 0
 Went w [] v = emptied v ≡ emptied w
 Went w (Turn ∷ actions) v = ((turned (emptied w)).did ≡ Acted) × Went (turned (emptied w)).world actions v

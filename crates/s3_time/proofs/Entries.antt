@@ -23,7 +23,7 @@ use Rattle.s3_solo.specs.Serving.{Outcome, acted, answered, begun, card_answer, 
 use Rattle.s3_solo.specs.Solo.{closed, drained, gone_on, refused, replied, reply_given, resumed, turned}
 use Rattle.s3_time.specs.Inner.Moves.{emptied}
 
--- where an entry acts, it does so too where no line is queued, and leaves the same world but for how many lines are drained
+-- an entry that acts also acts while no line is queued, and leaves the same world apart from the number of drained lines
 abbrev pub Follows : (one other : Outcome) → Type 0
 Follows one other = one.did ≡ Acted → (other.did ≡ Acted) × (emptied other.world ≡ emptied one.world)
 

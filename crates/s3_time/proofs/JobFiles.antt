@@ -1,4 +1,4 @@
--- The files of a job: each line that it uses has one, and what is under its label stands from the job's start to its end.
+-- The files of a job: each line that the job uses has one, and its label keeps its file from the job's start to its end.
 use Rattle.std.proofs.Common.{◌≡◌, ℕ, zero, suc, ◌+◌, Bool, true, false, ◌||◌, true≢false, List, [], ◌∷◌, ◌++◌, if◌then◌else◌, refl, sym, ◌∙◌, ap, subst, arith}
 use Rattle.std.specs.Prelude.{Option, Some, None, Result, Ok, Err, cond, slice_get, slice_set}
 use Rattle.std.specs.List.{AllByRecursion as Each, list_any, position_from}
@@ -106,12 +106,12 @@ each_index : {X : Type 0} (P : X → Type 0) (xs : List X) → ((i : ℕ) (x : X
 each_index P [] go = tt
 each_index P (x ∷ xs) go = (go 0 x refl, each_index P xs (λ i y there. go (suc i) y there))
 
--- ---- labels that stand
+-- ---- valid labels
 record IsThere (name : Name) (slots : List Slot) : Type 0 where
   label : FileLabel
   stands : standing name slots ≡ Present label
 
--- where a slot bears a name, some label stands under it
+-- if a slot has a name, some label is found for it
 bearing_stands : (name : Name) (slots : List Slot) (i : ℕ) (label : FileLabel) → slice_get slots i ≡ Some (Sound label) → same_name label.name name ≡ true → IsThere name slots
 unfolding standing
 bearing_stands name slots i label there named =
@@ -165,7 +165,7 @@ made_stands format region masters new slots after is = by (list_any (bears new.n
     by false is = over (standing new.name slots) is
 
 -- ---- the files of a job
--- some label stands under that of a file
+-- some label is found for the name of a file
 pub record HasLabel (all : Files) (file : JobFile) : Type 0 where
   pub label : FileLabel
   pub stands : standing file.label (area_with file all).slots ≡ Present label
@@ -322,7 +322,7 @@ at_place in_use name at is = by (place_named name in_use.job_files) is
     by (Some place) is = found place (slice_get in_use.job_files place) refl is
 
 module _ (lines : List FileLine) (switches : ℕ) (in_use : FilesInUse) (are_open : AreOpen lines switches in_use) where
-  -- a file of the job changes, but for its names
+  -- a file of the job changes, apart from its names
   file_stays : (at : FileAtWork) (file : JobFile) → slice_get in_use.job_files at.place ≡ Some at.file → file.name ≡ at.file.name → file.label ≡ at.file.label → file.is_master ≡ at.file.is_master
       → AreOpen lines switches (with_job_file at.place file in_use)
   file_stays at file there name label master =

@@ -1,5 +1,5 @@
--- What every world keeps that a solo run comes to: the library has accepted sources alone, the files of the job at work are open, and
--- a line may be queued.
+-- The invariant of all worlds that the reference model reaches: the library has only accepted sources, the files of the running job are
+-- open, and at least one line may be queued.
 use Rattle.std.proofs.Common.{◌≡◌, ◌≤◌, ◌+◌, ◌++◌, ℕ, length-append, nat_lt, Bool, true, false, not, List, [], ◌∷◌, length, Option, Some, None, Result, Ok, Err, if◌then◌else◌, refl, sym, subst, ◌∙◌, arith}
 use Rattle.std.proofs.lemmas.Bool.{and_parts, leb-true, ltb-true}
 use Rattle.std.proofs.lemmas.Option.{none-some}
@@ -204,7 +204,7 @@ step_kept action.Turn w kept = turned_kept w kept
 step_kept (action.Reply digit) w kept = replied_kept digit w kept
 step_kept action.Drain w kept = drained_kept w kept
 
--- ---- a solo run
+-- ---- a run of the reference model
 pub record IsSound (w : World) : Type 0 where
   pub kept : IsKept w
   pub asked : IsAsked w

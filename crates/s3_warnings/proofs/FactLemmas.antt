@@ -28,7 +28,7 @@ use Rattle.s3_warnings.specs.Inner.Facts.{is_among, is_entry_of, is_set_by, is_t
 use Rattle.s3_warnings.specs.Inner.Shown.{facts_shown}
 use Rattle.s3_warnings.specs.Inner.Warnings.{warnings, warnings_by}
 
--- ---- indicators: a set has those of the first entries of a card, and then that of one entry more
+-- ---- indicators: a set has those of the first entries of a card, and then those of one entry more
 pub entry_more : {S : Type 0} (start old new : IndexSet ℕ S) (entries : Entries) (i : ℕ) (d : Option IndicatorEntry) → i < length entries
     → ((indicator : Indicator) → contains nat_eq new (indicator_number indicator) ≡ (is_entry_of indicator (get_or entries i d) || contains nat_eq old (indicator_number indicator)))
     → ((indicator : Indicator) → contains nat_eq old (indicator_number indicator) ≡ (is_among indicator (take i entries) || contains nat_eq start (indicator_number indicator)))

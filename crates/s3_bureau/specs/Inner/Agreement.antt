@@ -10,13 +10,13 @@ use Rattle.s3_bureau.specs.declared.entry.Entry.{Entry}
 use Rattle.s3_bureau.specs.Entries.{own}
 use Rattle.s3_bureau.specs.Inner.Held.{HoldsFor, State}
 
--- both hold some world for the level; nothing is said of the other level, of spool blocks, or of what stands in buffers
+-- Both bureaus represent the same world for the level. The other level, the spool blocks and the buffers may differ.
 pub record Agree (level : LevelId) (one two : State) : Type 0 where
   pub world : World
   pub by_one : HoldsFor level one world
   pub by_two : HoldsFor level two world
 
--- an entry was performed with this answer: what a step says of it
+-- a step performed this entry and gave this answer
 pub record Performed (entry : Entry) (did : Did) (old new : State) : Type 0 where
   pub own : Steps entry.action did (HoldsFor entry.level old) (HoldsFor entry.level new)
   pub other : (w : World) → HoldsFor (other entry.level) old w → HoldsFor (other entry.level) new w
@@ -28,21 +28,21 @@ ArePerformed (entry ∷ entries) (did ∷ answers) old new = (middle : State) ×
 ArePerformed [] (did ∷ answers) old new = ⊥
 ArePerformed (entry ∷ entries) [] old new = ⊥
 
--- the answer of an entry before those, where the entry names the level
+-- the answer of an entry, before the given answers, if the entry names the level
 abbrev pub with_answer : LevelId → LevelId → Did → List Did → List Did
 with_answer One One did answers = did ∷ answers
 with_answer Two Two did answers = did ∷ answers
 with_answer One Two did answers = answers
 with_answer Two One did answers = answers
 
--- what the entries that name a level were answered, in their order
+-- the answers of the entries that name a level, in order
 abbrev pub own_answers : LevelId → List Entry → List Did → List Did
 own_answers level [] answers = []
 own_answers level (entry ∷ entries) [] = []
 own_answers level (entry ∷ entries) (did ∷ answers) = with_answer level entry.level did (own_answers level entries answers)
 
--- Two bureaus that agree for a level agree for it afterwards, and its entries got the same answers, where its own entries were the same:
--- whatever the other level's were.
+-- If two bureaus agree for a level and the level has the same entries in both, the bureaus agree for it afterwards. The level's entries
+-- have the same answers. The other level's entries may differ.
 abbrev pub AgreesAfter : Type 0
 AgreesAfter =
     (level : LevelId) (one two new_one new_two : State) (entries others : List Entry) (answers other_answers : List Did)

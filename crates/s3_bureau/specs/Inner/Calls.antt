@@ -1,4 +1,4 @@
--- What calls on the parts of a bureau do, refused or not. These words serve the contracts of private functions alone.
+-- What calls on the parts of a bureau do, refused or not. Only contracts of private functions use these definitions.
 use Rattle.std.specs.Prelude.{◌≡◌, ◌≢◌, ◌+◌, ℕ, true, None, Result, Ok, Err, IfOk, IsOk, OnOk, ⊤}
 use Rattle.s3_cards.specs.Inner.Levels.{other}
 use Rattle.s3_cards.specs.declared.levels.LevelId.{LevelId}
@@ -24,8 +24,9 @@ use Rattle.s3_bureau.specs.declared.bureau.Phase.TheVariants.{Open, Finished, St
 use Rattle.s3_bureau.specs.Inner.Held.{HasNoWork, IsDone, IsReadyFor, State, header_of, is_open, level_of, rests}
 use Rattle.s3_bureau.specs.Sharing.{IsCommon, IsOwn}
 
--- ---- one level, and what is beside it
--- an entry was performed so many times, or it stopped: then it would have acted, and the drained lines are the same
+-- ---- one level with the rest of the bureau
+-- The level performed an action so many times, or it stopped. If it stopped, the action would have changed the level, and the drained lines
+-- are the same.
 abbrev pub ActsTo : Action → Result Taken SectorFault → (old new : Level) → (before after : Around) → Type 0
 ActsTo action (Ok taken) old new before after =
     IsReady new (seen after.areas after.state.contents) × Repeats action taken.times taken.did (Holds old before) (Holds new after)
@@ -41,7 +42,7 @@ pub record Acts (action : Action) (most : ℕ) (result : Result Taken SectorFaul
   pub failures : after.state.failures ≡ before.state.failures + failed_transfers result
   pub comes : ActsTo action result old new before after
 
--- a level was closed, or it stopped
+-- the level was closed, or it stopped
 abbrev pub ClosesTo : Result (Unit {0}) SectorFault → (old new : Level) → (before after : Around) → Type 0
 ClosesTo (Ok done) old new before after = IsReady new (seen after.areas after.state.contents) × Becomes closed (Holds old before) (Holds new after)
 ClosesTo (Err fault) old new before after = ⊤
@@ -55,8 +56,8 @@ pub record ClosesLevel (result : Result (Unit {0}) SectorFault) (old new : Level
   pub failures : after.state.failures ≡ before.state.failures + failed_transfers result
   pub comes : ClosesTo result old new before after
 
--- Where the labels of a level said its slots before, a mount of these sectors judges none of them entangled, and them as each world has
--- them that the level now holds.
+-- If the labels of a level gave its slots before, a mount of the new sectors finds no slot with an overlapping or duplicate label. It finds
+-- each slot as the level's worlds have it.
 abbrev pub MountsAs : LevelId → (before : Around) → (new : Level) → (after : Around) → Type 0
 MountsAs level before new after =
     SaysSlots level before.areas before.state.contents
@@ -65,7 +66,7 @@ MountsAs level before new after =
     → slots_of after.areas.header.format (region_of level after.areas.header) (area_of level) after.state.contents ≡ w.pack.own.slots)
 
 -- ---- both levels
--- both were closed and the store has what is beside them, or they stopped
+-- both levels were closed and the rest of the bureau is in the store, or they stopped
 abbrev pub BothTo : Result (Unit {0}) SectorFault → (one two new_one new_two : Level) → (before after : Around) → Type 0
 BothTo (Ok done) one two new_one new_two before after =
     (after.state.stored ≡ after.state.contents) × (Becomes closed (Holds one before) (Holds new_one after) × Becomes closed (Holds two before) (Holds new_two after))
@@ -83,7 +84,7 @@ pub record ClosesBoth (result : Result (Unit {0}) SectorFault) (one two new_one 
   pub comes : BothTo result one two new_one new_two before after
 
 -- ---- a bureau
--- an entry of a level was performed so many times, or the bureau stopped
+-- a level performed an entry so many times, or the bureau stopped
 abbrev pub EntersTo : LevelId → Action → Result Taken SectorFault → (old new : State) → Type 0
 EntersTo level action (Ok taken) old new =
     (new.phase ≡ Open) × Repeats action taken.times taken.did (Holds (level_of level old) old.beside) (Holds (level_of level new) new.beside)

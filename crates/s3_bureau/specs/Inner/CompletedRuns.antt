@@ -1,4 +1,4 @@
--- A run that was completed, with what it began with and what it left, for laws that set two of them side by side.
+-- A completed run: what it began with and what it left. Theorems compare two of them.
 use Rattle.std.specs.Prelude.{◌≡◌, ℕ, List, Ok}
 use Rattle.s3_cards.specs.declared.levels.LevelId.{LevelId}
 use Rattle.s3_cards.specs.declared.levels.LevelId.TheVariants.{One, Two}
@@ -16,7 +16,7 @@ use Rattle.s3_bureau.specs.Entries.{own}
 use Rattle.s3_bureau.specs.Runs.{Runs, RunTexts, Texts, cards_of, run_alone}
 use Rattle.s3_bureau.specs.Script.{entries_of}
 
--- what a run began with, and its outcome; where `run` answers Ok the pack was mounted and the script is well formed
+-- what a run began with, and its outcome; the pack was mounted and the script is well formed, since `run` gave Ok
 pub record CompletedRun : Type 0 where
   pub pack : List ℕ
   pub deck1 : List ℕ
@@ -50,14 +50,15 @@ contents_after run = contents_of run.outcome.pack.items
 abbrev pub world_at : LevelId → CompletedRun → World
 world_at level run = run_alone level run.header (contents_before run) (cards_of (deck_of (deck_at level run))) (own level run.entries)
 
--- what a mount finds in a level's own area of the pack that the run left: its slots, and under each label the records and whether the index is good
+-- what a mount finds in a level's area of the pack that the run left: the slots, and for each label the records and whether the index is
+-- good
 abbrev pub area_left : LevelId → CompletedRun → Area
 area_left level run = area_on run.header.format (region_of level run.header) (area_of level) (contents_after run)
 
--- the same in the area of the masters
+-- what a mount finds in the masters' area of the pack that the run left
 abbrev pub masters_left : CompletedRun → Area
 masters_left run = area_on run.header.format run.header.masters 0 (contents_after run)
 
--- the mount before the run judged no slot of the level damaged for an overlap or a repeated label alone
+-- the mount before the run found no slot of the level damaged only by an overlapping or duplicate label
 abbrev pub WasUntangled : LevelId → CompletedRun → Type 0
 WasUntangled level run = IsUntangled run.header.format (region_of level run.header) (area_of level) (contents_before run)

@@ -1,4 +1,4 @@
--- What a script's fault, a mount's refusal and a stop are to a run, and the number of a mount's.
+-- How a run reports an error of the script, a refused mount and a stop, and the numbers of refused mounts.
 use Rattle.std.specs.Prelude.{ℕ}
 use Rattle.s3_slots.specs.declared.header.MountFault.{MountFault}
 use Rattle.s3_slots.specs.declared.header.MountFault.TheVariants.{BadHeader, BadRegions, Short}
@@ -16,7 +16,7 @@ abbrev pub fault_of_script : ScriptFault → RunFault
 fault_of_script ScriptNoMemory = NoMemory
 fault_of_script (Line n) = Script n
 
--- what a mount's refusal is told as
+-- how a run reports a refused mount
 abbrev pub told_as : Refusal → RunFault
 told_as (BadPack fault) = Mount fault
 told_as (Sectors DeviceFault) = Device

@@ -1,4 +1,4 @@
--- What it is that a bureau holds a level's world, and what is true of a bureau whatever it holds.
+-- When a bureau represents a level's world, and its representation invariant.
 use Rattle.std.specs.Prelude.{◌≡◌, ◌⊎◌, ℕ, Bool, true, false, List, [], None}
 use Rattle.s3_cards.specs.declared.levels.LevelId.{LevelId}
 use Rattle.s3_cards.specs.declared.levels.LevelId.TheVariants.{One, Two}
@@ -16,7 +16,7 @@ use Rattle.s3_bureau.specs.declared.bureau.Phase.{Phase}
 use Rattle.s3_bureau.specs.declared.bureau.Phase.TheVariants.{Open, Finished, Stopped}
 use Rattle.s3_bureau.specs.Sharing.{IsOwn, IsCommon}
 
--- what a clause sees of a bureau: the pack and the queues, both levels, and how far it has come
+-- what a contract sees of a bureau: the pack and the queues, both levels, and whether it is open, finished or stopped
 pub record State : Type 0 where
   pub beside : Around
   pub one : Level
@@ -50,17 +50,17 @@ has_worlds Stopped = false
 abbrev pub is_open : State → Bool
 is_open bureau = takes_entries bureau.phase
 
--- The bureau holds this world for the level. One that was stopped holds none.
+-- The bureau represents this world for the level. A stopped bureau represents none.
 pub record HoldsFor (level : LevelId) (bureau : State) (w : World) : Type 0 where
   pub goes_on : has_worlds bureau.phase ≡ true
   pub world : Holds (level_of level bureau) bureau.beside w
 
--- the worlds that it holds, by level
+-- the worlds that a bureau represents, by level
 abbrev pub held_by : State → LevelId → World → Type 0
 held_by bureau level w = HoldsFor level bureau w
 
--- ---- whatever it holds
--- both levels can take entries, each in its place
+-- ---- the representation invariant
+-- both levels can take entries, each in its own part of the pack and the queues
 pub record IsReadyFor (one two : Level) (beside : Around) : Type 0 where
   pub one_is : one.id ≡ One
   pub two_is : two.id ≡ Two
@@ -68,26 +68,26 @@ pub record IsReadyFor (one two : Level) (beside : Around) : Type 0 where
   pub two_ready : IsReady two (seen beside.areas beside.state.contents)
   pub blocks : AreAll beside.blocks
 
--- a bureau that takes entries can
+-- a bureau that takes entries can perform them
 abbrev pub IsLaidOut : State → Type 0
 IsLaidOut bureau = is_open bureau ≡ true → IsReadyFor bureau.one bureau.two bureau.beside
 
--- no job is at work in the level
+-- no job runs in the level
 abbrev pub rests : LevelId → State → Type 0
 rests level bureau = (level_of level bureau).job ≡ None
 
--- nothing is left of a level's work: no job is at work, and no line is queued
+-- a level has no work left: no job runs and no line is queued
 abbrev pub IsDone : LevelId → Level → Around → Type 0
 IsDone level held beside = (held.job ≡ None) × (blocks_of level beside.blocks ≡ [])
 
 abbrev pub HasNoWork : LevelId → State → Type 0
 HasNoWork level bureau = IsDone level (level_of level bureau) bureau.beside
 
--- the labels of a level say its slots, each by itself
+-- the labels of a level give its slots, each by itself
 abbrev pub IsSaid : LevelId → State → Type 0
 IsSaid level bureau = SaysSlots level bureau.beside.areas bureau.beside.state.contents
 
--- a sector of the header, the masters or the other level, or one that nobody uses
+-- a sector of the header, of the masters or of the other level, or an unused one
 abbrev pub IsForeign : LevelId → Header → ℕ → Type 0
 IsForeign level header n = IsCommon header n ⊎ IsOwn (other level) header n
 

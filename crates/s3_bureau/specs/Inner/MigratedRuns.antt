@@ -1,4 +1,4 @@
--- A migrated pack keeps the records: what a run over the old pack leaves, beside what the same run over the migrated one does.
+-- A migrated pack keeps the records: a run over the old pack and the same run over the migrated one leave the same.
 use Rattle.std.specs.Prelude.{◌≡◌, ℕ, false, List, [], Ok}
 use Rattle.s3_cards.specs.declared.levels.LevelId.{LevelId}
 use Rattle.s3_slots.specs.Header.{mounted, region_of}
@@ -16,7 +16,7 @@ use Rattle.s3_solo.specs.Inner.Formats.{shows_no_space}
 use Rattle.s3_bureau.specs.Entries.{own}
 use Rattle.s3_bureau.specs.Inner.CompletedRuns.{CompletedRun, WasUntangled, area_left, contents_after, masters_left, world_at}
 
--- the later run is over the pack of the earlier one in the second format, with the same decks and the same script
+-- the later run has the pack of the earlier one in the second format, with the same decks and the same script
 pub record IsMigratedRun (earlier later : CompletedRun) : Type 0 where
   pub pack : migrated earlier.pack ≡ Ok later.pack
   pub deck1 : later.deck1 ≡ earlier.deck1
@@ -27,8 +27,8 @@ pub record IsMigratedRun (earlier later : CompletedRun) : Type 0 where
 abbrev pub HasSpace : LevelId → CompletedRun → Type 0
 HasSpace level run = shows_no_space (world_at level run).halts ≡ false
 
--- What both leave is the same: the masters; the own area of a level without an entry; and that of a level which had space and no entangled
--- slot. Of a level that had space it is the same under each label of its own files at the end, whatever was entangled.
+-- Both runs leave the same masters, the same area of a level without an entry, and the same area of a level that had space and no
+-- overlapping or duplicate label. If a level had space, each label of its own files at the end has the same records, in any case.
 pub record KeepsRecords (earlier later : CompletedRun) : Type 0 where
   pub masters : masters_left later ≡ masters_left earlier
   pub idle : (level : LevelId) → own level earlier.entries ≡ [] → area_left level later ≡ area_left level earlier
@@ -39,7 +39,7 @@ pub record KeepsRecords (earlier later : CompletedRun) : Type 0 where
 abbrev pub MigratedRunsKeepRecords : Type 0
 MigratedRunsKeepRecords = (earlier later : CompletedRun) → IsMigratedRun earlier later → KeepsRecords earlier later
 
--- a level of the migrated pack has no entangled slot where it had none on the old one
+-- if a level has no overlapping or duplicate label on the old pack, it has none on the migrated pack
 abbrev pub MigratedIsUntangled : Type 0
 MigratedIsUntangled =
     (old new : List ℕ) (header : Header) (level : LevelId) → mounted (contents_of old) ≡ Ok header → migrated old ≡ Ok new

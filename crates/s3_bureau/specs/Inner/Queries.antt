@@ -1,4 +1,4 @@
--- How many printed lines of a level are queued, and what it is to read a sector of the pack.
+-- How many printed lines a level has in its queue, and what reading a sector of the pack gives.
 use Rattle.std.specs.Prelude.{◌≡◌, ◌+◌, ℕ, ◌-◌, Bool, true, false, List, length, slice_get, Option, Some, None, Result, IfOk, OnOk, OnErr}
 use Rattle.s3_store.specs.Inner.Failures.{failed_transfers}
 use Rattle.s3_store.specs.Inner.State.{KeepsContents}
@@ -7,16 +7,16 @@ use Rattle.s3_solo.specs.Lines.{Lines}
 use Rattle.s3_bureau.specs.declared.bureau.Phase.TheVariants.{Stopped}
 use Rattle.s3_bureau.specs.Inner.Held.{State, is_open}
 
--- how many printed lines are queued
+-- the number of printed lines in the queue
 abbrev pub queued : Lines → ℕ
 queued lines = length lines.printed - lines.drained
 
--- the sector has these bytes, or there is none
+-- the sector has these bytes, or there is no such sector
 abbrev pub IsFound : Bool → Option (List ℕ) → List ℕ → Type 0
 IsFound true sector bytes = sector ≡ Some bytes
 IsFound false sector bytes = sector ≡ None
 
--- a sector was read, if there is one of this number, or the bureau stopped
+-- the sector of this number was read, if there is one, or the bureau stopped
 pub record Fetches (n : ℕ) (result : Result Bool SectorFault) (bytes : List ℕ) (old new : State) : Type 0 where
   pub was_open : is_open old ≡ true
   pub found : IfOk result (λ found. IsFound found (slice_get old.beside.state.contents n) bytes)

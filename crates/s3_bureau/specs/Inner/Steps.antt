@@ -1,4 +1,4 @@
--- What any list of steps makes of a bureau, in whatever order the entries of the two levels come.
+-- What any list of steps makes of a bureau, in any order of the two levels' entries.
 use Rattle.std.specs.Prelude.{◌≡◌, true, List, [], ◌∷◌}
 use Rattle.s3_cards.specs.Inner.Levels.{other}
 use Rattle.s3_cards.specs.declared.levels.LevelId.{LevelId}
@@ -13,8 +13,8 @@ use Rattle.s3_bureau.specs.Inner.Agreement.{Performed, own_answers}
 use Rattle.s3_bureau.specs.Inner.Held.{HoldsFor, IsForeign, State, header_of, is_open, level_of}
 use Rattle.s3_bureau.specs.Inner.Underway.{Leaves}
 
--- A step answered Ok with this: its level's worlds took the entry and those of the other level stay, and with them that level itself, the
--- header, and the sectors of the header, the masters and the other level.
+-- A step gave this answer: the worlds of its level took the entry. The worlds of the other level, the other level itself, the header, and
+-- the sectors of the header, the masters and the other level are unchanged.
 pub record Stepped (entry : Entry) (did : Did) (old new : State) : Type 0 where
   pub performed : Performed entry did old new
   pub no_other : (w : World) → HoldsFor (other entry.level) new w → HoldsFor (other entry.level) old w
@@ -23,24 +23,24 @@ pub record Stepped (entry : Entry) (did : Did) (old new : State) : Type 0 where
   pub header : header_of new ≡ header_of old
   pub goes_on : is_open new ≡ true
 
--- steps were made one after the other, each answered Ok, with these answers
+-- steps were made one after the other, and each succeeded with its answer
 abbrev pub AreStepped : List Entry → List Did → (old new : State) → Type 0
 AreStepped [] [] old new = new ≡ old
 AreStepped (entry ∷ entries) (did ∷ answers) old new = (middle : State) × (Stepped entry did old middle × AreStepped entries answers middle new)
 AreStepped [] (did ∷ answers) old new = ⊥
 AreStepped (entry ∷ entries) [] old new = ⊥
 
--- each world that was held for a level has taken that level's own entries, in their order, and these got the answers of the solo run
+-- each world that was represented for a level has taken that level's entries, in order, with the answers of the reference model
 pub record TakesOwn (level : LevelId) (entries : List Entry) (answers : List Did) (old new : State) : Type 0 where
   pub world : (w : World) → HoldsFor level old w → HoldsFor level new (solo w (own level entries))
   pub answered : (w : World) → HoldsFor level old w → own_answers level entries answers ≡ solo_answers w (own level entries)
 
--- the worlds that are held for a level are those of before
+-- the worlds that are represented for a level are those of before
 pub record KeepsWorlds (level : LevelId) (old new : State) : Type 0 where
   pub still : (w : World) → HoldsFor level old w → HoldsFor level new w
   pub none_new : (w : World) → HoldsFor level new w → HoldsFor level old w
 
--- what steps make of each level, and what they leave of all else
+-- what steps make of each level, and what they leave unchanged
 pub record StepsMake (entries : List Entry) (answers : List Did) (old new : State) : Type 0 where
   pub takes : (level : LevelId) → TakesOwn level entries answers old new
   pub keeps : (level : LevelId) → own level entries ≡ [] → KeepsWorlds level old new

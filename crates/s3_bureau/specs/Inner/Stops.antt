@@ -10,7 +10,7 @@ abbrev pub stop_of : SectorFault → Stop
 stop_of DeviceFault = Device
 stop_of NoMemoryFault = NoMemory
 
--- how many transfers an answer says to have failed
+-- the number of failed transfers by an answer
 abbrev pub failed_stop : {T : Type 0} → Result T Stop → ℕ
 failed_stop (Ok _) = 0
 failed_stop (Err NoMemory) = 0

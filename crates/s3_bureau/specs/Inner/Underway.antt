@@ -1,5 +1,5 @@
--- What is known in the middle of a run. These words serve the contracts of private functions and the law on lists of steps: what a run
--- gives is said in Runs.
+-- What is known in the middle of a run. Contracts of private functions and the theorem on lists of steps use these definitions. `Runs` has
+-- the results of a run.
 use Rattle.std.specs.Prelude.{◌≡◌, ◌+◌, ◌-◌, ◌/◌, ◌%◌, ◌<◌, ◌++◌, ℕ, List, [], ◌∷◌, Option, length, slice_index, take}
 use Rattle.std.specs.Int.{from_le_bytes, to_le_bytes, w16}
 use Rattle.s3_cards.specs.declared.levels.LevelId.{LevelId}
@@ -25,16 +25,16 @@ use Rattle.s3_bureau.specs.Runs.{HasFiles, Texts, RunTexts, cards_of, refusal_of
 use Rattle.s3_bureau.specs.Texts.{report_of, halt_text_of}
 use Rattle.s3_bureau.specs.declared.report.ReportTables.{ReportTables}
 
--- what is read of a deck: its cards, or why it was refused
+-- what reading a deck gives: its cards, or why it was refused
 pub record ReadsDeck (text : List ℕ) (cards : List (List ℕ)) (refusal : Option (ℕ × ℕ)) : Type 0 where
   pub read : cards ≡ cards_of (deck_of text)
   pub refused : refusal ≡ refusal_of (deck_of text)
 
--- each world that was held for a level has taken that level's own entries, in their order
+-- each world that was represented for a level has taken that level's entries, in order
 abbrev pub Performs : List Entry → (LevelId → World → Type 0) → (LevelId → World → Type 0) → Type 0
 Performs entries old new = (level : LevelId) (w : World) → old level w → new level (solo w (own level entries))
 
--- how many of so many entries are left to be performed behind some that did the same: none where those did nothing
+-- the number of entries left to perform after some that gave this answer: 0 if they did nothing
 abbrev pub left_by : Did → (times left : ℕ) → ℕ
 left_by Acted times left = left - times
 left_by Idle times left = 0
@@ -43,29 +43,29 @@ left_by (Refused number) times left = 0
 abbrev pub left_after : Taken → (left : ℕ) → ℕ
 left_after taken left = left_by taken.did taken.times left
 
--- what entries leave of a bureau, whether it stopped or not: the sectors of the header and the masters, and a level without an entry
--- with its sectors, in the store too
+-- What entries leave unchanged in a bureau, stopped or not: the sectors of the header and the masters. A level without an entry keeps its
+-- sectors, in the store too.
 pub record Leaves (entries : List Entry) (old new : State) : Type 0 where
   pub header : header_of new ≡ header_of old
   pub common : KeepsInStep (IsCommon (header_of old)) old.beside.state new.beside.state
   pub level : (level : LevelId) → own level entries ≡ [] → level_of level new ≡ level_of level old
   pub idle : (level : LevelId) → own level entries ≡ [] → KeepsInStep (IsOwn level (header_of old)) old.beside.state new.beside.state
 
--- what they leave of the sectors where the levels are closed behind them
+-- the sectors that entries leave unchanged if the levels are closed after them
 pub record LeavesSectors (entries : List Entry) (old new : State) : Type 0 where
   pub common : KeepsInStep (IsCommon (header_of old)) old.beside.state new.beside.state
   pub idle : (level : LevelId) → own level entries ≡ [] → rests level old → KeepsInStep (IsOwn level (header_of old)) old.beside.state new.beside.state
 
--- the files of each world that was held for a level stand so in these sectors, after that level's own entries and once it is closed
+-- the files of each world that was represented for a level are in these sectors, after that level's entries and its closing
 abbrev pub HaveFiles : List Entry → (held : LevelId → World → Type 0) → (contents : List (List ℕ)) → Type 0
 HaveFiles entries held contents = (level : LevelId) (w : World) → held level w → HasFiles contents (closed (solo w (own level entries)))
 
--- the labels of a level that said its slots still say them
+-- if the labels of a level gave its slots before, they still do
 abbrev pub KeepSaying : (old new : State) → Type 0
 KeepSaying old new = (level : LevelId) → IsSaid level old → IsSaid level new
 
--- Where the labels of a level said its slots, a mount of these sectors judges none of them entangled, and them as the worlds have them
--- that were held for it, after its own entries and once it is closed.
+-- If the labels of a level gave its slots, a mount of these sectors finds no overlapping or duplicate label of it. It finds the slots as
+-- the worlds of the level have them after its entries and its closing.
 abbrev pub HaveSlots : List Entry → State → (contents : List (List ℕ)) → Type 0
 HaveSlots entries old contents =
     (level : LevelId) → IsSaid level old
@@ -77,7 +77,7 @@ HaveSlots entries old contents =
 abbrev pub drained_texts : Option (ℕ × ℕ) → World → Texts
 drained_texts refusal w = record { report = report_of (drained_lines w.lines); halts = halt_text_of refusal w.halts }
 
--- these are the texts of each world that was held for a level, after that level's own entries and once it is closed
+-- these are the texts of each world that was represented for a level, after that level's entries and its closing
 pub record HasTexts (refusal1 refusal2 : Option (ℕ × ℕ)) (entries : List Entry) (held : LevelId → World → Type 0) (texts : RunTexts) : Type 0 where
   pub one : (w : World) → held One w → texts.one ≡ drained_texts refusal1 (closed (solo w (own One entries)))
   pub two : (w : World) → held Two w → texts.two ≡ drained_texts refusal2 (closed (solo w (own Two entries)))
@@ -86,11 +86,11 @@ pub record HasTexts (refusal1 refusal2 : Option (ℕ × ℕ)) (entries : List En
 abbrev pub ShowsCodes : List ℕ → Type 0
 ShowsCodes table = (code : ℕ) → code < 256 → slice_index table code ≡ shown_byte code
 
--- the row has the bytes that show each code with this byte behind it
+-- the row has the byte that shows each code, followed by this byte
 abbrev pub ShowsPairsWith : (second : ℕ) → List ℕ → Type 0
 ShowsPairsWith second row = (code : ℕ) → code < 256 → to_le_bytes w16 (slice_index row code) ≡ shown_byte code ∷ second ∷ []
 
--- the table has the bytes that show each two codes
+-- the table has the bytes that show each pair of codes
 abbrev pub ShowsPairs : List ℕ → Type 0
 ShowsPairs table =
     (first second : ℕ) → first < 256 → second < 256
@@ -104,14 +104,14 @@ HasTens table = (number : ℕ) → number < 100 → slice_index table number ≡
 abbrev pub HasOnes : List ℕ → Type 0
 HasOnes table = (number : ℕ) → number < 100 → slice_index table number ≡ 48 + number % 10
 
--- the tables that a report is made with have what they say
+-- the tables for a report have the bytes that they must have
 pub record AreTables (tables : ReportTables) : Type 0 where
   pub shown : ShowsPairs tables.shown.items
   pub all : length tables.shown.items ≡ 65536
   pub tens : HasTens tables.tens
   pub ones : HasOnes tables.ones
 
--- these bytes were laid out from one place of a room to another, and those in front stay
+-- these bytes were written from one place of a buffer to another, and the bytes before that place are unchanged
 pub record IsLaid (at end : ℕ) (old new : List ℕ) (bytes : List ℕ) : Type 0 where
   pub laid : take end new ≡ take at old ++ bytes
   pub ends : end ≡ at + length bytes

@@ -1,4 +1,4 @@
--- A run of which no report is written yet: its reports stand as printed lines.
+-- A run whose reports aren't written yet: they are printed lines.
 use Rattle.std.specs.Prelude.{◌≡◌, ℕ, List, Result, Ok, Err, ⊤}
 use Rattle.std.specs.List.{concat}
 use Rattle.s3_cards.specs.declared.levels.LevelId.{LevelId}
@@ -33,12 +33,12 @@ texts_on level = record { report = report_of level.lines.items; halts = level.ha
 abbrev pub lines_texts : RunLines → RunTexts
 lines_texts run = record { one = texts_on run.one; two = texts_on run.two }
 
--- these are the bytes of the sectors in its store
+-- these are the bytes of the sectors in the run's store
 pub record SavesAs (run : Unwritten) (saved : List ℕ) : Type 0 where
   pub sectors : sectors_of saved ≡ run.bureau.beside.state.stored
   pub whole : saved ≡ concat (sectors_of saved)
 
--- a run over a store in memory, of these sectors, gives these texts and leaves these sectors
+-- a run over a store in memory with the first sectors gives these texts and leaves the second sectors
 abbrev pub GivesOver : (contents : List (List ℕ)) → (deck1 deck2 : List ℕ) → List Entry → RunTexts → (left : List (List ℕ)) → Type 0
 GivesOver contents deck1 deck2 entries texts left =
     (texts_over (mounted contents) contents deck1 deck2 entries ≡ Ok texts)
@@ -51,7 +51,7 @@ UnwrittenOver contents deck1 deck2 entries (Err Device) = ⊥
 UnwrittenOver contents deck1 deck2 entries (Err (Script line)) = ⊥
 UnwrittenOver contents deck1 deck2 entries (Err (Mount fault)) = texts_over (mounted contents) contents deck1 deck2 entries ≡ Err (Mount fault)
 
--- The answer is what the run's pack, its decks and its script give, as `Runs` says of the texts themselves.
+-- The answer is what the pack, the decks and the script give, as `Runs` has it for texts.
 abbrev pub RunsUnwritten : (pack deck1 deck2 script : List ℕ) → Result Unwritten RunFault → Type 0
 RunsUnwritten pack deck1 deck2 script (Ok run) = (run_texts pack deck1 deck2 script ≡ Ok (unwritten_texts run)) × ((saved : List ℕ) → SavesAs run saved → LeavesPack pack deck1 deck2 script saved)
 RunsUnwritten pack deck1 deck2 script (Err NoMemory) = Unit {0}
@@ -59,7 +59,7 @@ RunsUnwritten pack deck1 deck2 script (Err Device) = ⊥
 RunsUnwritten pack deck1 deck2 script (Err (Script line)) = run_texts pack deck1 deck2 script ≡ Err (Script line)
 RunsUnwritten pack deck1 deck2 script (Err (Mount fault)) = run_texts pack deck1 deck2 script ≡ Err (Mount fault)
 
--- so it is said of a run whose reports stand as printed lines beside the pack
+-- the same statement for a run whose reports are printed lines, with its pack
 abbrev pub RunsLines : (pack deck1 deck2 script : List ℕ) → Result RunLines RunFault → Type 0
 RunsLines pack deck1 deck2 script (Ok run) = (run_texts pack deck1 deck2 script ≡ Ok (lines_texts run)) × LeavesPack pack deck1 deck2 script run.pack.items
 RunsLines pack deck1 deck2 script (Err NoMemory) = Unit {0}
@@ -67,7 +67,7 @@ RunsLines pack deck1 deck2 script (Err Device) = ⊥
 RunsLines pack deck1 deck2 script (Err (Script line)) = run_texts pack deck1 deck2 script ≡ Err (Script line)
 RunsLines pack deck1 deck2 script (Err (Mount fault)) = run_texts pack deck1 deck2 script ≡ Err (Mount fault)
 
--- and over a store in memory, of these sectors
+-- the same statement over a store in memory with these sectors
 abbrev pub LinesOver : (contents : List (List ℕ)) → (deck1 deck2 : List ℕ) → List Entry → Result RunLines RunFault → Type 0
 LinesOver contents deck1 deck2 entries (Ok run) = GivesOver contents deck1 deck2 entries (lines_texts run) (sectors_of run.pack.items) × (run.pack.items ≡ concat (sectors_of run.pack.items))
 LinesOver contents deck1 deck2 entries (Err NoMemory) = ⊤

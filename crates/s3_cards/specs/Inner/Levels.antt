@@ -1,4 +1,4 @@
--- The numbers of the two levels, and the other one of each.
+-- The numbers of the two levels, and the other level of each.
 use Rattle.std.specs.Prelude.{ℕ}
 use Rattle.s3_cards.specs.declared.levels.LevelId.{LevelId}
 use Rattle.s3_cards.specs.declared.levels.LevelId.TheVariants.{One, Two}
@@ -7,7 +7,7 @@ abbrev pub level_number : LevelId → ℕ
 level_number One = 1
 level_number Two = 2
 
--- the level that this one isn't
+-- the other level
 abbrev pub other : LevelId → LevelId
 other One = Two
 other Two = One

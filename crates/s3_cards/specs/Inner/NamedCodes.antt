@@ -1,8 +1,8 @@
--- The codes by name, and the characters that they are named for.
+-- The named codes, and the characters that give them their names.
 use Rattle.std.specs.Prelude.{ℕ, List, [], ◌∷◌, codes}
 use Rattle.s3_cards.specs.declared.ebcdic.TheConstants.{BLANK, PERIOD, LESS_THAN, LEFT_PARENTHESIS, PLUS, VERTICAL_BAR, AMPERSAND, EXCLAMATION_MARK, DOLLAR, ASTERISK, RIGHT_PARENTHESIS, SEMICOLON, MINUS, SLASH, COMMA, PERCENT, UNDERSCORE, GREATER_THAN, QUESTION_MARK, COLON, NUMBER_SIGN, AT_SIGN, APOSTROPHE, EQUALS, QUOTATION_MARK, LEFT_BRACE, LETTER_A, LETTER_B, LETTER_C, LETTER_D, LETTER_E, LETTER_F, LETTER_G, LETTER_H, LETTER_I, RIGHT_BRACE, LETTER_J, LETTER_K, LETTER_L, LETTER_M, LETTER_N, LETTER_O, LETTER_P, LETTER_Q, LETTER_R, LETTER_S, LETTER_T, LETTER_U, LETTER_V, LETTER_W, LETTER_X, LETTER_Y, LETTER_Z, DIGIT_0, DIGIT_1, DIGIT_2, DIGIT_3, DIGIT_4, DIGIT_5, DIGIT_6, DIGIT_7, DIGIT_8, DIGIT_9}
 
--- the named codes, in runs, each with the characters that its codes are named for
+-- the named codes in runs, each with the characters of its codes
 abbrev pub named_runs : List (List ℕ × List ℕ)
 named_runs =
     (BLANK ∷ [], codes " ")

@@ -16,12 +16,12 @@ abbrev pub mark_of : DecimalMark → ℕ
 mark_of Point = 46
 mark_of Comma = 44
 
--- point and comma in each other's place, where a comma is before the decimals
+-- point and comma exchanged, if a comma comes before the decimals
 abbrev pub swapped : DecimalMark → ℕ → ℕ
 swapped Point character = character
 swapped Comma character = if character == 46 then 44 else (if character == 44 then 46 else character)
 
--- the mark between thousands, where a point is before the decimals
+-- the mark between thousands, if a point comes before the decimals
 abbrev pub mark_in : Thousands → Option ℕ
 mark_in Nothing = None
 mark_in OtherMark = Some 44

@@ -19,7 +19,7 @@ abbrev pub is_point : ℕ → Bool
 is_point character = character == 46
 
 -- ---- writing
--- digits without the zeros in front, but for the last one
+-- digits without leading zeros; the last digit is kept
 unfoldable pub significant : List ℕ → List ℕ
 significant [] = []
 significant (digit ∷ []) = digit ∷ []
@@ -28,7 +28,7 @@ significant (digit ∷ next ∷ digits) = if digit == 0xf0 then significant (nex
 abbrev pub sign_text : Bool → List ℕ
 sign_text negative = if negative then 45 ∷ [] else []
 
--- a mark and the decimals behind it, if there are any
+-- a mark and then the decimals, if there are any
 abbrev pub decimals_with : (mark : ℕ) → List ℕ → List ℕ
 decimals_with mark [] = []
 decimals_with mark (digit ∷ digits) = mark ∷ map digit_character (digit ∷ digits)

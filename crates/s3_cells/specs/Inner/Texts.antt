@@ -18,6 +18,6 @@ unfoldable pub trimmed : List ℕ → List ℕ
 trimmed [] = []
 trimmed (x ∷ xs) = if (x == space) && (length (trimmed xs) == 0) then [] else x ∷ trimmed xs
 
--- the codes of a text in a field of so many bytes, with blanks behind them
+-- the codes of a text, filled up with blanks to the length of a field
 abbrev pub text_bytes : ℕ → List ℕ → List ℕ
 text_bytes width text = ebcdic text ++ replicate (width - length text) BLANK

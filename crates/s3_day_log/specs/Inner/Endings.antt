@@ -23,8 +23,8 @@ abbrev pub end_of : Option (HaltCode × ℕ) → JobEnd
 end_of None = Ended
 end_of (Some (code, digit)) = if is_at_start code then PassedOver else Replied
 
--- the jobs that were begun, behind a reply to the last one's halt: 0 goes on, each other digit ends the job, and at once where
--- it couldn't be started
+-- The begun jobs after a reply to the last one's halt. After 0 the job continues; any other digit ends it, at once if it couldn't be
+-- started.
 abbrev pub behind_reply : (code : HaltCode) → (digit : ℕ) → List BegunJob → List BegunJob
 behind_reply code digit jobs = if digit == 0 then jobs else on (slice_get jobs (length jobs - 1))
   where
@@ -79,7 +79,7 @@ same_bool false other = not other
 abbrev pub stands_still : (old_place place : ℕ) → (was_open is_open : Bool) → Bool
 stands_still old_place place was_open is_open = (old_place == place) && same_bool was_open is_open
 
--- whether each job is over after a look at a level that has come to a place; the last one is not, where it is at work or halted
+-- Whether each job is over, after a look at a level. The last job isn't over if it runs or is halted.
 abbrev pub overs_behind : (old_place place : ℕ) → (was_open is_open : Bool) → List JobEntry → List Bool → List Bool
 overs_behind old_place place was_open is_open jobs before =
     if stands_still old_place place was_open is_open then before

@@ -19,7 +19,7 @@ pub record Assembled : Type 0 where
   pub text : List ℕ
   pub places : List FileLine
 
--- what a text lacks whose last byte is this one: a line feed, where it has a last line without one
+-- what a text with this last byte lacks: a line feed, if its last line has none
 abbrev pub lacking : Option ℕ → List ℕ
 lacking None = []
 lacking (Some byte) = if byte == 10 then [] else 10 ∷ []

@@ -1,4 +1,4 @@
--- What one pass from the right writes at each place, where `rest` is what is left of the number from there on.
+-- The character that one pass from the right writes at each place; `rest` is the part of the number from that place on.
 use Rattle.std.specs.Prelude.{ℕ, ◌+◌, ◌-◌, ◌/◌, ◌%◌, ◌^◌, Bool, ◌&&◌, ◌==◌, nat_lt, if◌then◌else◌}
 use Rattle.s3_cards.specs.declared.ebcdic.TheConstants.{BLANK, SLASH}
 use Rattle.s3_decimal.specs.Records.{digit_at, zone_at, zoned_byte}

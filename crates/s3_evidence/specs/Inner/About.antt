@@ -30,7 +30,7 @@ use Rattle.s3_evidence.specs.declared.wanted.Wanted.TheVariants as wanted
 abbrev pub has_in_use : (is_master : Bool) → Name → JobFile → Bool
 has_in_use is_master name file = beq file.is_master is_master && same_name file.label name
 
--- the label is that of a file which the level's job has in use, as the pack has it
+-- the label is that of a file which the level's job uses, as the pack has it
 pub record IsInUse (level : LevelId) (bureau : State) (label : FileLabel) : Type 0 where
   pub is_master : Bool
   pub name : Name
@@ -49,7 +49,7 @@ abbrev pub area_by : (is_master : Bool) → LevelId → ℕ
 area_by true level = 0
 area_by false level = area_of level
 
--- an area is the level's own, or that of the masters
+-- an area is the level's own, or the masters'
 abbrev pub IsOwnArea : LevelId → ℕ → Type 0
 IsOwnArea level area = (is_master : Bool) × (area ≡ area_by is_master level)
 

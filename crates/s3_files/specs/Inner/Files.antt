@@ -8,8 +8,8 @@ use Rattle.s3_slots.specs.Labels.{sectors_of}
 use Rattle.s3_slots.specs.declared.label.FileLabel.{FileLabel}
 use Rattle.s3_files.specs.Records.{records_in}
 
--- where the records of a file are: the numbers of its sectors, in the order of its bytes; how long a record is; for how many
--- there is room, and how many there are
+-- Where the records of a file are: the numbers of its sectors, in the order of its bytes; the length of a record; the number of records
+-- that have space, and the number of records.
 pub record FileShape : Type 0 where
   pub sectors : List ℕ
   pub record_length : ℕ
@@ -20,15 +20,15 @@ pub record FileShape : Type 0 where
 abbrev pub records : FileShape → List (List ℕ) → List (List ℕ)
 records file contents = records_in file.record_length file.count (bytes_at file.sectors contents)
 
--- the bytes of the file are the same but for those of the record at i
+-- only the bytes of the record at i change
 abbrev pub ChangesRecord : FileShape → ℕ → List (List ℕ) → List (List ℕ) → Type 0
 ChangesRecord file i old new = SameOutside (i * file.record_length) file.record_length (bytes_at file.sectors old) (bytes_at file.sectors new)
 
--- a buffer after a read that was refused: the first bytes of the whole, as many as were read, and its own after them
+-- a buffer after a refused read: the first bytes of the whole, as many as were read, and then the buffer's own bytes
 abbrev pub IsReadInPart : (whole old new : List ℕ) → Type 0
 IsReadInPart whole old new = (count : ℕ) × (new ≡ take count whole ++ drop count old)
 
--- the sectors are there
+-- the sectors exist
 abbrev pub AreStored : List ℕ → List (List ℕ) → Type 0
 AreStored sectors contents = All (λ n. n < length contents) sectors
 
@@ -37,8 +37,7 @@ AreStored sectors contents = All (λ n. n < length contents) sectors
 abbrev pub file_of : FileLabel → FileShape
 file_of label = record { sectors = sectors_of label; record_length = label.record_length; capacity = label.capacity; count = label.count }
 
--- What a sound label says of its file: no sector is there twice, the records fit, and there are at most as many as there is room
--- for.
+-- The file of a valid label: no sector occurs twice, the records fit, and the count is at most the capacity.
 pub record HasRoom (label : FileLabel) : Type 0 where
   pub small : All (λ n. n < 65536) (sectors_in label.extents)
   pub distinct : IsDistinct nat_eq (sectors_in label.extents)

@@ -1,8 +1,8 @@
--- Extents and records of the worked rows.
+-- Extents and records of the worked examples.
 use Rattle.std.specs.Prelude.{ℕ, List, [], ◌∷◌, replicate}
 use Rattle.s3_store.specs.declared.stretch.Stretch.{Stretch}
 
--- three tracks and two tracks behind them, with two others' between
+-- three tracks, and two tracks after them, with two tracks of another file between
 abbrev pub two_pieces : List Stretch
 two_pieces = record { start = 456; sectors = 72 } ∷ record { start = 576; sectors = 48 } ∷ []
 

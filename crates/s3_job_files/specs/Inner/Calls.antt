@@ -6,7 +6,7 @@ use Rattle.s3_job_files.specs.declared.records.Put.{Put}
 use Rattle.s3_job_files.specs.declared.records.Put.TheVariants.{Done as PutDone, Refused as PutRefused}
 use Rattle.s3_job_files.specs.Requests.{answer_with}
 
--- a record, where one was found
+-- the record, if one was found
 abbrev pub found_record : (found : Bool) → List ℕ → Option (List ℕ)
 found_record found bytes = if found then Some bytes else None
 
@@ -17,12 +17,12 @@ abbrev pub put_answer : Put → Answer
 put_answer PutDone = Done
 put_answer (PutRefused code) = Refused code
 
--- it is done as is meant and leaves these records, or it is refused as is meant and leaves them as they were
+-- the put is done and leaves the meant records, or it is refused with the meant halt and the records are unchanged
 abbrev pub Puts : Result (List (List ℕ)) HaltCode → Put → (old new : List (List ℕ)) → Type 0
 Puts meant PutDone old new = meant ≡ Ok new
 Puts meant (PutRefused code) old new = (meant ≡ Err code) × (new ≡ old)
 
--- how many updates a file has had after one more was tried, as far as 32 bits count
+-- the number of updates of a file after one more was tried, up to what 32 bits count
 abbrev pub updates_after : Put → (before : ℕ) → ℕ
 updates_after PutDone before = min (before + 1) 4294967295
 updates_after (PutRefused _) before = before

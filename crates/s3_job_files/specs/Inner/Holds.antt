@@ -1,4 +1,4 @@
--- What it is that the files of a job hold files of a level, beside the pack, and what is true of them whatever they hold.
+-- When the open files of a job, with the pack, represent the files of a level; and their representation invariant.
 use Rattle.std.specs.Prelude.{◌≡◌, ◌≤◌, ℕ, Bool, true, false, not, ◌&&◌, List, [], ◌∷◌, length, map, slice_get, Option, Some, None}
 use Rattle.std.specs.List.{list_any}
 use Rattle.s3_cards.specs.declared.levels.LevelId.{LevelId}
@@ -57,7 +57,7 @@ pub record IsInOrder (label : FileLabel) (file : FileShape) : Type 0 where
   pub capacity : file.capacity ≡ label.capacity
   pub started : label.count ≤ file.count
 
--- the indexed file that a label describes, which counts the records that stood at its check
+-- the indexed file that a label describes; its count is the number of records when it was checked
 pub record IsByKey (label : FileLabel) (file : KeyedFile) (contents : List (List ℕ)) : Type 0 where
   pub indexed : is_indexed label.organization ≡ true
   pub sectors : file.sectors ≡ sectors_of label
@@ -74,18 +74,18 @@ pub record IsUsable (contents : List (List ℕ)) (label : FileLabel) (records : 
   pub on_pack : IsOfPack (length contents) label
   pub of_label : AreOf label contents records
 
--- ---- whatever they hold
+-- ---- the representation invariant
 abbrev pub slots_by : (is_master : Bool) → LevelId → Areas → List Slot
 slots_by true level areas = areas.masters
 slots_by false level areas = slots_at level areas
 
--- an open file stands under its label as it was opened; a master has no more records than then
+-- An open file has its label on the pack, as it was opened. A master has no more records than then.
 pub record Stands (level : LevelId) (seen : Seen) (file : OpenFile) : Type 0 where
   pub sound : standing file.label.name (slots_by file.is_master level seen.areas) ≡ Present file.label
   pub records : AreOf file.label seen.contents file.records
   pub master : file.is_master ≡ true → count_of file.records ≡ file.label.count
 
--- each of them stands, and no two have one label
+-- each file has its label on the pack, and no two have one label
 pub record AreOpen (level : LevelId) (open_files : List OpenFile) (seen : Seen) : Type 0 where
   pub stands : (i : ℕ) (file : OpenFile) → slice_get open_files i ≡ Some file → Stands level seen file
   pub distinct : (i j : ℕ) (first second : OpenFile) → slice_get open_files i ≡ Some first → slice_get open_files j ≡ Some second
@@ -96,7 +96,7 @@ pub record IsReady (level : LevelId) (open_files : List OpenFile) (seen : Seen) 
   pub pack : IsPackReady seen.areas seen.contents
   pub files : AreOpen level open_files seen
 
--- ---- what they hold
+-- ---- the abstraction relation
 abbrev pub job_file_of : OpenFile → JobFile
 job_file_of file =
     record { name = file.name; label = file.label.name; is_master = file.is_master; is_made = file.is_made; read = file.read; chained = file.chained }
@@ -105,7 +105,7 @@ job_file_of file =
 abbrev pub is_open : Name → List OpenFile → Bool
 is_open name files = list_any (λ file. not file.is_master && same_name file.label.name name) files
 
--- what isn't open is kept as the sectors have it under its label
+-- each file that isn't open has the records that the sectors have for its label
 abbrev pub KeepsAll : List (List ℕ) → List OpenFile → Area → Type 0
 KeepsAll contents files area =
     (label : FileLabel) → standing label.name area.slots ≡ Present label → is_open label.name files ≡ false → area.kept label.name ≡ kept_on label contents
@@ -114,7 +114,7 @@ pub record HoldsArea (region : Stretch) (slots : List Slot) (area : Area) : Type
   pub region_of_area : area.region ≡ region
   pub slots_of_area : area.slots ≡ slots
 
--- what is kept of an open file
+-- what is represented for an open file
 pub record HoldsRecords (contents : List (List ℕ)) (file : OpenFile) (kept : Kept) : Type 0 where
   pub records : kept.records ≡ records_of file.records contents
   pub good : kept.has_good_index ≡ true
@@ -124,43 +124,43 @@ pub record HoldsFiles (level : LevelId) (open_files : List OpenFile) (seen : See
   pub own : HoldsArea (region_of level seen.areas.header) (slots_at level seen.areas) files.own
   pub masters : HoldsArea seen.areas.header.masters seen.areas.masters files.masters
   pub own_files : KeepsAll seen.contents open_files files.own
-  -- no request changes the masters, so those that are open are kept too
+  -- no request changes the masters, so the open ones are represented by the sectors too
   pub master_files : KeepsAll seen.contents [] files.masters
   pub records : (i : ℕ) (file : OpenFile) → slice_get open_files i ≡ Some file
       → HoldsRecords seen.contents file ((area_by file.is_master files).kept file.label.name)
 
--- the files of a level, with those that its job has in use
+-- the files of a level, and those that its job uses
 pub record Holds (level : LevelId) (open_files : List OpenFile) (seen : Seen) (in_use : FilesInUse) : Type 0 where
   pub files : HoldsFiles level open_files seen in_use.files
   pub job_files : in_use.job_files ≡ map job_file_of open_files
 
 -- ---- what requests do
--- a request has this answer, and these files are held afterwards
+-- a request has this answer, and these files are represented afterwards
 abbrev pub Meets : Answer → (FilesInUse → Type 0) → Option Served → Type 0
 Meets answer new None = ⊥
 Meets answer new (Some served) = (answer ≡ served.answer) × new served.in_use
 
--- whatever files were held, the request to the file at this place is served with this answer
+-- for all represented files, the request to the file at this place is served with this answer
 abbrev pub Serves : (FileAtWork → FilesInUse → Served) → (place : ℕ) → Answer → (old new : FilesInUse → Type 0) → Type 0
 Serves serve place answer old new = (in_use : FilesInUse) → old in_use → Meets answer new (served_on serve (file_at in_use (Some place)) in_use)
 
--- A file is closed: it isn't open any more, and whatever was held with it is held without it, closed.
+-- A file is closed: it isn't open any more, and the represented files are then the same without it, closed.
 pub record Closes (level : LevelId) (file : OpenFile) (old new : Seen) : Type 0 where
   pub ready : (rest : List OpenFile) → IsReady level (file ∷ rest) old → IsReady level rest new
   pub files : (rest : List OpenFile) (files : Files) → IsReady level (file ∷ rest) old → HoldsFiles level (file ∷ rest) old files
       → HoldsFiles level rest new (file_closed (job_file_of file) files)
 
--- the file at this place is so
+-- the file at this place meets this predicate
 abbrev pub AllAt : List OpenFile → (place : ℕ) → (OpenFile → Type 0) → Type 0
 AllAt open_files place P = (file : OpenFile) → slice_get open_files place ≡ Some file → P file
 
--- a record of these bytes may be put into it: it is the level's own, and its records are so long
+-- a record of these bytes may be put into the file: the file is the level's own, and its records have this length
 pub record TakesRecord (bytes : List ℕ) (file : OpenFile) : Type 0 where
   pub own : file.is_master ≡ false
   pub long : length bytes ≡ file.label.record_length
 
 -- ---- what no request changes
--- of an open file: its name, its label as it was opened, and whose it is
+-- the parts of an open file that never change: its name, its label as it was opened, and whether it is a master
 pub record OpenedAs : Type 0 where
   pub name : Name
   pub label : FileLabel
@@ -169,8 +169,8 @@ pub record OpenedAs : Type 0 where
 abbrev pub opened_as : OpenFile → OpenedAs
 opened_as file = record { name = file.name; label = file.label; is_master = file.is_master }
 
--- ---- what is out of reach of a level
--- a sector neither of the labels of a level nor of its region
+-- ---- what a level can't reach
+-- a sector that is neither of the labels nor of the region of a level
 pub record IsOutOfReach (level : LevelId) (header : Header) (n : ℕ) : Type 0 where
   pub labels : IsLabelSector (area_of level) n → ⊥
   pub region : IsIn (region_of level header) n → ⊥

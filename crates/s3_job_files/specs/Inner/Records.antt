@@ -1,7 +1,7 @@
--- The codes of a record that an update puts: a code at each position, or none where the position stays as it was.
+-- The codes that an update puts into a record: a code for each position that changes.
 use Rattle.std.specs.Prelude.{ℕ, Bool, map, zip, List, Option, Some, None, if◌then◌else◌}
 
--- the codes of a record, where they are put
+-- the code of a position, if it is put
 abbrev pub change_of : ℕ × Bool → Option ℕ
 change_of (code, put) = if put then Some code else None
 

@@ -1,4 +1,4 @@
--- Files of the worked rows: records of 10 bytes, with a key of 1 byte at their start where the file is indexed.
+-- Files of the worked examples: records of 10 bytes; if the file is indexed, the first byte is the key.
 use Rattle.std.specs.Prelude.{ℕ, Bool, true, false, List, [], ◌∷◌, ◌++◌, replicate, Option, Some, None}
 use Rattle.s3_cards.specs.declared.name.Name.{Name}
 use Rattle.s3_cards.specs.Names.{same_name}
@@ -19,7 +19,7 @@ use Rattle.s3_job_files.specs.Requests.{Served, served}
 use Rattle.s3_job_files.specs.Closing.{files_closed}
 
 -- ---- one file
--- an indexed file of B and A with room for so many
+-- an indexed file of B and A, with space for so many records
 abbrev pub two_keys : (capacity : ℕ) → FileLabel
 two_keys capacity = record {
   name = named 0xc9;
@@ -34,7 +34,7 @@ two_keys capacity = record {
   date = june;
 }
 
--- with C, which the job added
+-- the same records and C, which the job added
 abbrev pub b_a_and_c : List (List ℕ)
 b_a_and_c = b_and_a ++ letter 0xc3 ∷ []
 
@@ -47,7 +47,7 @@ abbrev pub other_key : List (Option ℕ)
 other_key = Some 0xe9 ∷ replicate 9 None
 
 -- ---- the files of a level and its job
--- a file in order that has had no record so far
+-- a sequential file that has had no record
 abbrev pub empty_label : Name → Retention → FileLabel
 empty_label name retention = record {
   name = name;
@@ -62,7 +62,7 @@ empty_label name retention = record {
   date = june;
 }
 
--- the level has I, of B and A, and two files that its job made: T and the scratch file S; the masters have M, of B and A too
+-- The level has I, with B and A, and two files that its job made: T and the scratch file S. The masters have M, with B and A too.
 abbrev pub level_files : Files
 level_files = record {
   format = ten.format;
@@ -92,7 +92,7 @@ in_use = record {
   job_files = job_file 0xc9 false false ∷ job_file 0xe3 false true ∷ job_file 0xe2 false true ∷ job_file 0xd4 true false ∷ [];
 }
 
--- ---- what requests make of them
+-- ---- what requests make of the files
 abbrev pub files_after : FilesInUse → Option Served → FilesInUse
 files_after was None = was
 files_after was (Some served) = served.in_use
@@ -106,11 +106,11 @@ abbrev pub answer_in : Option Served → Option Answer
 answer_in None = None
 answer_in (Some served) = Some served.answer
 
--- what a request is answered behind these
+-- the answer to a request after these requests
 abbrev pub answer_behind : List Request → Request → Option Answer
 answer_behind requests request = answer_in (served request (after requests in_use))
 
--- the own slots after these requests and the end of the job
+-- the level's slots after these requests and the end of the job
 abbrev pub slots_at_end : List Request → List Slot
 slots_at_end requests = (files_closed (after requests in_use).job_files (after requests in_use).files).own.slots
 

@@ -1,4 +1,4 @@
--- What a sound label says of the index of its file, and the keys of the first so many records.
+-- The index in the file of a valid label, and the keys of the first so many records.
 use Rattle.std.specs.Prelude.{ℕ, ◌+◌, ◌≤◌, List, length}
 use Rattle.s3_store.specs.Stretches.{sectors_in}
 use Rattle.s3_slots.specs.Slots.{record_sectors, index_sectors}
@@ -6,7 +6,7 @@ use Rattle.s3_slots.specs.declared.label.FileLabel.{FileLabel}
 use Rattle.s3_files.specs.Records.{records_in}
 use Rattle.s3_keyed.specs.Index.{keys_of, Layout}
 
--- What a sound label of an indexed file says of it: its key lies in its records, and its index behind them fits.
+-- The file of a valid label with an index: its key is in its records, and the index fits after them.
 pub record HasIndex (label : FileLabel) : Type 0 where
   pub some_key : 1 ≤ label.key_length
   pub short_key : label.key_length ≤ 29

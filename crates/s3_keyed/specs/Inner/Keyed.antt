@@ -1,4 +1,4 @@
--- What a contract sees of a file with keys that is open, and what stays true of it.
+-- An open file with keys as a contract sees it, and its invariant.
 use Rattle.std.specs.Prelude.{◌≡◌, ◌+◌, ◌^◌, ◌<◌, ◌≤◌, ℕ, true, List, [], length, take}
 use Rattle.std.specs.List.{All}
 use Rattle.s3_store.specs.Bytes.{bytes_at}
@@ -10,8 +10,8 @@ use Rattle.s3_keyed.specs.Inner.Added.{entries_of}
 use Rattle.s3_keyed.specs.Inner.Shape.{layout_in}
 use Rattle.s3_keyed.specs.declared.keyed.Keyed.{Keyed}
 
--- its sectors and their layout; how many records stood at its check, how many have their entry on the pack, how many there are;
--- and the entries of the others, in memory
+-- Its sectors and their layout. The number of records at its check, the number with their entry on the pack, and the number of all
+-- records. The entries of the others, in memory.
 pub record KeyedFile : Type 0 where
   pub sectors : List ℕ
   pub layout : Layout
@@ -30,22 +30,22 @@ shown keyed = record {
   added = entries_of keyed.added;
 }
 
--- as it is opened: every record has its entry on the pack
+-- the file when it is opened: every record has its entry on the pack
 abbrev pub opened_of : (sectors : List ℕ) → Layout → (count : ℕ) → KeyedFile
 opened_of sectors layout count = record { sectors = sectors; layout = layout; started = count; indexed = count; count = count; added = [] }
 
 abbrev pub bytes_now : KeyedFile → List (List ℕ) → List ℕ
 bytes_now keyed contents = bytes_at keyed.sectors contents
 
--- its records, and their keys, in file order
+-- the records of the file, and their keys, in file order
 abbrev pub records_now : KeyedFile → List (List ℕ) → List (List ℕ)
 records_now keyed contents = records_in keyed.layout.record_length keyed.count (bytes_now keyed contents)
 
 abbrev pub keys_now : KeyedFile → List (List ℕ) → List ℕ
 keys_now keyed contents = keys_of keyed.layout.key (records_now keyed contents)
 
--- The entries on the pack and the added ones are together the key order of the records, in which no key is twice; those on the
--- pack are the key order of the records that have theirs there, also as the file was checked.
+-- The entries on the pack and the added ones are together the key order of the records, in which no key is twice. The entries on the pack
+-- are the key order of the records that have theirs there; also those at the check were.
 pub record IsOrdered (start stop limit : ℕ) (at_start on_pack in_memory : List Entry) (keys : List ℕ) : Type 0 where
   pub begun : start ≤ stop
   pub counted : stop + length in_memory ≡ length keys
@@ -62,7 +62,7 @@ HasKeyOrder keyed contents =
     IsOrdered keyed.started keyed.indexed (256 ^ keyed.layout.key.length)
     (index_in keyed.layout keyed.started (bytes_now keyed contents)) (index_in keyed.layout keyed.indexed (bytes_now keyed contents)) keyed.added (keys_now keyed contents)
 
--- it is the same file, as it was checked
+-- the same file, as it was checked
 pub record IsSameFile (old new : KeyedFile) : Type 0 where
   pub sectors : new.sectors ≡ old.sectors
   pub layout : new.layout ≡ old.layout

@@ -1,4 +1,4 @@
--- What the definitions see of an indexed file and of an entry in memory.
+-- An indexed file, and an entry in memory, in the terms of the definitions.
 use Rattle.std.specs.Prelude.{◌≡◌, ◌≤◌, ℕ, ◌+◌, ◌-◌, ◌*◌, List, Some, length, slice_get}
 use Rattle.s3_store.specs.Bytes.{bytes_at, part}
 use Rattle.s3_slots.specs.Slots.{record_sectors}
@@ -15,7 +15,7 @@ layout_in f = record {
   key = record { length = f.key_length; start = f.key_start };
 }
 
--- the bytes of the file, over these sectors
+-- the bytes of the file, from these sectors
 abbrev pub bytes_in : IndexedFile → List (List ℕ) → List ℕ
 bytes_in f contents = bytes_at f.file.sectors contents
 
@@ -30,11 +30,11 @@ keys_on f contents = keys_at (layout_in f) f.file.count (bytes_in f contents)
 abbrev pub entry_of : IndexEntry → Entry
 entry_of e = record { key = number_of e.key.bytes; number = e.number }
 
--- entry j of a sector of an index, whose keys have so many bytes
+-- entry j of an index's sector, for keys of so many bytes
 abbrev pub entry_here : (key_length : ℕ) → List ℕ → ℕ → Entry
 entry_here key_length sector j = entry_in key_length (part sector (j * (key_length + 4)) (key_length + 4))
 
--- an entry has the number of one of the records with these keys, and that one's key
+-- an entry has the number of one of the records with these keys, and that record's key
 pub record IsOfRecord (keys : List ℕ) (e : Entry) : Type 0 where
   pub some : 1 ≤ e.number
   pub within : e.number ≤ length keys

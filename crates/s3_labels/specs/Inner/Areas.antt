@@ -1,4 +1,4 @@
--- The header and slots of a mounted pack, when it can be used, what calls on it change, and how they are refused.
+-- The header and slots of a mounted pack: when the pack can be used, what calls change, and how calls are refused.
 use Rattle.std.specs.Prelude.{◌≡◌, ◌<◌, ◌≤◌, ◌⊎◌, ℕ, zero, suc, true, List, ◌++◌, length, slice_get, take, drop, replicate, Some, Result, Ok, Err, ⊤}
 use Rattle.std.specs.List.{Contains}
 use Rattle.byteorder.specs.Endian.{big_bytes}
@@ -28,7 +28,7 @@ use Rattle.s3_labels.specs.declared.fault.Refusal.{Refusal}
 use Rattle.s3_labels.specs.declared.fault.Refusal.TheVariants.{BadPack, Sectors}
 use Rattle.s3_labels.specs.Areas.{IsLabelSector}
 
--- the slots as judged at the mount and changed since; with the sectors it is all that a contract sees of a pack
+-- The slots as the mount validated them, with later changes. With the sectors, this is all that a contract sees of a pack.
 pub record Areas : Type 0 where
   pub header : Header
   pub masters : List Slot
@@ -45,7 +45,7 @@ slots_in zero areas = areas.masters
 slots_in (suc zero) areas = areas.level_one
 slots_in (suc (suc n)) areas = areas.level_two
 
--- the areas of a pack with this header, as a mount judges them
+-- the areas of a pack with this header, as a mount validates them
 abbrev pub areas_on : Header → List (List ℕ) → Areas
 areas_on header contents =
     record {
@@ -62,8 +62,8 @@ with_slots Two slots areas = record areas { level_two = slots }
 abbrev pub region_at : LevelId → Areas → Stretch
 region_at level areas = region_of level areas.header
 
--- ---- when a pack can be used
--- its header is one that a mount of so many sectors accepts, and the files of each area stay apart
+-- ---- the representation invariant
+-- a mount of so many sectors accepts the header, and no two files of an area have a sector or a name in common
 pub record IsReady (areas : Areas) (contents : List (List ℕ)) : Type 0 where
   pub header : accepted (length contents) (Some areas.header) ≡ Ok areas.header
   pub few : length contents ≤ 65535
@@ -89,17 +89,17 @@ pub record IsOfDirect (slots : List Slot) (name : Name) (n : ℕ) : Type 0 where
   pub named : label.name ≡ name
   pub has : IsRecordOfDirect label n
 
--- a sector that a make changes: of the labels of its area, or, made so, of the direct file of that label
+-- a sector that a make changes: one of its area's labels, or, if a direct file was made, one of that file
 abbrev pub IsOfMake : ℕ → Name → Result (List Slot) LabelFault → ℕ → Type 0
 IsOfMake area name (Ok slots) n = IsLabelSector area n ⊎ IsOfDirect slots name n
 IsOfMake area name (Err fault) n = IsLabelSector area n
 
--- each byte of these sectors is this one
+-- each byte of these sectors has this value
 abbrev pub AreFilled : ℕ → List ℕ → List (List ℕ) → Type 0
 AreFilled byte sectors contents = (n : ℕ) → Contains sectors n → slice_get contents n ≡ Some (replicate 256 byte)
 
 -- ---- refusals
--- a mount is refused by the header alone, or by its sectors
+-- a mount is refused only for the header, or by the sectors
 abbrev pub IsRefusal : Result Header MountFault → Refusal → Type 0
 IsRefusal header (BadPack fault) = header ≡ Err fault
 IsRefusal header (Sectors fault) = ⊤
@@ -113,7 +113,7 @@ abbrev pub failed_mount : {T : Type 0} → Result T Refusal → ℕ
 failed_mount (Ok _) = 0
 failed_mount (Err refusal) = failed_by refusal
 
--- a change is refused by the slots alone, or by its sectors
+-- a change is refused only for the slots, or by the sectors
 abbrev pub IsChangeRefusal : Result (List Slot) LabelFault → ChangeFault → Type 0
 IsChangeRefusal slots (Label fault) = slots ≡ Err fault
 IsChangeRefusal slots (ChangedSectors fault) = ⊤
@@ -128,17 +128,17 @@ failed_change (Err (Label fault)) = 0
 failed_change (Err (ChangedSectors Device)) = 1
 failed_change (Err (ChangedSectors NoMemory)) = 0
 
--- a list of files is refused at the first that can't be made
+-- a list of files is refused at the first file that can't be made
 abbrev pub IsPlanRefusal : Result (List Slot) (ℕ × LabelFault) → PlanFault → Type 0
 IsPlanRefusal slots (File place fault) = slots ≡ Err (place, fault)
 IsPlanRefusal slots NoMemoryToPlan = ⊤
 
--- the file that stands under a label, if one does, may have so many records
+-- the file of a label, if there is one, has space for so many records
 abbrev pub MayHave : ℕ → Standing → Type 0
 MayHave count (Present label) = is_count_of label.organization label.capacity count ≡ true
 MayHave count Absent = ⊤
 MayHave count Blocked = ⊤
 
--- the 64 bytes of a slot with another count
+-- the 64 bytes of a slot, with another count
 abbrev pub with_count_bytes : ℕ → List ℕ → List ℕ
 with_count_bytes count bytes = (take 24 bytes ++ big_bytes 4 count) ++ drop 28 bytes

@@ -1,4 +1,4 @@
--- New packs, and the packs of the second format that those of the first become.
+-- New packs, and migration from the first format to the second.
 use Rattle.std.specs.Prelude.{◌≡◌, ℕ, ◌+◌, ◌-◌, ◌*◌, ◌/◌, ◌%◌, ◌==◌, Bool, not, ◌&&◌, ◌||◌, ◌++◌, codes, nat_le, nat_lt, List, [], ◌∷◌, map, length, slice_index, replicate, Option, Some, None, Result, Ok, Err, ⊤, if◌then◌else◌}
 use Rattle.std.specs.List.{range_with_len, flat_map}
 use Rattle.byteorder.specs.Endian.{big_bytes}
@@ -35,11 +35,11 @@ regions_of masters level_one level_two quota_one quota_two =
       quota_two = quota_two;
     }
 
--- the same where the masters' region is as large as the level 1 of a pack with this header
+-- the same regions, with the masters' region as large as level 1's in this header
 abbrev pub regions_from : Header → (level_one level_two quota_one quota_two : ℕ) → Header
 regions_from old level_one level_two quota_one quota_two = regions_of (old.level_one.sectors / 24) level_one level_two quota_one quota_two
 
--- the regions and quotas, if there is room for so many tracks
+-- the regions and quotas, if the pack has space for so many tracks
 abbrev pub new_header : (masters level_one level_two quota_one quota_two : ℕ) → Result Header ImageFault
 new_header masters level_one level_two quota_one quota_two =
     if not (are_quotas quota_one quota_two) then Err BadQuota
@@ -54,11 +54,11 @@ header_bytes header =
     codes "S3PACK02" ++ big_bytes 2 header.total ++ region_bytes header.masters ++ region_bytes header.level_one ++ region_bytes header.level_two
     ++ (header.quota_one ∷ header.quota_two ∷ [])
 
--- with zeros behind, up to so many bytes
+-- bytes, filled up with zeros to this length
 unfoldable pub padded : ℕ → List ℕ → List ℕ
 padded width bytes = bytes ++ replicate (width - length bytes) 0
 
--- what a pack takes over as its masters: the bytes of their labels, slot after slot, and those of their region
+-- the masters of a new pack: the bytes of their labels, slot after slot, and the bytes of their region
 pub record Masters : Type 0 where
   pub labels : List ℕ
   pub region : List ℕ
@@ -71,26 +71,26 @@ unfoldable pub image_of : Header → Masters → List ℕ
 image_of header masters =
     padded (256 * header.total) (padded (256 * first_region) (padded 256 (header_bytes header) ++ masters.labels) ++ masters.region)
 
--- an extent as far into the masters' region as it was in the old one
+-- an extent at the same distance from the start of the masters' region as it had in the old region
 abbrev pub moved : Stretch → Stretch → Stretch
 moved region extent = record extent { start = extent.start - region.start + first_region }
 
 abbrev pub moved_label : Stretch → FileLabel → FileLabel
 moved_label region label = record label { extents = map (moved region) label.extents }
 
--- the label that a sound file has among the masters
+-- the label of a valid file as a master
 abbrev pub master_bytes : Stretch → Slot → List ℕ
 master_bytes region (Sound label) = label_bytes (moved_label region label)
 master_bytes region Free = []
 master_bytes region (Damaged name) = []
 
--- the slot that it has there
+-- the slot of a valid file as a master
 abbrev pub master_slot : Stretch → Slot → List Slot
 master_slot region (Sound label) = Sound (moved_label region label) ∷ []
 master_slot region Free = []
 master_slot region (Damaged name) = []
 
--- 32 slots of an area: these, and free ones behind
+-- the 32 slots of an area: these, and then free ones
 abbrev pub with_free : List Slot → List Slot
 with_free slots = slots ++ replicate (32 - length slots) Free
 
@@ -98,7 +98,7 @@ with_free slots = slots ++ replicate (32 - length slots) Free
 abbrev pub new_areas : Header → List Slot → Areas
 new_areas header masters = record { header = header; masters = with_free masters; level_one = with_free []; level_two = with_free [] }
 
--- the sound files of level 1 in slot order, and a copy of its region
+-- the valid files of level 1 in slot order, and a copy of its region
 unfoldable pub masters_from : Header → List (List ℕ) → Masters
 masters_from header contents =
     record {
@@ -115,13 +115,13 @@ image_from contents (Err fault) level_one level_two quota_one quota_two = Err (M
 image_from contents (Ok header) level_one level_two quota_one quota_two =
     image_with_masters (masters_from header contents) (new_header (header.level_one.sectors / 24) level_one level_two quota_one quota_two)
 
--- a new pack with regions of so many tracks; with an old one its masters' region is as large as that one's level 1
+-- A new pack with regions of so many tracks. With an old pack, the masters' region is as large as the old pack's level 1.
 abbrev pub image_bytes : (from : Option (List ℕ)) → (masters level_one level_two quota_one quota_two : ℕ) → Result (List ℕ) ImageFault
 image_bytes None masters level_one level_two quota_one quota_two = image_with_masters no_masters (new_header masters level_one level_two quota_one quota_two)
 image_bytes (Some old) masters level_one level_two quota_one quota_two =
     image_from (contents_of old) (mounted (contents_of old)) level_one level_two quota_one quota_two
 
--- memory aside, the outcome is this one
+-- the outcome is this error, unless memory ran out
 abbrev pub IsImageFault : Result (List ℕ) ImageFault → ImageFault → Type 0
 IsImageFault outcome NoMemory = ⊤
 IsImageFault outcome (Mount fault) = outcome ≡ Err (Mount fault)
@@ -133,7 +133,7 @@ IsImageFault outcome BadQuota = outcome ≡ Err BadQuota
 abbrev pub is_further_extent : ℕ → Bool
 is_further_extent at = nat_le 256 at && nat_lt at 6400 && nat_le 34 (at % 64) && nat_lt (at % 64) 46
 
--- the byte at a place of the new pack: the format, two quotas of 64, no further extents, and all else as it was
+-- the byte at a place of the migrated pack: the format, two quotas of 64, no further extents, and otherwise the old byte
 abbrev pub migrated_byte : (at byte : ℕ) → ℕ
 migrated_byte at byte =
     if nat_lt at 8 then slice_index (codes "S3PACK02") at
@@ -145,7 +145,7 @@ abbrev pub migrated_bytes : ℕ → List ℕ → List ℕ
 migrated_bytes at [] = []
 migrated_bytes at (byte ∷ bytes) = migrated_byte at byte ∷ migrated_bytes (at + 1) bytes
 
--- its header, with 64 lines a level
+-- the header in the second format, with 64 lines a level
 abbrev pub in_second : Header → Header
 in_second header = record header { format = Second; quota_one = 64; quota_two = 64 }
 

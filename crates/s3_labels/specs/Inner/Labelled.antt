@@ -1,4 +1,4 @@
--- What the labels of an area say of its slots, each slot by itself.
+-- The slots that the labels of an area give, each slot by itself.
 use Rattle.std.specs.Prelude.{◌≡◌, ℕ, List, [], map}
 use Rattle.std.specs.List.{range_with_len}
 use Rattle.s3_cards.specs.declared.levels.LevelId.{LevelId}
@@ -9,14 +9,14 @@ use Rattle.s3_slots.specs.declared.slot.Slot.{Slot}
 use Rattle.s3_labels.specs.Inner.Areas.{Areas, region_at, slots_at}
 use Rattle.s3_labels.specs.Areas.{area_of}
 
--- the 32 slots of an area, each judged as if none stood before it: a label that is well formed is sound
+-- the 32 slots of an area, each validated as if there were none before it: a well-formed label is valid
 unfoldable pub slots_alone : Format → Stretch → ℕ → List (List ℕ) → List Slot
 slots_alone format region area contents = map (λ i. judged format region [] (slot_bytes area contents i)) (range_with_len 0 32)
 
--- the labels of a level say its slots
+-- the labels of a level give its slots
 abbrev pub SaysSlots : LevelId → Areas → List (List ℕ) → Type 0
 SaysSlots level areas contents = slots_alone areas.header.format (region_at level areas) (area_of level) contents ≡ slots_at level areas
 
--- if they said its slots before, they say them afterwards
+-- if the labels gave the level's slots before, they still do
 abbrev pub KeepsSaid : LevelId → (old : Areas) → (before : List (List ℕ)) → (new : Areas) → (after : List (List ℕ)) → Type 0
 KeepsSaid level old before new after = SaysSlots level old before → SaysSlots level new after

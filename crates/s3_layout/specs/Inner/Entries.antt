@@ -47,7 +47,7 @@ is_taken record_type entry = related record_type entry.relation
     related (Some named) (Some relation) = same_indicator named relation
     related _ _ = true
 
--- the field on a line of this place, where it is taken
+-- the field on a line of this place, if the line has a field of the layout
 abbrev pub taken : Option Indicator → Place → Line → List (FieldLine Name)
 taken record_type place line = on line.sheet
   where

@@ -1,4 +1,4 @@
--- What calls on the parts of a level leave as it was and tell, refused or not. These words serve the contracts of private functions alone.
+-- What calls on the parts of a level answer and leave unchanged, refused or not. Only contracts of private functions use these definitions.
 use Rattle.std.specs.Prelude.{◌≡◌, ◌≤◌, ◌+◌, ℕ, Bool, false, List, length, map, None, Result, IfOk, IsTrue, OnErr, OnOk}
 use Rattle.std.specs.List.{list_all}
 use Rattle.s3_store.specs.Inner.Failures.{failed_transfers}
@@ -17,8 +17,8 @@ use Rattle.s3_level.specs.Inner.Holds.{Around, IsJobReady, IsReady, IsUntouched,
 use Rattle.s3_level.specs.Inner.Library.{IsOfLibrary}
 use Rattle.s3_level.specs.Inner.Turning.{HasFile, KeepsPlace, ServesFile}
 
--- ---- the job at work
--- the level of a job's files, and what they were opened as
+-- ---- the running job
+-- the files keep their level, and each file stays opened as it was
 pub record KeepsOpened (old new : JobFiles) : Type 0 where
   pub level : new.level ≡ old.level
   pub opened : map opened_as new.files.items ≡ map opened_as old.files.items
@@ -28,8 +28,8 @@ pub record CanServe (at_work : OpenJob) (pack : Seen) : Type 0 where
   pub files : AreFilesReady at_work.files.level at_work.files.files.items pack
   pub job : IsJobReady at_work.files.level at_work
 
--- The pending request of an open job is served by its files, or the job doesn't have the file, and then all is as it was; it fails only
--- where the job has the file.
+-- The files of an open job serve its pending request, or the job doesn't have the file and nothing changes. The call fails only if the job
+-- has the file.
 pub record ServesJob (result : Result Bool SectorFault) (old new : OpenJob) (before after : Areas) (s t : PoolState) : Type 0 where
   pub serves : IfOk result (λ served. ServesFile served old new (seen before s.contents) (seen after t.contents))
   pub fails : OnErr result (HasFile old (seen before s.contents))
@@ -39,7 +39,7 @@ pub record ServesJob (result : Result Bool SectorFault) (old new : OpenJob) (bef
   pub pack : LeavesPack old.files.level result before after s t
 
 -- ---- the level
--- a job of its deck, as it is read from the cards
+-- the job is one of the deck, as it is read from the cards
 pub record IsJobOf (deck : List (List ℕ)) (job : Job) : Type 0 where
   pub within : job.data_to ≤ length deck
   pub sound : IsTrue (list_all is_sound_file job.files)
@@ -50,24 +50,24 @@ pub record MayBegin (level : Level) (pack : Seen) : Type 0 where
   pub ready : IsReady level pack
   pub rests : level.job ≡ None
 
--- it stays what it is, with the same job at work
+-- the level keeps its identity, its deck and its drained lines, with the same running job
 pub record KeepsJob (old new : Level) : Type 0 where
   pub stays : Stays old new
   pub job : new.job ≡ old.job
   pub of_library : IsOfLibrary old.library old.job → IsOfLibrary new.library new.job
 
--- it stays what it is, and as ready as it was
+-- the level keeps its identity, its deck and its drained lines, and its representation invariant
 pub record KeepsReady (old new : Level) : Type 0 where
   pub stays : Stays old new
   pub ready : (pack : Seen) → IsReady old pack → IsReady new pack
 
--- it stays what it is, and is ready for the next call after an answer
+-- the level keeps its identity, its deck and its drained lines, and after an answer its representation invariant
 pub record Leaves {T : Type 0} (result : Result T SectorFault) (old new : Level) (before after : Areas) (s t : PoolState) : Type 0 where
   pub stays : Stays old new
   pub ready : OnOk result (IsReady new (seen after t.contents))
   pub pack : LeavesPack old.id result before after s t
 
--- the same beside the queues, of which it spares the other level's
+-- the same statement with the queues; the call doesn't change the other level's queue
 pub record LeavesAll {T : Type 0} (result : Result T SectorFault) (old new : Level) (before after : Around) : Type 0 where
   pub stays : Stays old new
   pub ready : OnOk result (IsReady new (seen after.areas after.state.contents))

@@ -1,4 +1,4 @@
--- What it is that a level holds a world, with what it is shown of the pack and the spool.
+-- When a level represents a world, with its part of the pack and of the spool.
 use Rattle.std.specs.Prelude.{◌≡◌, ◌≢◌, ℕ, ◌≤◌, ◌<◌, true, List, [], ◌++◌, length, map, replicate, slice_range, Option, Some, None, is_some, Result, Ok, Err}
 use Rattle.indexmap.specs.IndexMap.{get}
 use Rattle.s3_cards.specs.declared.levels.LevelId.{LevelId}
@@ -34,8 +34,8 @@ use Rattle.s3_level.specs.declared.level.Level.{Level}
 use Rattle.s3_level.specs.declared.taken.Taken.{Taken}
 use Rattle.s3_level.specs.Inner.Library.{IsOfLibrary}
 
--- ---- what a level is shown
--- the slots and sectors of the pack, its queue of printed lines, and how many may be queued
+-- ---- what a level can see
+-- the slots and sectors of the pack, the level's queue of printed lines, and how many lines it may queue
 pub record Shown : Type 0 where
   pub seen : Seen
   pub queue : List Printed
@@ -44,7 +44,7 @@ pub record Shown : Type 0 where
 abbrev pub with_seen : Seen → Shown → Shown
 with_seen pack shown = record shown { seen = pack }
 
--- the pack and the queues beside a level: all that both levels share
+-- the pack and the queues, which both levels share
 pub record Around : Type 0 where
   pub areas : Areas
   pub state : PoolState
@@ -72,8 +72,8 @@ pub record IsFresh (beside : Around) : Type 0 where
   pub queues : (level : LevelId) → blocks_of level beside.blocks ≡ []
   pub quotas : (level : LevelId) → quota_of level beside.blocks ≡ header_quota level beside.areas.header
 
--- ---- what it is to hold a world
--- a program stands for the world's source of its name, where there is one
+-- ---- the abstraction relation
+-- a program represents the source of its name in the world, if there is one
 abbrev pub Stocks : Option Program → Option Source → Type 0
 Stocks None None = Unit {0}
 Stocks (Some program) (Some source) = Stands program source
@@ -84,8 +84,7 @@ abbrev pub open_files : Option OpenJob → List OpenFile
 open_files None = []
 open_files (Some job) = job.files.files.items
 
--- an open job is the world's job at work. No answer is stored: its cycle goes on as the whole run does after the past
--- answers.
+-- An open job represents the world's running job. No answer is stored: its cycle continues as the whole run does after the past answers.
 pub record HoldsJob (deck : List (List ℕ)) (job : OpenJob) (w : World) (meant : JobAtWork) : Type 0 where
   pub number : meant.number ≡ job.number
   pub cards : meant.cards ≡ slice_range deck job.next job.end
@@ -97,13 +96,14 @@ HoldsAtWork deck None w None = Unit {0}
 HoldsAtWork deck (Some job) w (Some meant) = HoldsJob deck job w meant
 HoldsAtWork _ _ _ _ = ⊥
 
--- the printed lines are those that the level has drained, and behind them those in its queue
+-- the printed lines are those that the level has drained, followed by those in its queue
 pub record HoldsLines (drained : List Printed) (shown : Shown) (lines : Lines) : Type 0 where
   pub printed : lines.printed ≡ drained ++ shown.queue
   pub drained_lines : lines.drained ≡ length drained
   pub quota : lines.quota ≡ shown.quota
 
--- the parts of a level are those of the world. It is a relation: programs and cycles stand for sources, and no answer is stored.
+-- The parts of a level represent those of the world. This is a relation, since programs and cycles represent sources and no answer is
+-- stored.
 pub record HoldsParts (level : Level) (shown : Shown) (w : World) : Type 0 where
   pub cards : w.deck.cards ≡ level.deck
   pub jobs : w.deck.jobs ≡ jobs_from level.deck level.next
@@ -116,20 +116,20 @@ pub record HoldsParts (level : Level) (shown : Shown) (w : World) : Type 0 where
   pub lines : HoldsLines level.lines.items shown w.lines
   pub halts : w.halts ≡ level.halts
 
--- the level, with what is beside it, holds the world
+-- the level, with the pack and the queues, represents the world
 pub record Holds (level : Level) (beside : Around) (w : World) : Type 0 where
   pub parts : HoldsParts level (shown level.id beside) w
   pub asked : IsAsked w
 
--- ---- whatever it holds
--- the places of the files of F lines among those that are open
+-- ---- the representation invariant
+-- for each F line, the place of its file among the open files
 abbrev pub places_of : List FileLine → List OpenFile → List (Option ℕ)
 places_of lines open_files = map (λ line. place_named line.name (map job_file_of open_files)) lines
 
--- the files of an open job are those of its program's F lines, as far as the job uses them, and each slot has the place of its file
+-- The files of an open job are those of its program's F lines that the job uses. Each slot has the place of its file.
 pub record IsJobReady (level : LevelId) (job : OpenJob) : Type 0 where
   pub level_of_files : job.files.level ≡ level
-  -- those that were set when it started
+  -- the switches that were on when the job started
   pub switches : ℕ
   pub lines : AreOfLines switches (files job.cycle) job.files.files.items
   pub places : job.places.items ≡ places_of (files job.cycle) job.files.files.items
@@ -142,27 +142,27 @@ IsAtWorkReady level (Some job) = IsJobReady level job
 pub record IsReady (level : Level) (pack : Seen) : Type 0 where
   pub files : AreFilesReady level.id (open_files level.job) pack
   pub job : IsAtWorkReady level.id level.job
-  -- and the cycle of the job at work can be given back
+  -- the cycle of the running job can be returned to the library
   pub of_library : IsOfLibrary level.library level.job
 
--- ---- what is said of calls
--- What is said of an entry is said of two conditions on worlds, what was held before it and what is held after it, whatever
--- it is that holds them.
+-- ---- what contracts state about calls
+-- A contract of an entry relates two predicates on worlds: which worlds the level represented before the entry, and which it represents
+-- after it.
 
--- each world that was held becomes this one
+-- each represented world becomes the result of this function
 abbrev pub Becomes : (World → World) → (World → Type 0) → (World → Type 0) → Type 0
 Becomes change old new = (w : World) → old w → new (change w)
 
--- each world that was held takes one step of the solo run, with this answer
+-- each represented world takes one step of the reference model, with this answer
 abbrev pub Steps : Action → Did → (World → Type 0) → (World → Type 0) → Type 0
 Steps action did old new = (w : World) → old w → (did ≡ (step_of w action).did) × new (step_of w action).world
 
--- each world that was held takes so many such steps of the solo run, one after the other, each with this answer
+-- each represented world takes so many steps of the reference model, one after the other, each with this answer
 abbrev pub Repeats : Action → (times : ℕ) → Did → (World → Type 0) → (World → Type 0) → Type 0
 Repeats action times did old new =
     (w : World) → old w → ((n : ℕ) → n < times → did ≡ (step_of (solo w (replicate n action)) action).did) × new (solo w (replicate times action))
 
--- These entries stop where a job ends: after each of them but the last a job is at work.
+-- These entries stop when a job ends: after each of them except the last, a job is running.
 abbrev pub StopsAtEnd : Action → (times : ℕ) → (World → Type 0) → Type 0
 StopsAtEnd action times old = (w : World) → old w → (n : ℕ) → 1 ≤ n → n < times → is_some (solo w (replicate n action)).job ≡ true
 
@@ -171,38 +171,38 @@ abbrev pub once : Result Did SectorFault → Result Taken SectorFault
 once (Ok did) = Ok (record { did = did; times = 1 })
 once (Err fault) = Err fault
 
--- they are one at least, and no more than that
+-- at least one, and at most so many
 pub record IsUpTo (most : ℕ) (taken : Taken) : Type 0 where
   pub some : 1 ≤ taken.times
   pub few : taken.times ≤ most
 
--- which level it is and its deck never change; the drained lines don't but by draining
+-- the level keeps its identity, its deck and its drained lines
 pub record Stays (old new : Level) : Type 0 where
   pub id : new.id ≡ old.id
   pub deck : new.deck ≡ old.deck
   pub drained : new.lines.items ≡ old.lines.items
 
--- the slots and the sectors of the pack are as they were, in the store too
+-- the slots and the sectors of the pack are unchanged, in the store too
 abbrev pub IsUntouched : (old new : Areas) → (s t : PoolState) → Type 0
 IsUntouched old new s t = (new ≡ old) × (t ≡ s)
 
--- an entry that doesn't act leaves the pack untouched
+-- an entry that doesn't act leaves the pack unchanged
 abbrev pub IsQuiet : Did → (old new : Areas) → (s t : PoolState) → Type 0
 IsQuiet did old new s t = did ≢ Acted → IsUntouched old new s t
 
--- a sector beyond a level: neither of its labels nor of its region nor a spool block
+-- a sector outside of a level: not of its labels, of its region or of a spool block
 pub record IsBeyond (level : LevelId) (header : Header) (n : ℕ) : Type 0 where
   pub files : IsOutOfReach level header n
   pub block : 25 ≤ n → n < 153 → ⊥
 
--- a sector of a block in which a line of the level's queue stands
+-- a sector of a block that has a line of the level's queue
 pub record IsQueuedSector (level : LevelId) (blocks : Blocks) (n : ℕ) : Type 0 where
   pub block : ℕ
   pub place : n ≡ block_sector block
   pub queued : 0 < times block (blocks_of level blocks)
 
--- What a call of one level leaves as it was, refused or not: the slots of the masters and of the other level, all sectors beyond it,
--- and the other level's queue, with its blocks byte for byte.
+-- What a call of one level leaves unchanged, refused or not: the slots of the masters and of the other level, all sectors outside of the
+-- level, and the other level's queue with the bytes of its blocks.
 pub record Spares (level : LevelId) (old new : Around) : Type 0 where
   pub pack : IsPackReady new.areas new.state.contents
   pub areas : new.areas ≡ with_slots level (slots_at level new.areas) old.areas

@@ -1,4 +1,4 @@
--- The cycles of a library's programs.
+-- The cycles that a library keeps for its programs.
 use Rattle.std.specs.Prelude.{◌≡◌, ℕ, List, Option, Some, None}
 use Rattle.indexmap.specs.IndexMap.{IndexMap, get}
 use Rattle.s3_cards.specs.declared.name.Name.{Name}
@@ -17,11 +17,11 @@ use Rattle.s3_level.specs.declared.job.OpenJob.{OpenJob}
 abbrev pub HasSame : {S : Type 0} → (old new : IndexMap Name Program S) → Type 0
 HasSame old new = (name : Name) → get same_name new name ≡ get same_name old name
 
--- a cycle is of a program: it stands for each source that the program stands for
+-- a cycle belongs to a program: it represents each source that the program represents
 abbrev pub IsFor : Program → Stepper → Type 0
 IsFor program cycle = (source : Source) → Stands program source → StandsFor cycle source
 
--- the cycle of the last job of a program, if one is kept
+-- the cycle of a program's last job, if one is kept
 abbrev pub Rests : Program → Option Stepper → Type 0
 Rests program None = Unit {0}
 Rests program (Some cycle) = IsFor program cycle
@@ -31,7 +31,7 @@ abbrev pub BeginsFor : Program → (switches : ℕ) → (date : List ℕ) → St
 BeginsFor program switches date cycle =
     (source : Source) → Stands program source → StandsFor cycle source × ((answers : List Answer) → rest source cycle answers ≡ Req source switches date answers)
 
--- the cycle of a job at work can be given back
+-- the cycle of a running job can be returned to the library
 abbrev pub IsOfLibrary : {S : Type 0} → IndexMap Name Program S → Option OpenJob → Type 0
 IsOfLibrary library None = Unit {0}
 IsOfLibrary library (Some job) = (program : Program) → get same_name library job.program ≡ Some program → IsFor program job.cycle

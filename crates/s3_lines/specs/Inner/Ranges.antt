@@ -170,7 +170,7 @@ is_within (Some length) position = nat_le position length
 abbrev pub codes_within : Option ℕ → List (Option RecordCode) → Bool
 codes_within length codes = list_all (if_given (λ code. is_within length code.position)) codes
 
--- the record length by which field lines go behind a line
+-- the record length that field lines after this line have
 abbrev pub input_length_behind : (Name → Option ℕ) → Option ℕ → SheetLine → Option ℕ
 input_length_behind lengths last (Input (Record file indicator codes)) = lengths file
 input_length_behind lengths last _ = last
@@ -184,7 +184,7 @@ output_length_behind lengths last (Output (LineCard card)) = on card.file
     on None = last
 output_length_behind lengths last _ = last
 
--- by the lengths of all files, that of the last record line, and that of the last line card
+-- the positions of a line are in their records, given the lengths of all files, of the last record line's and of the last line card's
 abbrev pub positions_within : (Name → Option ℕ) → (input output : Option ℕ) → SheetLine → Bool
 positions_within lengths input output (Input (Record file indicator codes)) = codes_within (lengths file) codes
 positions_within lengths input output (Input (AndCodes codes)) = codes_within input codes

@@ -36,7 +36,7 @@ fields_text label =
     organization_letter label.organization ∷ 32 ∷ retention_letter label.retention ∷ 32 ∷ []
     ++ in_digits 4 label.record_length ++ 32 ∷ [] ++ in_digits 8 label.capacity ++ 32 ∷ [] ++ in_digits 8 label.count
 
--- a line: the area, what stands under which label, and LF
+-- a line: the area, the file of a label, and LF
 abbrev pub line_of : ℕ → (label fields : List ℕ) → List ℕ
 line_of area label fields = (48 + area) ∷ 32 ∷ [] ++ label ++ 32 ∷ [] ++ fields ++ 10 ∷ []
 

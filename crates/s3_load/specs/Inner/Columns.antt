@@ -16,7 +16,7 @@ is_blank character = character == space
 abbrev pub bare : List ℕ → List ℕ
 bare cell = trimmed (drop (prefix_len is_blank cell) cell)
 
--- one of these fields, by its name
+-- a field of the list with this name
 pub record IsNamed (fields : List Field) (text : List ℕ) (field : Field) : Type 0 where
   pub there : Contains fields field
   pub named : name_text field.name ≡ text
@@ -26,7 +26,7 @@ pub record AreNamed (fields : List Field) (cells : List (List ℕ)) (count : ℕ
   pub counted : length columns ≡ count
   pub each : (k : ℕ) (d : Field) → k < count → IsNamed fields (bare (get_or cells k [])) (get_or columns k d)
 
--- a column more, of that name
+-- one column more, for the field of that name
 pub record AddsColumn (fields : List Field) (text : List ℕ) (old new : List Field) : Type 0 where
   pub field : Field
   pub column : IsNamed fields text field
@@ -41,7 +41,7 @@ has_byte place field = nat_le field.start place && nat_lt place (field.start + f
 abbrev pub overlap : Field → Field → Bool
 overlap one other = nat_lt one.start (other.start + other.width) && nat_lt other.start (one.start + one.width)
 
--- no two of them have
+-- no two of these fields have a byte in common
 abbrev pub LieApart : List Field → Type 0
 LieApart columns = AllPairs (λ one other. overlap one other ≡ false) columns
 
@@ -53,15 +53,15 @@ is_number (Packed decimals cells) = true
 is_number (Date TextDate) = false
 is_number (Date NumberDate) = true
 
--- it has no byte in common with any of them, if it is a number, and so can be 0 beside them
+-- if the field is a number, it has no byte in common with any of these fields, so it can be filled with 0
 abbrev pub is_clear : List Field → Field → Bool
 is_clear columns field = not (is_number field.kind && list_any (λ other. overlap other field) columns)
 
--- a byte is one of these fields
+-- a byte belongs to one of these fields
 abbrev pub is_inside : List Field → ℕ → Bool
 is_inside columns place = list_any (has_byte place) columns
 
--- each byte of a field is
+-- each byte of a field belongs to one of these fields
 abbrev pub is_covered : List Field → Field → Bool
 is_covered columns field = list_all (is_inside columns) (range_with_len field.start field.width)
 
@@ -70,8 +70,8 @@ abbrev pub left_out : List Field → List Field → List Field
 left_out columns fields = filter (λ field. not (is_covered columns field)) fields
 
 -- ---- a heading
--- these are its columns: each cell names one of the fields, no two of these lie over each other, and what they leave out is filled,
--- where no number of it lies partly under one of them
+-- The columns of a heading: each cell names one of the fields, and no two of these overlap. The fields without a column are filled; there
+-- are none if filling isn't asked for. No number among them overlaps a column.
 pub record IsHeading (fields : List Field) (fills : Bool) (cells : List (List ℕ)) (columns : Columns) : Type 0 where
   pub named : AreNamed fields cells (length cells) columns.fields.items
   pub apart : LieApart columns.fields.items

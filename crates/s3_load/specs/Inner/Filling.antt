@@ -1,4 +1,4 @@
--- A file that records are put into, one behind another.
+-- A file to which records are appended one after another.
 use Rattle.std.specs.Prelude.{◌≡◌, ◌+◌, ℕ, true, false, List, [], ◌∷◌, ◌++◌, length, map, slice_get}
 use Rattle.std.specs.List.{Contains}
 use Rattle.s3_store.specs.Bytes.{bytes_at}
@@ -23,17 +23,17 @@ records_of rows = map (λ row. row.bytes.items) rows
 abbrev pub counted : FileLabel → ℕ → FileLabel
 counted label count = record label { count = count }
 
--- the file of a label as it is with another count of records
+-- the file of a label with its present bytes and another count of records
 abbrev pub grown : FileLabel → ℕ → FileShape
 grown label count = record (file_of label) { count = count }
 
--- It has these records behind those that its label counts. Without an index, the bytes after the last of them are the same.
+-- The file has these records after those that its label counts. Without an index, the bytes after the last of them are unchanged.
 pub record HasMore (label : FileLabel) (added : List (List ℕ)) (old new : List (List ℕ)) (count : ℕ) : Type 0 where
   pub counts : count ≡ label.count + length added
   pub records : in_order (counted label count) new ≡ in_order label old ++ added
   pub tail : is_indexed label.organization ≡ false → KeepsTail (grown label count) old new
 
--- no other sectors have changed
+-- only these sectors have changed
 pub record ChangesOnly (sectors : List ℕ) (old new : List (List ℕ)) : Type 0 where
   pub others : (n : ℕ) → ¬ Contains sectors n → slice_get new n ≡ slice_get old n
 
@@ -43,7 +43,7 @@ HasGoodIndex label contents =
     is_good_index (index_in (layout_of label) label.count (bytes_at (sectors_of label) contents)) (keys_of (layout_of label).key (in_order label contents)) ≡ true
 
 -- ---- a file without an index
--- it is the file of the label, over these sectors, with these records behind those that the label counts, and the same bytes after them
+-- the file of the label over these sectors, with these records after those that the label counts, and the same bytes after them
 pub record IsFilled (file : Sequential) (label : FileLabel) (added : List (List ℕ)) (old new : List (List ℕ)) : Type 0 where
   pub sectors : file.sectors ≡ sectors_of label
   pub record_length : file.record_length ≡ label.record_length
@@ -51,7 +51,7 @@ pub record IsFilled (file : Sequential) (label : FileLabel) (added : List (List 
   pub records : records_in file.record_length file.count (bytes_at file.sectors new) ≡ in_order label old ++ added
   pub tail : KeepsTail (shape_of file) old new
 
--- it has one record more, and the same bytes after it
+-- the file has one record more, and the same bytes after it
 pub record AddsRecord (bytes : List ℕ) (first last : Sequential) (old new : List (List ℕ)) : Type 0 where
   pub sectors : last.sectors ≡ first.sectors
   pub record_length : last.record_length ≡ first.record_length
@@ -60,13 +60,13 @@ pub record AddsRecord (bytes : List ℕ) (first last : Sequential) (old new : Li
   pub tail : KeepsTail (shape_of last) old new
 
 -- ---- a file with an index
--- it is the file of the label, over these sectors, and its keys are in order
+-- the file of the label over these sectors, with its keys in order
 pub record IsAtWork (file : Keyed) (label : FileLabel) (contents : List (List ℕ)) : Type 0 where
   pub stored : AreStored (shown file).sectors contents
   pub key_order : HasKeyOrder (shown file) contents
   pub sectors : (shown file).sectors ≡ sectors_of label
   pub layout : (shown file).layout ≡ layout_of label
 
--- it has one record more
+-- the file has one record more
 abbrev pub AddsByKey : List ℕ → Keyed → Keyed → (old new : List (List ℕ)) → Type 0
 AddsByKey bytes first last old new = records_now (shown last) new ≡ records_now (shown first) old ++ bytes ∷ []

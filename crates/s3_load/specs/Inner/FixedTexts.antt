@@ -1,4 +1,4 @@
--- Texts of records of a fixed length, and packs that they were loaded into.
+-- Texts of records of a fixed length, and packs that were loaded from them.
 use Rattle.std.specs.Prelude.{◌≡◌, ℕ, zero, suc, ◌+◌, ◌<◌, ◌==◌, ◌&&◌, ◌||◌, nat_le, Bool, true, Option, Some, None, List, [], ◌∷◌, length, map, take, drop, get_or, IsPermutation}
 use Rattle.std.specs.List.{All, list_all}
 use Rattle.std.specs.Str.Lines.{lines}
@@ -14,7 +14,7 @@ use Rattle.s3_load.specs.Inner.KeyOrder.{AreInKeyOrder}
 use Rattle.s3_load.specs.Inner.Loaded.{HasRecords}
 
 -- ---- the pieces of a text
--- parts of so many bytes, of which the last may be shorter; at most so many
+-- at most so many pieces of so many bytes; the last piece may be shorter
 unfoldable pub cut_by : (most unit : ℕ) → List ℕ → List (List ℕ)
 cut_by zero unit text = []
 cut_by (suc most) unit [] = []
@@ -23,7 +23,7 @@ cut_by (suc most) unit (byte ∷ text) = take unit (byte ∷ text) ∷ cut_by mo
 unfoldable pub cut : (unit : ℕ) → List ℕ → List (List ℕ)
 cut unit text = cut_by (length text) unit text
 
--- how many bytes a record takes, with its line feed
+-- the number of bytes for a record, with its line feed
 abbrev pub unit_of : FixedForm → (record_length : ℕ) → ℕ
 unit_of Ebcdic record_length = record_length
 unit_of EbcdicLines record_length = record_length + 1
@@ -37,18 +37,18 @@ pieces EbcdicLines record_length text = cut (record_length + 1) text
 pieces Ascii record_length text = cut record_length text
 pieces AsciiLines record_length text = lines text
 
--- so many bytes, with the line feed of EBCDIC after them if these aren't the last ones
+-- so many bytes, followed by the line feed of EBCDIC if a record follows
 abbrev pub ends_record : (record_length : ℕ) → List ℕ → Bool
 ends_record record_length piece = (length piece == record_length) || ((length piece == record_length + 1) && (get_or piece record_length 0 == ebcdic_line_feed))
 
--- a piece is a record: it has the bytes, or the characters of cards
+-- a piece is a record: it has the record's bytes, or characters of cards
 abbrev pub is_piece : FixedForm → (record_length : ℕ) → List ℕ → Bool
 is_piece Ebcdic record_length piece = length piece == record_length
 is_piece EbcdicLines record_length piece = ends_record record_length piece
 is_piece Ascii record_length piece = (length piece == record_length) && list_all has_code piece
 is_piece AsciiLines record_length piece = nat_le (length piece) record_length && list_all has_code piece
 
--- the record of a piece: its bytes, or the codes of its characters, with blanks behind those of a short line
+-- the record of a piece: its bytes, or the codes of its characters, and blanks after a short line
 abbrev pub record_of : FixedForm → (record_length : ℕ) → List ℕ → List ℕ
 record_of Ebcdic record_length piece = take record_length piece
 record_of EbcdicLines record_length piece = take record_length piece
@@ -64,7 +64,7 @@ pub record ReadsAs (form : FixedForm) (record_length : ℕ) (text : List ℕ) (r
 abbrev pub AreFixedRecords : FixedForm → (record_length : ℕ) → List ℕ → List Row → Type 0
 AreFixedRecords form record_length text rows = ReadsAs form record_length text (records_of rows)
 
--- these are the records of a text, each once: in the order of their keys, or, where the file has none, of the text
+-- the records of a text, each once: in the order of their keys, or for a file without keys in the order of the text
 pub record IsFixedText (form : FixedForm) (record_length : ℕ) (key : Option KeyField) (text : List ℕ) (rows : List Row) : Type 0 where
   pub made : List Row
   pub are_records : AreFixedRecords form record_length text made
@@ -73,7 +73,7 @@ pub record IsFixedText (form : FixedForm) (record_length : ℕ) (key : Option Ke
   pub keyed : AreInKeyOrder key rows
 
 -- ---- a pack
--- The pack has the records of a text in the file that is asked for, if the bytes of the text are known.
+-- The pack has the records of a text in the ordered file, if the bytes of the text are known.
 pub record IsLoadedFixed (order : Order) (form : FixedForm) (text : Option (List ℕ)) (old new : List (List ℕ)) : Type 0 where
   pub rows : List Row
   pub records : (bytes : List ℕ) → text ≡ Some bytes → IsFixedText form order.layout.now.record_length order.key bytes rows
@@ -85,6 +85,6 @@ pub record AreWritable (form : FixedForm) (record_length : ℕ) (records : List 
   pub long : All (λ bytes. length bytes ≡ record_length) records
   pub fits : list_all (is_fixed form) records ≡ true
 
--- these records are of bytes
+-- each code of these records is a byte
 abbrev pub AreOfBytes : List (List ℕ) → Type 0
 AreOfBytes records = All (λ bytes. All (λ byte. byte < 256) bytes) records

@@ -9,11 +9,11 @@ use Rattle.s3_store.specs.Bytes.{part}
 use Rattle.s3_lines.specs.declared.sheet.KeyField.{KeyField}
 use Rattle.s3_load.specs.declared.rows.Row.{Row}
 
--- the bytes of the key of a record; none where it doesn't lie in the record
+-- the bytes of the key of a record; none if the record is too short for the key
 abbrev pub key_in : KeyField → List ℕ → List ℕ
 key_in key bytes = if nat_le (key.start - 1 + key.length) (length bytes) then part bytes (key.start - 1) key.length else []
 
--- of the first characters of two keys that differ, the first row's is the less
+-- at the first different character of two keys, the first row's character is the less
 abbrev pub ComesBefore : KeyField → Row → Row → Type 0
 ComesBefore key one other = slice_cmp nat_cmp (key_in key one.bytes.items) (key_in key other.bytes.items) ≡ Less
 
@@ -25,7 +25,7 @@ comes_before key one other = is_lt (slice_cmp nat_cmp (key_in key one.bytes.item
 abbrev pub AreSorted : KeyField → List Row → Type 0
 AreSorted key rows = IsSortedBy (comes_before key) rows
 
--- where the file has a key, each row comes before all those behind it, so no two have the same key
+-- in a file with a key, each row comes before all later ones, so no two rows have the same key
 abbrev pub AreInKeyOrder : Option KeyField → List Row → Type 0
 AreInKeyOrder None rows = ⊤
 AreInKeyOrder (Some key) rows = AllPairs (ComesBefore key) rows

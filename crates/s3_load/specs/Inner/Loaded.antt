@@ -1,4 +1,4 @@
--- A file of a pack that a table was loaded into, and what stays of the pack.
+-- A file of a pack that was loaded from a table, and what is unchanged on the pack.
 use Rattle.std.specs.Prelude.{◌≡◌, ◌<◌, ◌⊎◌, ◌++◌, ◌==◌, ◌&&◌, ℕ, Bool, true, false, Option, Some, None, List, [], length, slice_get, Ok, ⊤, if◌then◌else◌}
 use Rattle.std.specs.List.{Contains, list_any, position_from}
 use Rattle.s3_cards.specs.declared.levels.LevelId.{LevelId}
@@ -35,8 +35,8 @@ use Rattle.s3_load.specs.declared.rows.Row.{Row}
 use Rattle.s3_load.specs.Inner.Filling.{HasGoodIndex, counted, records_of}
 use Rattle.s3_load.specs.Inner.Tables.{IsTable}
 
--- ---- the file that is asked for
--- a file has the key of the F card; without one its records stand in order
+-- ---- the ordered file
+-- a file has the key of the F card; without one, the file is sequential
 abbrev pub has_key_by : Option KeyField → Organization → (key_length key_start : ℕ) → Bool
 has_key_by None Sequential key_length key_start = true
 has_key_by (Some key) Indexed key_length key_start = (key_length == key.length) && (key_start == key.start)
@@ -45,13 +45,13 @@ has_key_by _ _ key_length key_start = false
 abbrev pub has_key : Option KeyField → FileLabel → Bool
 has_key key label = has_key_by key label.organization label.key_length label.key_start
 
--- it has the label, the record length and the key that the order says
+-- the file has the label, the record length and the key of the order
 pub record IsAsked (order : Order) (label : FileLabel) : Type 0 where
   pub named : label.name ≡ order.name
   pub long : label.record_length ≡ order.layout.now.record_length
   pub keyed : has_key order.key label ≡ true
 
--- the same of a file that is to be made
+-- the same statement for a file that must be made
 pub record IsNewOf (order : Order) (new : NewFile) : Type 0 where
   pub named : new.name ≡ order.name
   pub long : new.record_length ≡ order.layout.now.record_length
@@ -59,25 +59,25 @@ pub record IsNewOf (order : Order) (new : NewFile) : Type 0 where
   pub retained : new.retention ≡ order.retention
   pub dated : new.date ≡ order.date
 
--- the records of the file that stands there, in the order in which they were written
+-- the records of the existing file, in the order in which they were written
 abbrev pub records_under : Standing → List (List ℕ) → List (List ℕ)
 records_under (Present label) contents = in_order label contents
 records_under Absent contents = []
 records_under Blocked contents = []
 
--- the records in front of those that are loaded: those of the level's file of that label, where these go behind them
+-- the records before the loaded ones: those of the level's file of that label, if the order appends to it
 abbrev pub records_before : Order → Header → List (List ℕ) → List (List ℕ)
 records_before order header contents = if order.appends then records_under (standing order.name (slots_at order.level (areas_on header contents))) contents else []
 
 -- ---- what becomes of the slots
--- slot i of an area has the file of that label, in whose place a new one comes
+-- slot i of an area has the file of that label, and a new file replaces it
 pub record IsReplaced (order : Order) (header : Header) (contents : List (List ℕ)) (a i : ℕ) : Type 0 where
   pub anew : order.appends ≡ false
   pub own : a ≡ area_of order.level
   pub place : position_from (bears order.name) 0 (slots_at order.level (areas_on header contents)) ≡ Some i
 
--- The slots and files beside one slot: that of an old file that is replaced is free, each other one is as it was, and its file has
--- the same bytes.
+-- The other slots and files, given the slot of the loaded file: the slot of a replaced file is free. Each other slot is unchanged, and its
+-- file has the same bytes.
 pub record KeepsOthers (order : Order) (slot : ℕ) (header : Header) (old new : List (List ℕ)) : Type 0 where
   pub kept : (a i : ℕ) → IsOther (area_of order.level) slot a i → ¬ IsReplaced order header old a i → KeepsFile header old new a i
   pub freed : (a i : ℕ) → IsOther (area_of order.level) slot a i → IsReplaced order header old a i → slot_on header new a i ≡ Some Free
@@ -97,12 +97,12 @@ pub record IsVacant (order : Order) (header : Header) (old : List (List ℕ)) (s
   pub replaceable : MayBeReplaced (standing order.name (slots_at order.level (areas_on header old)))
   pub unmastered : list_any (bears order.name) (areas_on header old).masters ≡ false
 
--- the label has the retention and the date that the order says
+-- the label has the retention and the date of the order
 pub record IsKeptFor (order : Order) (label : FileLabel) : Type 0 where
   pub retained : label.retention ≡ order.retention
   pub dated : label.date ≡ order.date
 
--- the size of a new file: so many tracks or records as the order says, or space for the records of the table, and for one at least
+-- the size of a new file: the tracks or records of the order, or space for the table's records, at least one
 abbrev pub at_least_one : ℕ → ℕ
 at_least_one count = if count == 0 then 1 else count
 
@@ -133,17 +133,17 @@ abbrev pub HasNoDamage : Order → Header → List (List ℕ) → Type 0
 HasNoDamage order header contents = (i : ℕ) → i < 32 → is_damaged_at (slot_on header contents (area_of order.level) i) ≡ false
 
 -- ---- what stays
--- Each slot of the level has the same bytes, except for the file's slot and the slot of a replaced file. Each sector that has no label
--- of the level is the same, except for the file's own.
+-- Each slot of the level has the same bytes, except for the file's slot and the slot of a replaced file. Of the sectors without a label of
+-- the level, only the file's own change.
 pub record KeepsRest (order : Order) (slot : ℕ) (own : List ℕ) (header : Header) (old new : List (List ℕ)) : Type 0 where
   pub labels : (i : ℕ) → i < 32 → (i ≡ slot → ⊥) → ¬ IsReplaced order header old (area_of order.level) i → slot_bytes (area_of order.level) new i ≡ slot_bytes (area_of order.level) old i
   pub sectors : (n : ℕ) → ¬ IsLabelSector (area_of order.level) n → ¬ Contains own n → slice_get new n ≡ slice_get old n
 
--- a pack with the file, in which the rest is kept
+-- a pack with the file, on which everything else is unchanged
 abbrev pub ChangesLoaded : Order → Header → (old new : List (List ℕ)) → Type 0
 ChangesLoaded order header old new = ChangesFile (area_of order.level) order.name (IsReplaced order header old (area_of order.level)) old new
 
--- byte k of a pack is in the slot of the file that is replaced
+-- byte k of a pack is in the slot of the replaced file
 pub record IsInReplaced (order : Order) (contents : List (List ℕ)) (k : ℕ) : Type 0 where
   pub header : Header
   pub mounts : mounted contents ≡ Ok header
@@ -161,7 +161,7 @@ abbrev pub KeepsLoadedTail : Order → (old new : List (List ℕ)) → Type 0
 KeepsLoadedTail order old new = IsOfFile (area_of order.level) order.name new (λ slot label. is_indexed label.organization ≡ false → KeepsTail (file_of label) old new)
 
 -- ---- steps
--- the file that is asked for stands in a slot: a new one without records, where no slot was damaged, or the one that was there
+-- the ordered file is in a slot: a new one without records, if no slot was damaged, or the existing one
 pub record IsPlaced (order : Order) (header : Header) (old new : List (List ℕ)) (label : FileLabel) : Type 0 where
   pub slot : ℕ
   pub slot_in : slot < 32
@@ -187,9 +187,9 @@ pub record IsCounted (level : LevelId) (name : Name) (count : ℕ) (header : Hea
   pub labels : (i : ℕ) → (i ≡ slot → ⊥) → slot_bytes (area_of level) new i ≡ slot_bytes (area_of level) old i
   pub sectors : (n : ℕ) → ¬ IsLabelSector (area_of level) n → slice_get new n ≡ slice_get old n
 
--- ---- a pack with a file that was loaded
--- A slot of the level's area has the file that is asked for: a new one where a make puts it, or the one that was there. Its records
--- are those in front, if these go behind some, and then those that were loaded; an index is that of all of them.
+-- ---- a pack with a loaded file
+-- A slot of the level's area has the ordered file: a new one where a make puts it, or the existing one. Its records are the earlier ones,
+-- if the order appends, and then the loaded ones. An index is that of all its records.
 pub record HasFile (order : Order) (added : List (List ℕ)) (header : Header) (old new : List (List ℕ)) : Type 0 where
   pub mounts : mounted new ≡ Ok header
   pub slot : ℕ
@@ -206,7 +206,7 @@ pub record HasFile (order : Order) (added : List (List ℕ)) (header : Header) (
   pub others : KeepsOthers order slot header old new
   pub undamaged : order.appends ≡ false → HasNoDamage order header old
 
--- The pack has the records of a table in the file that is asked for, if the bytes of the table are known.
+-- The pack has the records of a table in the ordered file, if the bytes of the table are known.
 pub record IsLoaded (order : Order) (text : Option (List ℕ)) (old new : List (List ℕ)) : Type 0 where
   pub rows : List Row
   pub table : (bytes : List ℕ) → text ≡ Some bytes → IsTable bytes order.delimiter order.layout.now.record_length order.layout.now.fields.items order.fills order.chosen.now order.key rows
@@ -214,7 +214,7 @@ pub record IsLoaded (order : Order) (text : Option (List ℕ)) (old new : List (
   pub mounts : mounted old ≡ Ok header
   pub filled : HasFile order (records_of rows) header old new
 
--- The pack has these records in the file that is asked for.
+-- The pack has these records in the ordered file.
 pub record HasRecords (order : Order) (added : List (List ℕ)) (old new : List (List ℕ)) : Type 0 where
   pub header : Header
   pub mounts : mounted old ≡ Ok header

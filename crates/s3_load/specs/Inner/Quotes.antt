@@ -1,4 +1,4 @@
--- Quotes around the cells of a table, as a reader of CSV takes them.
+-- Quotes around the cells of a table, as a CSV reader takes them.
 use Rattle.std.specs.Prelude.{ℕ, ◌+◌, ◌==◌, ◌||◌, Bool, List, [], ◌∷◌, Option, None, Some, if◌then◌else◌}
 use Rattle.s3_load.specs.declared.quotes.Reading.{Reading}
 use Rattle.s3_load.specs.declared.quotes.Reading.TheVariants.{Start, Plain, Quoted, Closing}
@@ -9,11 +9,11 @@ is_quote byte = byte == 34
 abbrev pub is_line_end : ℕ → Bool
 is_line_end byte = (byte == 10) || (byte == 13)
 
--- where a reader is after a byte that stands in no quotes
+-- the reader's state after a byte outside of quotes
 abbrev pub after_plain : (delimiter byte : ℕ) → Reading
 after_plain delimiter byte = if (byte == delimiter) || is_line_end byte then Start else Plain
 
--- where a reader is after a byte at a place; a quote opens quotes only at the start of a cell
+-- the reader's state after a byte at a place; a quote opens quotes only at the start of a cell
 abbrev pub after : (delimiter place byte : ℕ) → Reading → Reading
 after delimiter place byte Start = if is_quote byte then Quoted place else after_plain delimiter byte
 after delimiter place byte Plain = after_plain delimiter byte
@@ -27,11 +27,11 @@ opened Plain = None
 opened (Quoted place) = Some place
 opened (Closing place) = None
 
--- where a reader is after the bytes from a place on
+-- the reader's state after the bytes from a place on
 unfoldable pub reading_from : (delimiter place : ℕ) → Reading → List ℕ → Reading
 reading_from delimiter place at [] = at
 reading_from delimiter place at (byte ∷ bytes) = reading_from delimiter (place + 1) (after delimiter place byte at) bytes
 
--- the place of the quote in which a table ends: of one that is never closed
+-- the place of the quote that is never closed, if the table has one
 abbrev pub open_quote : (delimiter : ℕ) → List ℕ → Option ℕ
 open_quote delimiter text = opened (reading_from delimiter 0 Start text)

@@ -11,14 +11,14 @@ use Rattle.s3_load.specs.declared.fault.LoadFault.{LoadFault}
 use Rattle.s3_load.specs.declared.fault.LoadFault.TheVariants.{DamagedSlot, Label, NoMemory}
 use Rattle.s3_load.specs.declared.order.Order.{Order}
 
--- A slot of this number is the first damaged one of the level's area on a pack, in which a new file was to be made.
+-- A new file was to be made, and the slot of this number is the first damaged one of the level's area.
 pub record IsFirstDamaged (order : Order) (contents : List (List ℕ)) (slot : ℕ) : Type 0 where
   pub anew : order.appends ≡ false
   pub header : Header
   pub mounts : mounted contents ≡ Ok header
   pub first : first_damaged (slots_at order.level (areas_on header contents)) ≡ Some slot
 
--- if a refusal names a damaged slot, it is that one
+-- if a refusal names a damaged slot, it is the first one
 abbrev pub NamesDamaged : Order → (contents : List (List ℕ)) → LoadFault → Type 0
 NamesDamaged order contents (DamagedSlot slot) = IsFirstDamaged order contents slot
 NamesDamaged order contents _ = ⊤
@@ -34,7 +34,7 @@ abbrev pub NamesFirst : List Slot → LoadFault → Type 0
 NamesFirst slots (DamagedSlot slot) = first_damaged slots ≡ Some slot
 NamesFirst slots _ = ⊥
 
--- the refusal of a label that isn't changed
+-- the refusal of a label's change
 abbrev pub of_change : ChangeFault → LoadFault
 of_change (OfLabel fault) = Label fault
 of_change (Sectors fault) = NoMemory

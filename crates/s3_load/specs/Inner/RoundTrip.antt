@@ -1,4 +1,4 @@
--- Tables that were loaded into files, as these are unloaded.
+-- Tables that were loaded into files, and the tables that these are unloaded as.
 use Rattle.std.specs.Prelude.{◌≡◌, ◌<◌, ℕ, true, ⊤, Option, None, Some, Ok, List, [], ◌∷◌, IsPermutation, length, map, get_or}
 use Rattle.std.specs.Cmp.Lexicographic.{slice_cmp}
 use Rattle.std.specs.List.{All, AllPairs}
@@ -25,7 +25,7 @@ use Rattle.s3_load.specs.Inner.Loaded.{IsAsked}
 use Rattle.s3_load.specs.Inner.Records.{AreAsWritten}
 use Rattle.s3_load.specs.Inner.Tables.{table_config}
 
--- a row has a cell for each column; the record can be shown in each, and has there the value that the cell says
+-- a row has a cell for each column; the record can be shown in each, and has there the value of the cell
 pub record ShowsRow (columns : List Field) (cells : List (List ℕ)) (bytes : List ℕ) : Type 0 where
   pub counted : length cells ≡ length columns
   pub shown : are_shown columns bytes ≡ true
@@ -36,13 +36,13 @@ pub record ShowRows (columns : List Field) (rows : List (List (List ℕ))) (reco
   pub counted : length records ≡ length rows
   pub each : (k : ℕ) → k < length rows → ShowsRow columns (get_or rows k []) (get_or records k [])
 
--- the text is a table: a heading, which names these columns, and the rows behind it
+-- the text is a table: a heading, which names these columns, and the rows after it
 pub record IsTableText (text : List ℕ) (delimiter : ℕ) (fields columns : List Field) (rows : List (List (List ℕ))) : Type 0 where
   pub heading : List (List ℕ)
   pub are_records : AreRecords (table_config delimiter) st.StartRecord (strip_bom text) (heading ∷ rows)
   pub named : AreNamed fields heading (length heading) columns
 
--- a slot of the level's area has a file that is asked for
+-- a slot of the level's area has an ordered file
 pub record HasFileAsked (order : Order) (contents : List (List ℕ)) (label : FileLabel) : Type 0 where
   pub header : Header
   pub mounts : mounted contents ≡ Ok header
@@ -51,21 +51,21 @@ pub record HasFileAsked (order : Order) (contents : List (List ℕ)) (label : Fi
   pub there : slot_on header contents (area_of order.level) slot ≡ Some (Sound label)
   pub asked : IsAsked order label
 
--- each record's key comes before those of all records behind it, character by character; without a key they may stand anyhow
+-- each record's key comes before the keys of all later records, character by character; without a key, any order will do
 abbrev pub AreByKey : Option KeyField → List (List ℕ) → Type 0
 AreByKey None records = ⊤
 AreByKey (Some key) records = AllPairs (λ one other. slice_cmp nat_cmp (key_in key one) (key_in key other) ≡ Less) records
 
--- The file is unloaded as these records: in the order of their keys, or, where it has none, as they stand here. Where they stand by
--- their keys here, too, these are the same.
+-- The file is unloaded as these records: in the order of their keys, or for a file without keys in the order given here. If the given
+-- order is that of the keys, they are unloaded in this order.
 pub record AreUnloaded (order : Order) (label : FileLabel) (contents records : List (List ℕ)) : Type 0 where
   pub same : IsPermutation records (ordered label contents)
   pub unkeyed : order.key ≡ None → ordered label contents ≡ records
   pub keyed : AreByKey order.key (ordered label contents)
   pub in_order : AreByKey order.key records → ordered label contents ≡ records
 
--- The file that a table was loaded into is unloaded as records that show the table's rows, one for each: in the order of their
--- keys, or, where the file has none, of the rows.
+-- A loaded file is unloaded as records that show the table's rows, one for each: in the order of their keys, or for a file without keys in
+-- the order of the rows.
 pub record UnloadsTable (order : Order) (text : List ℕ) (contents : List (List ℕ)) : Type 0 where
   pub columns : List Field
   pub rows : List (List (List ℕ))
@@ -77,12 +77,12 @@ pub record UnloadsTable (order : Order) (text : List ℕ) (contents : List (List
   pub unloaded : AreUnloaded order label contents records
 
 -- ---- unloaded, and then loaded
--- in the heading of these fields each cell names its own field, and no other one
+-- in the heading of these fields, each cell names only its own field
 abbrev pub AreToldApart : List Field → Type 0
 AreToldApart fields = (k : ℕ) (d field : Field) → k < length fields → IsNamed fields (bare (get_or (heading fields) k [])) field → field ≡ get_or fields k d
 
--- These fields say all of these records: they have each byte of so many, each value can be shown, and each number stands as it is
--- written.
+-- These fields cover whole records of so many bytes. Each value can be shown, and each number has the bytes with which the program writes
+-- it.
 pub record SayAll (record_length : ℕ) (fields : List Field) (records : List (List ℕ)) : Type 0 where
   pub long : All (λ bytes. length bytes ≡ record_length) records
   pub covered : (place : ℕ) → place < record_length → is_inside fields place ≡ true
@@ -93,7 +93,7 @@ pub record SayAll (record_length : ℕ) (fields : List Field) (records : List (L
 abbrev pub ReadsAsTable : (text : List ℕ) (delimiter : ℕ) (fields : List Field) (records : List (List ℕ)) → Type 0
 ReadsAsTable text delimiter fields records = AreRecords (table_config delimiter) st.StartRecord (strip_bom text) (heading fields ∷ map (row_of fields) records)
 
--- the file that is asked for has these records again
+-- the ordered file has these records again
 pub record HasRecordsAgain (order : Order) (records contents : List (List ℕ)) : Type 0 where
   pub label : FileLabel
   pub file : HasFileAsked order contents label

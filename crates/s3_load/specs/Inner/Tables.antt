@@ -15,7 +15,7 @@ use Rattle.s3_load.specs.Inner.Columns.{IsHeading}
 use Rattle.s3_load.specs.Inner.KeyOrder.{AreInKeyOrder}
 use Rattle.s3_load.specs.Inner.Records.{IsRecordOf}
 
--- how a table is read, with this byte between its cells
+-- the settings for reading a table with this byte between its cells
 abbrev pub table_config : ℕ → Config
 table_config delimiter = record default_config { delimiter = delimiter }
 
@@ -29,14 +29,14 @@ abbrev pub HasRead : {R : Type 0} → (R → Option (List ℕ)) → Option (List
 HasRead rem None delimiter rows reader = ⊤
 HasRead rem (Some text) delimiter rows reader = (rest : List ℕ) × (source_of rem reader ≡ Some rest) × Reached (table_config delimiter) st.StartRecord (strip_bom text) rows (reader_state reader) rest
 
--- it has read these rows of the text, and reads the next one next
+-- the reader has read these rows of the text, and reads the next one next
 pub record IsReading {R : Type 0} (rem : R → Option (List ℕ)) (text : Option (List ℕ)) (delimiter : ℕ) (rows : List (List (List ℕ))) (reader : Reader R) : Type 0 where
   pub ready : Ready reader
   pub untrimmed : reader_trim reader ≡ trim.None
   pub config : reader_config reader ≡ table_config delimiter
   pub read : HasRead rem text delimiter rows reader
 
--- it has read a row, whose record is one more; or there was none
+-- the reader has read a row, which gives one record more; or there was none
 pub record AddsRow {R : Type 0} (rem : R → Option (List ℕ)) (record_length : ℕ) (columns filled : List Field) (chosen : ChosenRecords) (first last : Reader R) (old new : List Row) : Type 0 where
   pub cells : List (List ℕ)
   pub row : Row
@@ -49,20 +49,20 @@ pub record FindsEnd {R : Type 0} (rem : R → Option (List ℕ)) (first last : R
   pub read : ReadRecord rem first last false cells
   pub same : new ≡ old
 
--- it has read a heading and rows behind it, and these are their records
+-- the reader has read a heading and rows after it, and these are their records
 pub record HasRows {R : Type 0} (rem : R → Option (List ℕ)) (text : Option (List ℕ)) (delimiter : ℕ) (heading : List (List ℕ)) (record_length : ℕ) (columns filled : List Field) (chosen : ChosenRecords) (reader : Reader R) (rows : List Row) : Type 0 where
   pub cells : List (List (List ℕ))
   pub reading : IsReading rem text delimiter (heading ∷ cells) reader
   pub made : AreRecordsOf record_length columns filled chosen cells rows
 
 -- ---- a table
--- the text has this heading, and these are the records of the rows behind it
+-- the text has this heading, and these are the records of the rows after it
 pub record AreRowsOf (text : List ℕ) (delimiter : ℕ) (heading : List (List ℕ)) (record_length : ℕ) (columns filled : List Field) (chosen : ChosenRecords) (rows : List Row) : Type 0 where
   pub cells : List (List (List ℕ))
   pub are_records : AreRecords (table_config delimiter) st.StartRecord (strip_bom text) (heading ∷ cells)
   pub made : AreRecordsOf record_length columns filled chosen cells rows
 
--- these are the records of a table, each once: in the order of their keys, or, where the file has none, of the rows
+-- the records of a table, each once: in the order of their keys, or for a file without keys in the order of the rows
 pub record IsTable (text : List ℕ) (delimiter : ℕ) (record_length : ℕ) (fields : List Field) (fills : Bool) (chosen : ChosenRecords) (key : Option KeyField) (rows : List Row) : Type 0 where
   pub heading : List (List ℕ)
   pub columns : Columns

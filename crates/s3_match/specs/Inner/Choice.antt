@@ -1,4 +1,4 @@
--- The heads as they are chosen from.
+-- The heads from which selection chooses.
 use Rattle.std.specs.Prelude.{ℕ, ◌≡◌, ◌<◌, ◌&&◌, Bool, true, false, not, List, [], ◌∷◌, Option, Some, length, filter_map, option_map, slice_get, unwrap_or}
 use Rattle.std.specs.Option.{option_and_then}
 use Rattle.s3_lines.specs.declared.sheet.Designation.TheVariants as designation
@@ -17,7 +17,7 @@ use Rattle.s3_match.specs.Inner.Selecting.{selected_of, selected_at}
 abbrev pub heads : Program → List InputFile → List Selected
 heads program files = filter_map (selected_of program) files
 
--- the head at the place, if there is a place
+-- the head at this place, if there is one
 abbrev pub standing_at : Program → List InputFile → Option ℕ → Option Selected
 standing_at program files place = option_and_then (selected_at program files) place
 
@@ -31,7 +31,7 @@ pub record IsHeadAt (files : List InputFile) (place : ℕ) : Type 0 where
 abbrev pub is_keyless : InputFile → Bool
 is_keyless input = has_head input && not input.key.is_given
 
--- ---- the groups that heads are chosen from
+-- ---- the groups from which a head is chosen
 abbrev pub in_group : Group → (last : Option (List ℕ)) → FileLine → (key : Option (List ℕ)) → Bool
 in_group group.Primary last file key = is_designated designation.Primary file
 in_group group.Secondary last file key = is_designated designation.Secondary file
@@ -40,12 +40,12 @@ in_group group.Matched last file key = same_key key last
 abbrev pub is_in : Program → Group → (last : Option (List ℕ)) → InputFile → Bool
 is_in program group last input = has_head input && in_group group last (file_at program input.file) (key_in input.key)
 
--- the least of these heads and of one that stands behind them
+-- the least of these heads and of another one that comes after them
 abbrev pub least_onto : List Selected → Option Selected → Option Selected
 least_onto [] behind = behind
 least_onto (selected ∷ others) behind = Some (lesser selected (least_onto others behind))
 
--- one file alone, with a record without match fields at its head
+-- there is one file, and the record at its head has no match fields
 abbrev pub is_keyless_alone : List InputFile → Bool
 is_keyless_alone (input ∷ []) = is_keyless input
 is_keyless_alone _ = false

@@ -1,4 +1,4 @@
--- The control fields that are held, and what breaks.
+-- The held control fields, and which control levels break.
 use Rattle.std.specs.Prelude.{◌≡◌, ℕ, zero, suc, Bool, not, ◌&&◌, List, Option, None, is_some, find, slice_get, unwrap_or}
 use Rattle.std.specs.Option.{option_and_then, option_or}
 use Rattle.s3_meaning.specs.RecordTypes.{RecordType}
@@ -9,20 +9,20 @@ use Rattle.s3_match.specs.declared.held.HeldField.{HeldField}
 use Rattle.s3_match.specs.Inner.Keys.{held_key}
 use Rattle.s3_match.specs.Inner.Types.{kind_at}
 
--- by level, L1 first
+-- the held value of a level; L1 comes first in the list
 abbrev pub held_in : List HeldField → ℕ → Option (List ℕ)
 held_in held zero = None
 held_in held (suc n) = option_and_then held_key (slice_get held n)
 
--- whether a level breaks, by what is held for each
+-- whether a level breaks, given the held value of each level
 abbrev pub breaks_at : (ℕ → Option (List ℕ)) → RecordType → List ℕ → ℕ → Bool
 breaks_at held kind bytes n = is_some (control_value kind bytes n) && not (same_key (control_value kind bytes n) (held n))
 
--- the greatest level that breaks, 0 if none: the meaning's, at an environment that holds this
+-- the greatest level that breaks, 0 if none: as the meaning has it in an environment with these held values
 abbrev pub break_of : (ℕ → Option (List ℕ)) → RecordType → List ℕ → ℕ
 break_of held kind bytes = unwrap_or (find (breaks_at held kind bytes) levels) 0
 
--- what a record of a type breaks, and what is held then
+-- which level a record of a type breaks, and the values that are held then
 pub record Breaks (program : Program) (start : TypeStart) (bytes : List ℕ) (old new : List HeldField) (broken : ℕ) : Type 0 where
   pub breaks : broken ≡ break_of (held_in old) (kind_at program start) bytes
   pub held : (n : ℕ) → held_in new n ≡ option_or (control_value (kind_at program start) bytes n) (held_in old n)

@@ -1,4 +1,4 @@
--- The match and control fields of record types, on the lines as they stand.
+-- The match and control fields of record types, on the input lines of a program.
 use Rattle.std.specs.Prelude.{ℕ, ◌==◌, Bool, true, false, not, ◌||◌, ◌&&◌, List, [], ◌∷◌, Option, Some, None, is_some, find, if◌then◌else◌}
 use Rattle.std.specs.Option.{option_and_then, option_or}
 use Rattle.std.specs.List.{list_any}
@@ -25,7 +25,7 @@ named_field program field = map_field (name_of (tables_in program)) field
 abbrev pub is_own : Indicator → Option Indicator → Bool
 is_own indicator relation = not (is_some relation) || is_indicator indicator relation
 
--- any level, where none is asked for
+-- whether a field's level is the wanted one; without a wanted level, any level counts
 abbrev pub has_level : Option ℕ → Option ℕ → Bool
 has_level level None = false
 has_level None (Some n) = true
@@ -58,23 +58,23 @@ indicator_on (AndCodes codes) = None
 indicator_on (OrCodes indicator codes) = Some indicator
 indicator_on (InputField field) = None
 
--- such a field of the type that starts at the first of these lines
+-- the match or control field of the type that starts at the first of these lines
 abbrev pub field_of_type : Key → Option ℕ → List (InputLine Reference) → Option (FieldLine Reference)
 field_of_type key level [] = None
 field_of_type key level (line ∷ lines) = option_and_then (λ indicator. first_field indicator key level lines) (indicator_on line)
 
--- ---- whether any type has such a field
+-- ---- whether any type has a match or control field
 abbrev pub names_level : Key → InputLine Reference → Bool
 names_level key (Record file indicator codes) = false
 names_level key (AndCodes codes) = false
 names_level key (OrCodes indicator codes) = false
 names_level key (InputField field) = is_some (level_of key field)
 
--- such a line behind that where the first record type starts
+-- a line after the start of the first record type has such a field
 unfoldable pub some_type_names_level : Key → List (InputLine Reference) → Bool
 some_type_names_level key [] = false
 some_type_names_level key (line ∷ lines) = if is_type line then list_any (names_level key) lines else some_type_names_level key lines
 
--- ---- by what the type's own fields are
+-- ---- the same by the list of the type's own fields
 abbrev pub field_at : Program → TypeStart → Key → Option ℕ → Option (FieldLine Name)
 field_at program start key level = find (λ field. has_level level (level_of key field)) (own_fields (kind_at program start))

@@ -1,4 +1,4 @@
--- The heads of the primary and secondary files as they are kept, and the lists not yet read that they stand for.
+-- The heads of the primary and secondary files as the code keeps them, and the unread lists that they represent.
 use Rattle.std.specs.Prelude.{ℕ, ◌≡◌, Bool, true, false, List, None, slice_get, unwrap_or}
 use Rattle.std.specs.Option.{option_or}
 use Rattle.s3_cards.specs.Names.{no_name}
@@ -15,7 +15,7 @@ use Rattle.s3_match.specs.declared.heads.Standing.TheVariants as at
 use Rattle.s3_match.specs.Inner.Types.{is_type_start, kind_at}
 use Rattle.s3_match.specs.Inner.Keys.{key_in}
 
--- what stands for the file where a slot has none
+-- the file line for a slot without a file
 abbrev pub no_file : FileLine
 no_file = record {
   name = no_name;
@@ -52,7 +52,7 @@ is_head_standing at.Ended = false
 abbrev pub has_head : InputFile → Bool
 has_head input = is_head_standing input.standing
 
--- what stands at the head: as many records were read as its number
+-- the record at the head; its number is the number of records read
 abbrev pub standing_as : Program → (reads : ℕ) → (bytes : List ℕ) → Standing → meaning.Standing
 standing_as program reads bytes at.Unread = meaning.Unread
 standing_as program reads bytes (at.Stands start) = meaning.Stands (record { number = reads; bytes = bytes; kind = kind_at program start })
@@ -66,7 +66,7 @@ input_of program input = record {
   last_key = key_in input.last_key;
 }
 
--- a key is kept with each head
+-- the key is kept with each head
 pub record IsHead (program : Program) (input : InputFile) (start : TypeStart) : Type 0 where
   pub starts : is_type_start program start ≡ true
   pub key : key_in input.key ≡ match_key (kind_at program start) input.bytes
@@ -74,7 +74,7 @@ pub record IsHead (program : Program) (input : InputFile) (start : TypeStart) : 
 pub record IsInput (program : Program) (input : InputFile) : Type 0 where
   pub head : (start : TypeStart) → input.standing ≡ at.Stands start → IsHead program input start
 
--- ---- changes of the file that is meant
+-- ---- changes of the represented file
 abbrev pub unread : Program → ℕ → meaning.InputFile
 unread program file = record { file = file_at program file; standing = meaning.Unread; reads = 0; last_key = None }
 
@@ -84,7 +84,7 @@ ended input = record input { standing = meaning.Ended }
 abbrev pub vacated : meaning.InputFile → meaning.InputFile
 vacated input = record input { standing = meaning.Unread }
 
--- a record is put at the head
+-- a record becomes the head
 abbrev pub put : Program → TypeStart → List ℕ → meaning.InputFile → meaning.InputFile
 put program start bytes input =
     record input {
@@ -92,7 +92,7 @@ put program start bytes input =
       last_key = option_or (match_key (kind_at program start) bytes) input.last_key;
     }
 
--- the bytes are kept, and nothing else changes
+-- the bytes change, and the other fields are unchanged
 pub record Keeps (old new : InputFile) (bytes : List ℕ) : Type 0 where
   pub contents : new.bytes ≡ bytes
   pub file : new.file ≡ old.file

@@ -1,4 +1,4 @@
--- What the laws of selection speak of: heads that may be selected, the first of the least ones, and heads with or without a key.
+-- Definitions for the theorems on selection: heads that may be selected, the first of the least ones, and heads with or without a key.
 use Rattle.std.specs.Prelude.{ℕ, ◌≡◌, Bool, true, false, not, is_some, List, ◌∷◌, ◌++◌, Option, Some, filter_map, slice_get}
 use Rattle.std.specs.Option.{option_and_then}
 use Rattle.std.specs.List.{All, Any}
@@ -9,7 +9,7 @@ use Rattle.s3_meaning.specs.Selection.{Reading, Selected, selectable, key_of, is
 abbrev pub heads_of : Reading → List Selected
 heads_of reading = filter_map selectable reading.files
 
--- the head of the file at the place
+-- the head of the file at this place
 abbrev pub stands_at : Reading → (place : ℕ) → Option Selected
 stands_at reading place = option_and_then selectable (slice_get reading.files place)
 
@@ -20,14 +20,14 @@ pub record IsFirstLeast (heads : List Selected) (selected : Selected) : Type 0 w
   pub stands : heads ≡ before ++ selected ∷ behind
   pub higher : All (λ head. is_less (key_of selected) (key_of head) ≡ true) before
 
--- both are keys, and the same
+-- the head has a key, and the other key is the same
 abbrev pub HasKey : Selected → Option (List ℕ) → Type 0
 HasKey selected other = (key : List ℕ) × (key_of selected ≡ Some key) × (other ≡ Some key)
 
 abbrev pub IsMatchedBySecondary : Reading → Selected → Type 0
 IsMatchedBySecondary reading selected = Any (λ other. (is_designated Secondary other.file ≡ true) × HasKey other (key_of selected)) (heads_of reading)
 
--- the first head of which a test holds
+-- the first head that meets a test
 pub record IsFirst (test : Selected → Bool) (heads : List Selected) (selected : Selected) : Type 0 where
   pub before : List Selected
   pub behind : List Selected

@@ -10,7 +10,7 @@ use Rattle.s3_match.specs.Inner.Fields.{field_at, some_type_names_level}
 use Rattle.s3_match.specs.Inner.LevelField.{field_in, prepared}
 use Rattle.s3_match.specs.Inner.Types.{is_type_start}
 
--- each is the type's first one of its level
+-- each field is the type's first one of its level
 abbrev pub AreByLevel : Key → Program → TypeStart → List (Option LevelField) → Type 0
 AreByLevel key program start fields = (n : ℕ) → 1 ≤ n → n ≤ 9 → field_in fields n ≡ option_map prepared (field_at program start key (Some n))
 
@@ -19,15 +19,15 @@ pub record AreFieldsOf (key : Key) (program : Program) (start : TypeStart) (fiel
   pub any : fields.is_any ≡ is_some (field_at program start key None)
   pub by_level : AreByLevel key program start fields.fields
 
--- those of the type that starts at a line
+-- the fields of the type that starts at a line
 pub record AreFieldsAt (key : Key) (program : Program) (place : ℕ) (fields : LevelFields) : Type 0 where
   pub of_type : (start : TypeStart) → is_type_start program start ≡ true → start.place ≡ place → AreFieldsOf key program start fields
 
--- line by line
+-- the fields of each line
 abbrev pub AreByLine : Key → Program → List LevelFields → Type 0
 AreByLine key program by_line = (place : ℕ) (d : LevelFields) → place < length by_line → AreFieldsAt key program place (get_or by_line place d)
 
--- line by line where some type has any; else of no line
+-- the fields of each line if some type has any; else the list is empty
 pub record AreLevels (key : Key) (program : Program) (levels : Levels) : Type 0 where
   pub many : length levels.by_line.items ≡ (if some_type_names_level key program.inputs.items then length program.inputs.items else 0)
   pub each : AreByLine key program levels.by_line.items

@@ -1,4 +1,4 @@
--- What the cycle holds of its reading, and the files that are still to be read.
+-- The input files as the cycle reads them, and the files that are still to be read.
 use Rattle.std.specs.Prelude.{ℕ, ◌≡◌, ◌+◌, ◌<◌, ◌≤◌, Bool, true, false, List, [], ◌++◌, map, filter, filter_map, take, drop, length, get_or, Option, slice_get, slice_set, slice_index_or, unwrap_or, option_map, None}
 use Rattle.std.specs.List.{All, range_with_len}
 use Rattle.s3_operations.specs.Inner.Places.{indicator_place}
@@ -34,7 +34,7 @@ input_slots program = filter (is_input_slot program) (range_with_len 0 (length p
 abbrev pub slots_of : List InputFile → List ℕ
 slots_of files = map (λ input. input.file) files
 
--- for each file the type of each of its records, if there is such a type
+-- for each file the type that every record has, whatever its bytes, if there is one
 pub record AreOnlyTypes (program : Program) (types : List (Option TypeStart)) : Type 0 where
   pub many : length types ≡ length program.files.items
   pub each : (file : ℕ) (d : Option TypeStart) → file < length types → IsOnlyType program file (get_or types file d)
@@ -43,7 +43,7 @@ pub record AreOnlyTypes (program : Program) (types : List (Option TypeStart)) : 
 abbrev pub indicators_on : List (InputLine Reference) → List Indicator
 indicators_on lines = filter_map indicator_on lines
 
--- their places
+-- the places of these indicators
 pub record ArePlacesOf (lines : List (InputLine Reference)) (places : List ℕ) : Type 0 where
   pub placed : places ≡ map indicator_place (indicators_on lines)
   pub within : All (λ place. place < 1600) places
@@ -56,7 +56,7 @@ pub record AreLinePlaces (lines : List (InputLine Reference)) (places : List ℕ
   pub placed : places ≡ map place_on lines
   pub within : All (λ place. place < 1600) places
 
--- each primary and secondary file stands there once, in F order, with the key of its head; and what is told once of all records
+-- Each primary and secondary file occurs once, in F order, with the key of its head. What holds for all records of a file is kept once.
 pub record IsReading (program : Program) (reading : Reading) : Type 0 where
   pub inputs : All (IsInput program) reading.files.items
   pub slots : slots_of reading.files.items ≡ input_slots program
@@ -67,30 +67,30 @@ pub record IsReading (program : Program) (reading : Reading) : Type 0 where
   pub line_places : AreLinePlaces program.inputs.items reading.line_places.items
 
 -- ---- one of the files
--- what stands for the file where a place has none
+-- the input file for a place without a file
 abbrev pub no_input : meaning.InputFile
 no_input = record { file = no_file; standing = meaning.Ended; reads = 0; last_key = None }
 
 abbrev pub input_at : List meaning.InputFile → (place : ℕ) → meaning.InputFile
 input_at inputs place = slice_index_or inputs place no_input
 
--- the file at the place changes
+-- the file at this place changes
 abbrev pub changed_at : (place : ℕ) → (meaning.InputFile → meaning.InputFile) → meaning.Reading → meaning.Reading
 changed_at place change reading = record reading { files = slice_set reading.files place (change (input_at reading.files place)) }
 
 abbrev pub is_unread_at : List InputFile → (place : ℕ) → Bool
 is_unread_at files place = unwrap_or (option_map is_unread (slice_get files place)) false
 
--- the bytes of the record at the head of the file there, and of the last one once that is taken
+-- the bytes of the record at the head of this file, or of its last record once it was taken
 abbrev pub bytes_at : List InputFile → (place : ℕ) → List ℕ
 bytes_at files place = unwrap_or (option_map (λ input. input.bytes) (slice_get files place)) []
 
--- a file stands at the place, and its next record is to be read
+-- there is a file at this place, and its next record must be read
 pub record IsUnreadAt (files : List InputFile) (place : ℕ) : Type 0 where
   pub within : place < length files
   pub unread : is_unread_at files place ≡ true
 
--- the head of a file, if a record of this type stands there
+-- the head of a file with a record of this type
 abbrev pub head_with : Program → InputFile → TypeStart → meaning.Selected
 head_with program input start = record {
   file = file_at program input.file;
@@ -98,22 +98,22 @@ head_with program input start = record {
 }
 
 -- ---- reading on
--- none of the files from a place on, and before another, is to be read
+-- no file from the first place up to the second must be read
 pub record AreRead (inputs : List meaning.InputFile) (from to : ℕ) : Type 0 where
   pub each : (k : ℕ) → from ≤ k → k < to → meaning.is_unread (input_at inputs k) ≡ false
 
--- the first file from a place on that is to be read
+-- the first file from this place on that must be read
 pub record IsNextUnread (inputs : List meaning.InputFile) (from place : ℕ) : Type 0 where
   pub behind : from ≤ place
   pub within : place < length inputs
   pub unread : meaning.is_unread (input_at inputs place) ≡ true
   pub before : AreRead inputs from place
 
--- the files from a place on are read; those before it stay as they are
+-- the files from this place on are read; those before it are unchanged
 unfoldable pub read_from : Source → Anew → (inputs : List meaning.InputFile) → (place : ℕ) → (List meaning.InputFile → Rest) → Rest
 read_from source anew inputs place go = files_read source anew (drop place inputs) (λ later. go (take place inputs ++ later))
 
--- what follows the reading of the file at a place: it stands there as it is then, and the files behind it are read on
+-- after the file at this place was read: the file is replaced, and the files after it are read
 abbrev pub read_behind : Source → Anew → (inputs : List meaning.InputFile) → (place : ℕ) → (List meaning.InputFile → Rest) → meaning.InputFile → Rest
 read_behind source anew inputs place go input = read_from source anew (slice_set inputs place input) (place + 1) go
 

@@ -1,4 +1,4 @@
--- The lists not yet read that the heads stand for, and tests of heads as they are kept.
+-- The unread lists that the heads represent, and tests of heads as the code keeps them.
 use Rattle.std.specs.Prelude.{ℕ, Bool, true, ◌&&◌, List, Option, map, slice_get, if◌then◌else◌}
 use Rattle.std.specs.Option.{option_and_then}
 use Rattle.s3_lines.specs.declared.sheet.Designation.TheVariants.{Secondary}
@@ -17,7 +17,7 @@ inputs_of program files = map (input_of program) files
 abbrev pub reading_of : Program → List InputFile → RecordKey → Reading
 reading_of program files primary_key = record { files = inputs_of program files; primary_key = key_in primary_key }
 
--- the head of a file, as it can be selected
+-- the head of a file, in the form in which it can be selected
 abbrev pub selected_of : Program → InputFile → Option Selected
 selected_of program input = selectable (input_of program input)
 

@@ -1,4 +1,4 @@
--- Record types by where they start among the I lines of a program.
+-- Record types by the place at which each starts among the I lines of a program.
 use Rattle.std.specs.Prelude.{ℕ, ◌≡◌, ◌+◌, ◌==◌, IfSome, Bool, true, false, ◌&&◌, List, [], ◌∷◌, Option, Some, None, is_some, unwrap_or, find, drop}
 use Rattle.std.specs.List.{list_all}
 use Rattle.s3_cards.specs.declared.name.Name.{Name}
@@ -26,11 +26,11 @@ tables_in program = tables_of (parts_of program)
 abbrev pub name_of_file : Program → ℕ → Name
 name_of_file program file = name_in (tables_in program).files file
 
--- what stands for the type where none starts
+-- the record type for a place at which none starts
 abbrev pub no_type : RecordType
 no_type = record { file = no_name; indicator = LastRecord; codes = []; fields = [] }
 
--- whether a record type starts there, with its fields behind its AND and OR lines
+-- a record type starts there, and its fields come after its AND and OR lines
 abbrev pub is_type_start : Program → TypeStart → Bool
 is_type_start program start =
     is_some (type_at (tables_in program) program.inputs.items start)
@@ -40,12 +40,12 @@ is_type_start program start =
 abbrev pub kind_at : Program → TypeStart → RecordType
 kind_at program start = unwrap_or (type_at (tables_in program) program.inputs.items start) no_type
 
--- ---- codes, on the lines as they stand
+-- ---- record identification codes, on the lines of a program
 abbrev pub entry_holds : List ℕ → Option RecordCode → Bool
 entry_holds bytes (Some code) = code_holds bytes code
 entry_holds bytes None = true
 
--- those of an AND line
+-- whether the codes of an AND line hold
 abbrev pub further_codes_hold : List ℕ → InputLine Reference → Option Bool
 further_codes_hold bytes (Record file indicator codes) = None
 further_codes_hold bytes (AndCodes codes) = Some (list_all (entry_holds bytes) codes)
@@ -60,7 +60,7 @@ unfoldable pub further_hold : List ℕ → List (InputLine Reference) → Bool
 further_hold bytes [] = true
 further_hold bytes (line ∷ lines) = goes_on_by (further_codes_hold bytes line) (further_hold bytes lines)
 
--- those where a type starts
+-- whether the codes of the line at which a type starts hold
 abbrev pub first_codes_hold : List ℕ → InputLine Reference → Bool
 first_codes_hold bytes (Record file indicator codes) = list_all (entry_holds bytes) codes
 first_codes_hold bytes (AndCodes codes) = false
@@ -75,7 +75,7 @@ type_holds bytes (line ∷ lines) = first_codes_hold bytes line && further_hold 
 abbrev pub first_that_holds : List ℕ → List (InputLine Reference) → List TypeStart → Option TypeStart
 first_that_holds bytes inputs starts = find (λ start. type_holds bytes (drop start.place inputs)) starts
 
--- the type of each record of a file, if there is such a type
+-- the type that every record of a file has, whatever its bytes, if there is one
 abbrev pub IsOnlyType : Program → (file : ℕ) → Option TypeStart → Type 0
 IsOnlyType program file only =
     IfSome only (λ start. (bytes : List ℕ) → Some start ≡ first_that_holds bytes program.inputs.items (types_of_file (type_starts program.files.items program.inputs.items) file))

@@ -1,4 +1,4 @@
--- What the makes and openings of a job's files do one after another, once all tests have passed.
+-- Making and opening a job's files, one after another, once all tests have passed.
 use Rattle.std.specs.Prelude.{◌≡◌, ◌≤◌, ℕ, true, false, List, [], ◌∷◌, ◌++◌, map, length, slice_get, is_some, option_map, Option, Some, None, Result, Ok, ⊤}
 use Rattle.std.specs.List.{Contains, list_any}
 use Rattle.s3_cards.specs.declared.levels.LevelId.{LevelId}
@@ -27,9 +27,8 @@ use Rattle.s3_opening.specs.Inner.Tests.{label_of, taken, taken_one}
 use Rattle.s3_opening.specs.Inner.Starts.{step_in, AreRight, IsPlanned}
 use Rattle.s3_opening.specs.Inner.OpenFiles.{HoldsStarted, IsOfLine}
 
--- ---- one make
--- A file is made: nothing of any region has changed but its own sectors, it stands under its label, and what is kept of it is what
--- a new file has.
+-- ---- making one file
+-- A file is made: in the regions only its own sectors have changed, it has its label, and its records are those of a new file.
 pub record IsMade (level : LevelId) (new : NewFile) (label : FileLabel) (areas new_areas : Areas) (old fresh : List (List ℕ)) : Type 0 where
   pub slots : made areas.header.format (region_at level areas) areas.masters new (slots_at level areas) ≡ Ok (slots_at level new_areas)
   pub alone : new_areas ≡ with_slots level (slots_at level new_areas) areas
@@ -41,33 +40,33 @@ pub record IsMade (level : LevelId) (new : NewFile) (label : FileLabel) (areas n
   pub same : (n : ℕ) → 168 ≤ n → ¬ Contains (sectors_of label) n → slice_get fresh n ≡ slice_get old n
   pub kept : kept_on label fresh ≡ first_kept new
 
--- it is opened behind its make
+-- the new file is opened
 pub record IsOpenedNew (name : Name) (label : FileLabel) (contents : List (List ℕ)) (file : OpenFile) : Type 0 where
   pub is : file ≡ record file { name = name; label = label; is_master = false; is_made = true; read = 0; updates = 0; chained = None }
   pub of_label : AreOf label contents file.records
   pub holds : HoldsRecords contents file (kept_on label contents)
 
--- ---- the file of a start
--- it was opened, or it is the new file that was made
+-- ---- the file of a step
+-- the file was opened, or it is the new file that was made
 abbrev pub IsFrom : Start → OpenFile → Type 0
 IsFrom (Opened file) opened = opened ≡ file
 IsFrom (ToMake name new) opened = (opened.name ≡ name) × ((opened.is_master ≡ false) × (opened.label ≡ new_label new opened.label.extents))
 
--- file by file
+-- the files of these steps, one by one
 abbrev pub AreFrom : List Start → List OpenFile → Type 0
 AreFrom [] [] = ⊤
 AreFrom (start ∷ starts) (file ∷ files) = IsFrom start file × AreFrom starts files
 AreFrom [] (file ∷ files) = ⊥
 AreFrom (start ∷ starts) [] = ⊥
 
--- the files of these starts have come behind others
+-- the files of these steps are appended to the open files
 pub record AddsFiles (starts : List Start) (old new : List OpenFile) : Type 0 where
   pub more : List OpenFile
   pub behind : new ≡ old ++ more
   pub from : AreFrom starts more
 
--- ---- starts that are left
--- none of these names is one of those before it
+-- ---- the remaining steps
+-- none of these names is among those before it
 abbrev pub AreNew : (before : List Name) → List Name → Type 0
 AreNew before [] = ⊤
 AreNew before (name ∷ names) = (list_any (λ one. same_name one name) before ≡ false) × AreNew (before ++ name ∷ []) names
@@ -78,22 +77,22 @@ labels_open files = map (λ file. file.label.name) files
 abbrev pub labels_left : List Start → List Name
 labels_left starts = map (λ start. label_of (step_in start)) starts
 
--- with these files open, the starts that are left can be gone through without a refusal
+-- with these files open, the remaining steps meet no refusal
 pub record CanStart (level : LevelId) (open_files : List OpenFile) (seen : Seen) (starts : List Start) : Type 0 where
   pub ready : IsReady level open_files seen
   pub right : AreRight level seen starts
   pub planned : IsPlanned level seen.areas (map step_in starts)
   pub new : AreNew (labels_open open_files) (labels_left starts)
 
--- ---- one start
--- the files of the step are held but for its own file, which is yet to come behind the others
+-- ---- one step
+-- the open files represent the files of the step, except the step's own file, which isn't appended yet
 pub record IsHeldFor (level : LevelId) (open_files : List OpenFile) (seen : Seen) (file : OpenFile) (came : Result FilesInUse HaltCode) : Type 0 where
   pub before : FilesInUse
   pub is : came ≡ Ok (with_file (job_file_of file) before)
   pub holds : Holds level open_files seen before
   pub records : HoldsRecords seen.contents file ((area_by file.is_master before.files).kept file.label.name)
 
--- the file of a start is ready to come behind the others
+-- the file of a step can be appended
 pub record Readies (level : LevelId) (start : Start) (file : OpenFile) (old new : Seen) : Type 0 where
   pub from : IsFrom start file
   pub stands : Stands level new file
@@ -104,25 +103,25 @@ pub record Readies (level : LevelId) (start : Start) (file : OpenFile) (old new 
   pub holds : (items : List OpenFile) (in_use : FilesInUse) → CanStart level items old (start ∷ []) → Holds level items old in_use
       → IsHeldFor level items new file (taken_one (step_in start) in_use)
 
--- it has come behind the others
+-- the file of a step is appended
 pub record Starts (level : LevelId) (start : Start) (old_files new_files : List OpenFile) (old new : Seen) : Type 0 where
   pub adds : AddsFiles (start ∷ []) old_files new_files
   pub can : (rest : List Start) → CanStart level old_files old (start ∷ rest) → CanStart level new_files new rest
   pub holds : (in_use : FilesInUse) → CanStart level old_files old (start ∷ []) → Holds level old_files old in_use
       → HoldsStarted level new_files new (taken_one (step_in start) in_use)
 
--- ---- one start after another
--- whatever was held with some files is held with those that these starts add
+-- ---- steps one after another
+-- each state that was represented by some files is represented by those and the files of these steps
 abbrev pub HoldsAll : LevelId → List Start → (items later : List OpenFile) → (old new : Seen) → Type 0
 HoldsAll level starts items later old new = (in_use : FilesInUse) → Holds level items old in_use → HoldsStarted level later new (taken (map step_in starts) in_use)
 
--- all of them have come behind the others
+-- the files of all steps are appended
 pub record StartsAll (level : LevelId) (starts : List Start) (old_files new_files : List OpenFile) (old new : Seen) : Type 0 where
   pub adds : AddsFiles starts old_files new_files
   pub ready : IsReady level new_files new
   pub holds : HoldsAll level starts old_files new_files old new
 
--- ---- of which lines they are
+-- ---- of which lines the steps are
 -- the new file that a line asks for
 pub record IsAskedBy (line : FileLine) (new : NewFile) : Type 0 where
   pub record_length : new.record_length ≡ line.record_length
@@ -142,7 +141,7 @@ pub record IsStartOf (statements : List FileStatement) (line : FileLine) (start 
   pub suits : SuitsLine line start
   pub stated : label_by statements line.name ≡ Some (label_of (step_in start))
 
--- start by start
+-- the steps of these lines, one by one
 abbrev pub AreStartsOf : List FileStatement → List FileLine → List Start → Type 0
 AreStartsOf statements [] [] = ⊤
 AreStartsOf statements (line ∷ lines) (start ∷ starts) = IsStartOf statements line start × AreStartsOf statements lines starts

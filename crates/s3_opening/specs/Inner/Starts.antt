@@ -1,4 +1,4 @@
--- The files of a job as the code has them at its start, and what calls on them answer.
+-- The files of a job as the code has them at its start, and the answers of calls on them.
 use Rattle.std.specs.Prelude.{◌≡◌, ◌+◌, ℕ, Bool, true, List, slice_get, Option, Some, None, Result, Ok, Err, IsOk, ⊤, if◌then◌else◌}
 use Rattle.s3_cards.specs.declared.levels.LevelId.{LevelId}
 use Rattle.s3_operator.specs.declared.halt_code.HaltCode.{HaltCode}
@@ -33,14 +33,14 @@ abbrev pub step_in : Start → Step
 step_in (Opened file) = Opens (job_file_of file)
 step_in (ToMake name new) = Makes name new
 
--- ---- what calls answer
--- the value shows this, or it halts as is meant
+-- ---- answers of calls
+-- the value represents this result, or the call halts as meant
 abbrev pub Gives : {T X : Type 0} → (T → X) → Result X HaltCode → Result T OpeningFault → Type 0
 Gives shown meant (Ok value) = meant ≡ Ok (shown value)
 Gives shown meant (Err (Halted code)) = meant ≡ Err code
 Gives shown meant (Err (Sectors fault)) = ⊤
 
--- with these files tested so far
+-- the steps of the files tested so far
 abbrev pub TestsTo : {T : Type 0} → Tested → List Step → Result T OpeningFault → Type 0
 TestsTo meant steps (Ok _) = meant ≡ passed steps
 TestsTo meant steps (Err (Halted code)) = meant ≡ refused_at steps code
@@ -51,28 +51,28 @@ failed_opening (Ok _) = 0
 failed_opening (Err (Halted code)) = 0
 failed_opening {T} (Err (Sectors fault)) = failed_transfers {T = T} (Err fault)
 
--- no slot and no sector changes, and each transfer that failed is counted
+-- no slot and no sector changes, and each failed transfer is counted
 pub record ReadsPack {T : Type 0} (result : Result T OpeningFault) (old new : Areas) (s t : PoolState) : Type 0 where
   pub areas : new ≡ old
   pub keeps : KeepsContents s t
   pub failures : t.failures ≡ s.failures + failed_opening result
 
--- what a file with a bad index halts for
+-- the halt for a file with a bad index
 abbrev pub halt_unless_good : (has_good_index : Bool) → Option HaltCode
 halt_unless_good has_good_index = if has_good_index then None else Some BadIndex
 
 abbrev pub index_refusal : FileLabel → List (List ℕ) → Option HaltCode
 index_refusal label contents = halt_unless_good (kept_on label contents).has_good_index
 
--- ---- what is true of a file that passed its tests
--- the records are those of its label, as the sectors have them
+-- ---- files that passed their tests
+-- the records are those of the label in these sectors
 pub record IsKeptFile (contents : List (List ℕ)) (label : FileLabel) (records : OpenRecords) : Type 0 where
   pub of_label : AreOf label contents records
   pub counted : count_of records ≡ label.count
   pub kept : (kept_on label contents).records ≡ records_of records contents
   pub good : (kept_on label contents).has_good_index ≡ true
 
--- it stands as it was opened, and what is kept of it is what the sectors have under its label
+-- the file is as it was opened, and it represents what the sectors have for its label
 pub record IsOpened (level : LevelId) (seen : Seen) (file : OpenFile) : Type 0 where
   pub stands : Stands level seen file
   pub holds : HoldsRecords seen.contents file (kept_on file.label seen.contents)
@@ -89,7 +89,7 @@ abbrev pub IsHaltOfPlan : HaltCode → Result (List Slot) (ℕ × LabelFault) �
 IsHaltOfPlan code (Ok slots) = ⊥
 IsHaltOfPlan code (Err fault) = code ≡ halt_of_make fault.1
 
--- it passes where the plan does, or halts for what the plan refuses
+-- the call succeeds if the plan does, or it halts for the plan's refusal
 abbrev pub PlansTo : {T : Type 0} → Result (List Slot) (ℕ × LabelFault) → Result T OpeningFault → Type 0
 PlansTo plan (Ok _) = IsOk plan
 PlansTo plan (Err (Halted code)) = IsHaltOfPlan code plan
@@ -100,19 +100,19 @@ abbrev pub fault_of_plan : PlanFault → OpeningFault
 fault_of_plan (File place fault) = Halted (halt_of_make fault)
 fault_of_plan NoMemoryToPlan = Sectors NoMemory
 
--- A make that the plan refuses comes before the file that failed its tests, behind which nothing is planned.
+-- If a test failed, nothing after that file is planned. So a refusal by the plan is for an earlier file, and comes first.
 abbrev pub first_refusal : (tested planned : Result (Unit {0}) OpeningFault) → Result (Unit {0}) OpeningFault
 first_refusal (Err (Sectors fault)) planned = Err (Sectors fault)
 first_refusal (Err (Halted code)) (Ok _) = Err (Halted code)
 first_refusal (Err (Halted code)) (Err fault) = Err fault
 first_refusal (Ok _) planned = planned
 
--- the makes among these steps could be made
+-- the files to make among these steps have space
 abbrev pub IsPlanned : LevelId → Areas → List Step → Type 0
 IsPlanned level areas steps = IsOk (planned 0 areas.header.format (region_at level areas) areas.masters (news_of steps) (slots_at level areas))
 
 -- ---- the start of a job
--- the start comes to these steps, or halts as is meant
+-- the start gives these steps, or it halts as meant
 abbrev pub Comes : {T : Type 0} → (T → List Step) → (in_use : FilesInUse) → Result FilesInUse HaltCode → Result T OpeningFault → Type 0
 Comes steps in_use meant (Ok value) = meant ≡ taken (steps value) in_use
 Comes steps in_use meant (Err (Halted code)) = meant ≡ Err code

@@ -1,4 +1,4 @@
--- What the slots and the sectors of a pack say of the files of a job, whatever files are held.
+-- The tests of a job's files, by the slots and the sectors of a pack alone.
 use Rattle.std.specs.Prelude.{ℕ, Bool, false, not, ◌&&◌, List, [], ◌∷◌, ◌++◌, Option, Some, None, Result, Ok, Err, filter_map, if◌then◌else◌}
 use Rattle.std.specs.List.{list_any}
 use Rattle.s3_lines.specs.Files.{is_only_read}
@@ -21,7 +21,7 @@ use Rattle.s3_job_files.specs.Inner.Holds.{Seen}
 use Rattle.s3_opening.specs.Asked.{is_used, is_new, is_of_layout, new_file}
 use Rattle.s3_opening.specs.Opening.{Settings, job_file, with_file, make_file, refusal_of, statement_of, unless_halted}
 
--- what a file of the job comes to: it is opened, or made under the name by which the program knows it
+-- the step for a file: it is opened, or it is made with the name by which the program knows it
 pub data Step : Type 0 where
   Opens : JobFile → Step
   Makes : (name : Name) → NewFile → Step
@@ -30,18 +30,18 @@ abbrev pub label_of : Step → Name
 label_of (Opens file) = file.label
 label_of (Makes name new) = new.name
 
--- ---- what the steps make of files
+-- ---- the files after the steps
 abbrev pub taken_one : Step → FilesInUse → Result FilesInUse HaltCode
 taken_one (Opens file) so_far = Ok (with_file file so_far)
 taken_one (Makes name new) so_far = make_file name new so_far
 
--- one after another, up to the first halt
+-- the steps one after another, up to the first halt
 unfoldable pub taken : List Step → FilesInUse → Result FilesInUse HaltCode
 taken [] so_far = Ok so_far
 taken (step ∷ steps) so_far = unless_halted (taken_one step so_far) (taken steps)
 
 -- ---- tests of one file
--- what a line doesn't allow of a file that stands, whatever its index is
+-- what a line refuses in an existing file, apart from its index
 unfoldable pub line_refusal : FileLine → (is_master : Bool) → FileLabel → Option HaltCode
 line_refusal line is_master label =
     if is_master && not (is_only_read line) then Some MasterForUpdate
@@ -81,7 +81,7 @@ step_stated level seen date steps line (Some statement) =
     if is_label_of statement.label steps then Err DuplicateLabel
     else (if is_new line then Ok (Makes line.name (new_file date line statement)) else opening (tested_file level seen line statement.label))
 
--- the step of a file that the job uses, behind these steps
+-- the step of a file that the job uses, after these steps
 unfoldable pub step_of : LevelId → Seen → Settings → List Step → FileLine → Result Step HaltCode
 step_of level seen settings steps line = step_stated level seen settings.date steps line (statement_of line.name settings.statements)
 
@@ -116,7 +116,7 @@ new_of (Makes name new) = Some new
 abbrev pub news_of : List Step → List NewFile
 news_of steps = filter_map new_of steps
 
--- what comes of them over files: the steps, and then the refusal
+-- the steps over files, and then the refusal
 abbrev pub ending : Option HaltCode → FilesInUse → Result FilesInUse HaltCode
 ending None so_far = Ok so_far
 ending (Some code) so_far = Err code

@@ -1,4 +1,4 @@
--- A halt of the log as the definitions see it.
+-- A halt of the log in the terms of the definitions.
 use Rattle.s3_operator.specs.declared.halt.Halt.{Halt}
 use Rattle.s3_operator.specs.Halts.{ShownHalt}
 

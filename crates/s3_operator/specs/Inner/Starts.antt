@@ -1,4 +1,4 @@
--- Which halts are of a job that couldn't be started.
+-- The halts of a job that couldn't be started.
 use Rattle.std.specs.Prelude.{Bool, true, false}
 use Rattle.s3_operator.specs.declared.halt_code.HaltCode.{HaltCode}
 use Rattle.s3_operator.specs.declared.halt_kind.HaltKind.{HaltKind}
@@ -10,7 +10,6 @@ is_not_started GoesOn = false
 is_not_started Ends = false
 is_not_started NotStarted = true
 
--- whether no cycle of the job has begun where it shows the halt, so that a reply passes it over; every other halt is of a job
--- at work
+-- Whether the job's cycle hasn't begun when it shows this halt, so that a reply passes the job over. Any other halt is of a running job.
 abbrev pub is_at_start : HaltCode → Bool
 is_at_start code = is_not_started (kind_of code)

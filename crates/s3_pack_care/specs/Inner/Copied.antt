@@ -1,4 +1,4 @@
--- A file that was copied, what stays of the pack that it was copied into, and when a file isn't copied.
+-- A copied file, what is unchanged on the pack that gets the copy, and when a copy is refused.
 use Rattle.std.specs.Prelude.{◌≡◌, ◌<◌, ℕ, zero, suc, ◌/◌, true, false, List, [], length, slice_get, Some, None, Ok, Err, ⊤}
 use Rattle.std.specs.List.{Contains, list_any}
 use Rattle.s3_cards.specs.Names.{is_name}
@@ -27,7 +27,7 @@ use Rattle.s3_pack_care.specs.declared.fault.CareFault.{CareFault}
 use Rattle.s3_pack_care.specs.declared.fault.CareFault.TheVariants.{Damaged, Exists, Label, Mount, NoMemory, NoName, SourceLabel, SourceMount}
 
 -- ---- the file
--- the file of a label in an area of a pack, by its label and its bytes
+-- the file of a label in an area of a pack: its label and its bytes
 pub record IsSource (area : ℕ) (name : Name) (label : FileLabel) (bytes : List ℕ) (contents : List (List ℕ)) : Type 0 where
   pub stands : (header : Header) → mounted contents ≡ Ok header → standing name (slots_in area (areas_on header contents)) ≡ Present label
   pub mounts : AreOn contents (λ areas. standing name (slots_in area areas) ≡ Present label)
@@ -38,18 +38,18 @@ pub record IsSource (area : ℕ) (name : Name) (label : FileLabel) (bytes : List
 abbrev pub tracks_in : FileLabel → ℕ
 tracks_in label = length (sectors_of label) / 24
 
--- the label of a copy says what that of the file says, but for the name and the place
+-- the label of a copy: the label of the file, with another name and place
 abbrev pub copied_label : Name → FileLabel → List Stretch → FileLabel
 copied_label name source extents = record source { name = name; extents = extents }
 
--- ---- the room for a copy
--- the masters' slots beside those of a level, whose files may not have the label of one; none beside the masters' own
+-- ---- the space for a copy
+-- the masters' slots for a level, whose files can't have the label of a master; none for the masters' own area
 abbrev pub masters_beside : ℕ → Areas → List Slot
 masters_beside zero areas = []
 masters_beside (suc n) areas = areas.masters
 
--- a slot and a label for a copy in an area: no slot of it is damaged, nothing stands under the name, nor a master of it beside a
--- level's files; the slot is the lowest free one, and the file lies where a new one of as many tracks would be made
+-- A slot and a label for a copy in an area: no slot of the area is damaged, no file has the name, and for a level no master has it. The
+-- slot is the lowest free one, and the file's place is that of a new file of as many tracks.
 pub record IsRoom (area : ℕ) (name : Name) (source : FileLabel) (areas : Areas) (slot : ℕ) (label : FileLabel) : Type 0 where
   pub undamaged : first_damaged (slots_in area areas) ≡ None
   pub absent : standing name (slots_in area areas) ≡ Absent
@@ -58,19 +58,19 @@ pub record IsRoom (area : ℕ) (name : Name) (source : FileLabel) (areas : Areas
   pub lies : placed areas.header.format (region_in area areas) (slots_in area areas) (tracks_in source) ≡ Some label.extents
   pub labelled : label ≡ copied_label name source label.extents
 
--- ---- the room for a copy is nobody's
--- a slot may hold a sector: that of its file, and, if it is damaged, any of its area's region
+-- ---- the space for a copy is free
+-- a slot may have this sector: a valid slot has those of its file, a damaged one may have any of its area's region
 abbrev pub MayHold : Stretch → Slot → (n : ℕ) → Type 0
 MayHold region Free n = ⊥
 MayHold region (Sound label) n = Contains (sectors_of label) n
 MayHold region (DamagedSlot name) n = IsIn region n
 
--- no slot of the three areas may hold it
+-- no slot of the three areas may have the sector
 abbrev pub IsFreeSector : Header → List (List ℕ) → (n : ℕ) → Type 0
 IsFreeSector header contents n = (a i : ℕ) (slot : Slot) → a < 3 → slot_on header contents a i ≡ Some slot → MayHold (region_in a (areas_on header contents)) slot n → ⊥
 
 -- ---- what a copy leaves
--- the file in a slot has the label of a copy and these bytes; no sector but those of the file has changed
+-- the file in a slot has the label of a copy and these bytes; only sectors of the file have changed
 pub record IsFilled (area slot : ℕ) (name : Name) (source : FileLabel) (bytes : List ℕ) (header : Header) (old new : List (List ℕ)) : Type 0 where
   pub label : FileLabel
   pub there : slot_on header old area slot ≡ Some (Sound label)
@@ -79,8 +79,8 @@ pub record IsFilled (area slot : ℕ) (name : Name) (source : FileLabel) (bytes 
   pub count : length new ≡ length old
   pub sectors : (n : ℕ) → ¬ Contains (sectors_of label) n → slice_get new n ≡ slice_get old n
 
--- a slot that was free has a file with the label of a copy and these bytes, in sectors that no slot may have held, and all other
--- files are there
+-- A slot that was free has a file with the label of a copy and these bytes, in sectors that no slot may have had. All other files are
+-- unchanged.
 pub record IsWith (area slot : ℕ) (name : Name) (source : FileLabel) (bytes : List ℕ) (header : Header) (old new : List (List ℕ)) : Type 0 where
   pub mounts : mounted new ≡ Ok header
   pub was_free : slot_on header old area slot ≡ Some Free
@@ -92,16 +92,16 @@ pub record IsWith (area slot : ℕ) (name : Name) (source : FileLabel) (bytes : 
   pub filled : bytes_at (sectors_of label) new ≡ bytes
   pub others : (a i : ℕ) → IsOther area slot a i → KeepsFile header old new a i
 
--- ---- when a file isn't copied
--- why a file isn't read: the pack isn't mounted, for its header, or the label doesn't stand or is blocked
+-- ---- when a copy is refused
+-- why a file can't be read: the pack can't be mounted, because of its header; or no file has the label, or a damaged slot has it
 abbrev pub RefusesSource : (area : ℕ) → Name → List (List ℕ) → CareFault → Type 0
 RefusesSource area name contents (SourceMount fault) = mounted contents ≡ Err fault
 RefusesSource area name contents (SourceLabel fault) = AreOn contents (λ areas. refusal (standing name (slots_in area areas)) ≡ Some fault)
 RefusesSource area name contents NoMemory = ⊤
 RefusesSource area name contents _ = ⊥
 
--- why an area has no room for a copy under a name: the name is none; a slot is damaged, this one first; a file has the name; a
--- master has it; no slot is free; no free stretches have as many tracks
+-- Why an area has no space for a copy with a name: the name is malformed; a slot is damaged (the first one is reported); a file has the
+-- name; a master has it; no slot is free; the free extents have too few tracks.
 abbrev pub Forbids : (area : ℕ) → Name → FileLabel → Areas → CareFault → Type 0
 Forbids area name source areas NoName = is_name name.codes ≡ false
 Forbids area name source areas (Damaged slot) = first_damaged (slots_in area areas) ≡ Some slot
@@ -111,18 +111,18 @@ Forbids area name source areas (Label NoFreeSlot) = free_slot (slots_in area are
 Forbids area name source areas (Label NoSpace) = placed areas.header.format (region_in area areas) (slots_in area areas) (tracks_in source) ≡ None
 Forbids area name source areas _ = ⊥
 
--- nothing is said of memory
+-- the same reasons, or memory ran out
 abbrev pub RefusesRoom : (area : ℕ) → Name → FileLabel → Areas → CareFault → Type 0
 RefusesRoom area name source areas NoMemory = ⊤
 RefusesRoom area name source areas fault = Forbids area name source areas fault
 
--- the file is there, and the pack that is to have a copy has no room for it
+-- the file exists, and the pack for the copy has no space for it
 pub record IsForbidden (from_area : ℕ) (name : Name) (area : ℕ) (new_name : Name) (from old : List (List ℕ)) (fault : CareFault) : Type 0 where
   pub source : FileLabel
   pub read : AreOn from (λ areas. standing name (slots_in from_area areas) ≡ Present source)
   pub forbids : AreOn old (λ areas. Forbids area new_name source areas fault)
 
--- why a file isn't copied; nothing is said of memory
+-- why a file isn't copied; or memory ran out
 abbrev pub RefusesCopy : (from_area : ℕ) → Name → (area : ℕ) → Name → (from old : List (List ℕ)) → CareFault → Type 0
 RefusesCopy from_area name area new_name from old (SourceMount fault) = mounted from ≡ Err fault
 RefusesCopy from_area name area new_name from old (SourceLabel fault) = AreOn from (λ areas. refusal (standing name (slots_in from_area areas)) ≡ Some fault)
@@ -131,7 +131,7 @@ RefusesCopy from_area name area new_name from old NoMemory = ⊤
 RefusesCopy from_area name area new_name from old fault = IsForbidden from_area name area new_name from old fault
 
 -- ---- a copy
--- a pack with a copy of a file of another; nothing forbade it, so no slot of the area that got it was damaged
+-- a pack with a copy of a file of another pack; nothing forbade it, so no slot of the area that got it was damaged
 pub record IsCopy (from_area : ℕ) (name : Name) (area : ℕ) (new_name : Name) (from old new : List (List ℕ)) : Type 0 where
   pub slot : ℕ
   pub slot_in : slot < 32

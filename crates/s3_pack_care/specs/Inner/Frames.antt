@@ -1,4 +1,4 @@
--- What a call may change of a pack, byte by byte. All else is as it was: the other labels, files and areas, the header, the spool
+-- What a call may change on a pack, byte by byte. All other bytes are unchanged: other labels, files and areas, the header, the spool
 -- blocks, the free space, the spare sectors, and the bytes after the last sector.
 use Rattle.std.specs.Prelude.{◌≡◌, ◌≤◌, ◌<◌, ◌⊎◌, ◌+◌, ◌*◌, ◌/◌, ℕ, List, length, slice_get, Some, Ok}
 use Rattle.std.specs.List.{Contains}
@@ -16,7 +16,7 @@ use Rattle.s3_pack_care.specs.Inner.Kept.{slot_on}
 use Rattle.s3_pack_care.specs.Inner.Rows.{ChangesSectors}
 use Rattle.s3_pack_care.specs.declared.deleting.Chosen.{Chosen}
 
--- there are as many bytes, and none has changed but these
+-- the number of bytes is the same, and only these bytes have changed
 pub record ChangesBytes (IsChanged : ℕ → Type 0) (old new : List ℕ) : Type 0 where
   pub long : length new ≡ length old
   pub others : (k : ℕ) → ¬ IsChanged k → slice_get new k ≡ slice_get old k
@@ -26,11 +26,11 @@ pub record ChangesBytes (IsChanged : ℕ → Type 0) (old new : List ℕ) : Type
 abbrev pub IsInSlot : (area i k : ℕ) → Type 0
 IsInSlot area i k = (256 + 2048 * area + 64 * i ≤ k) × (k < 256 + 2048 * area + 64 * i + 64)
 
--- it is in one of these sectors
+-- byte k is in one of these sectors
 abbrev pub IsInSectors : List ℕ → (k : ℕ) → Type 0
 IsInSectors sectors k = Contains sectors (k / 256)
 
--- it is in the slot that is meant
+-- byte k is in the meant slot
 pub record IsInChosen (area : ℕ) (chosen : Chosen) (contents : List (List ℕ)) (k : ℕ) : Type 0 where
   pub header : Header
   pub mounts : mounted contents ≡ Ok header
@@ -38,7 +38,7 @@ pub record IsInChosen (area : ℕ) (chosen : Chosen) (contents : List (List ℕ)
   pub is : chosen_in chosen (slots_in area (areas_on header contents)) ≡ Some slot
   pub at : IsInSlot area slot k
 
--- an area has a file of this name, and this is so of its slot and its label
+-- an area has a file of this name, and its slot and its label meet this predicate
 pub record IsOfFile (area : ℕ) (name : Name) (contents : List (List ℕ)) (is : ℕ → FileLabel → Type 0) : Type 0 where
   pub header : Header
   pub mounts : mounted contents ≡ Ok header
@@ -52,13 +52,13 @@ pub record IsOfFile (area : ℕ) (name : Name) (contents : List (List ℕ)) (is 
 abbrev pub IsInFile : (area : ℕ) → Name → List (List ℕ) → (k : ℕ) → Type 0
 IsInFile area name contents k = IsOfFile area name contents (λ slot label. IsInSectors (sectors_of label) k)
 
--- it is in the slot of that file, or in its sectors
+-- byte k is in the slot of that file, or in its sectors
 abbrev pub IsInLabelled : (area : ℕ) → Name → List (List ℕ) → (k : ℕ) → Type 0
 IsInLabelled area name contents k = IsOfFile area name contents (λ slot label. IsInSlot area slot k ⊎ IsInSectors (sectors_of label) k)
 
--- ---- the same of sectors and slots, as inner functions say it
--- Each slot of the area has the same bytes, except for the slot of the file of a name, and except for these. Each sector that has no
--- label of the area is the same, except for the file's own.
+-- ---- the same frame conditions by sectors and slots, for inner functions
+-- In the area only the slot of the file of a name has changed, and slots of the given predicate. Of the sectors without a label of the
+-- area, only the file's own have changed.
 pub record ChangesFile (area : ℕ) (name : Name) (IsAlso : ℕ → Type 0) (old new : List (List ℕ)) : Type 0 where
   pub header : Header
   pub mounts : mounted new ≡ Ok header

@@ -1,4 +1,4 @@
--- What stays of a pack where a file of it is deleted, or one is added.
+-- What is unchanged on a pack when a file is deleted or added.
 use Rattle.std.specs.Prelude.{◌≡◌, ◌≢◌, ◌<◌, ◌+◌, ◌*◌, ◌/◌, ◌%◌, ℕ, Bool, true, false, List, replicate, slice_get, Option, Some, Ok, Err, ⊤}
 use Rattle.s3_store.specs.Inner.Bytes.{with_piece}
 use Rattle.s3_slots.specs.Header.{mounted}
@@ -14,7 +14,7 @@ use Rattle.s3_labels.specs.declared.fault.Refusal.TheVariants.{BadPack, Sectors}
 use Rattle.s3_pack_care.specs.declared.fault.CareFault.{CareFault}
 use Rattle.s3_pack_care.specs.declared.fault.CareFault.TheVariants.{Mount, NoMemory, Uncovers}
 
--- ---- slots as they are judged
+-- ---- validated slots
 abbrev pub same_kind : Slot → Slot → Bool
 same_kind Free Free = true
 same_kind (Damaged name) (Damaged other) = true
@@ -30,35 +30,35 @@ abbrev pub fault_of : Refusal → CareFault
 fault_of (BadPack fault) = Mount fault
 fault_of (Sectors fault) = NoMemory
 
--- a pack is refused by its header; nothing is said of memory
+-- a pack is refused for its header, or memory ran out
 abbrev pub IsMountRefusal : List (List ℕ) → CareFault → Type 0
 IsMountRefusal contents (Mount fault) = mounted contents ≡ Err fault
 IsMountRefusal contents NoMemory = ⊤
 IsMountRefusal contents _ = ⊥
 
--- these sectors are mounted, and this is so of the areas on them
+-- these sectors can be mounted, and the areas on them meet this predicate
 pub record AreOn (contents : List (List ℕ)) (are : Areas → Type 0) : Type 0 where
   pub header : Header
   pub mounts : mounted contents ≡ Ok header
   pub so : are (areas_on header contents)
 
--- these sectors are mounted as these areas
+-- these sectors are mounted with these areas
 pub record IsMounted (areas : Areas) (contents : List (List ℕ)) : Type 0 where
   pub mounts : mounted contents ≡ Ok areas.header
   pub judged : areas ≡ areas_on areas.header contents
 
--- what stands in slot i of an area of a pack with this header
+-- slot i of an area of a pack with this header
 abbrev pub slot_on : Header → List (List ℕ) → (area i : ℕ) → Option Slot
 slot_on header contents area i = slice_get (slots_in area (areas_on header contents)) i
 
--- another slot than this one of the three areas
+-- a slot of the three areas other than this one
 pub record IsOther (area slot a i : ℕ) : Type 0 where
   pub area_in : a < 3
   pub slot_in : i < 32
   pub other : a ≡ area → i ≡ slot → ⊥
 
--- ---- what a written slot leaves
--- one slot has these bytes, each other one has its own and is judged as it was, and no other sector has changed
+-- ---- after a slot is written
+-- one slot has these bytes, each other slot has its own bytes and is validated as before, and no other sector has changed
 pub record IsRelabelled (area slot : ℕ) (bytes : List ℕ) (header : Header) (old new : List (List ℕ)) : Type 0 where
   pub mounts : mounted new ≡ Ok header
   pub own : slot_bytes area new slot ≡ bytes
@@ -66,7 +66,7 @@ pub record IsRelabelled (area slot : ℕ) (bytes : List ℕ) (header : Header) (
   pub others : (a i : ℕ) → IsOther area slot a i → slot_on header new a i ≡ slot_on header old a i
   pub sectors : (n : ℕ) → n ≢ labels_at area + slot / 4 → slice_get new n ≡ slice_get old n
 
--- slot i of one of the three areas, but for the one that is written, isn't of the kind that it was
+-- slot i of one of the three areas isn't of the same kind as before; the written slot doesn't count
 pub record IsChanged (area slot : ℕ) (old new : Areas) (i : ℕ) : Type 0 where
   pub in_area : ℕ
   pub is : IsOther area slot in_area i
@@ -76,19 +76,19 @@ pub record IsChanged (area slot : ℕ) (old new : Areas) (i : ℕ) : Type 0 wher
 abbrev pub with_slot : (area slot : ℕ) → List ℕ → List (List ℕ) → List (List ℕ)
 with_slot area slot bytes contents = with_piece contents (labels_at area + slot / 4) (slot % 4 * 64) bytes
 
--- a slot isn't written where another one would not be what it was; nothing is said of memory
+-- a slot isn't written if another slot would change; or memory ran out
 abbrev pub RefusesWritten : (area slot : ℕ) → List ℕ → Header → List (List ℕ) → CareFault → Type 0
 RefusesWritten area slot bytes header old (Uncovers other) = IsChanged area slot (areas_on header old) (areas_on header (with_slot area slot bytes old)) other
 RefusesWritten area slot bytes header old NoMemory = ⊤
 RefusesWritten area slot bytes header old _ = ⊥
 
--- ---- what a call leaves
--- a slot is as it was, and its file has the same bytes
+-- ---- what a call leaves unchanged
+-- a slot is unchanged, and its file has the same bytes
 pub record KeepsFile (header : Header) (old new : List (List ℕ)) (a i : ℕ) : Type 0 where
   pub slot : slot_on header new a i ≡ slot_on header old a i
   pub bytes : (label : FileLabel) → slot_on header old a i ≡ Some (Sound label) → file_bytes label new ≡ file_bytes label old
 
--- a slot is free and of zeros, and all other files are there
+-- a slot is free and has zeros, and all other files are unchanged
 pub record IsWithout (area slot : ℕ) (header : Header) (old new : List (List ℕ)) : Type 0 where
   pub mounts : mounted new ≡ Ok header
   pub zeros : slot_bytes area new slot ≡ replicate 64 0

@@ -1,4 +1,4 @@
--- Rows, and the files that they are read from and written to.
+-- Rows, which have a record and its key, and the files that they are read from and written to.
 use Rattle.std.specs.Prelude.{◌≡◌, ◌*◌, ℕ, List, drop, slice_get}
 use Rattle.std.specs.List.{Contains}
 use Rattle.s3_store.specs.Bytes.{bytes_at}
@@ -16,7 +16,7 @@ shape_of file = record { sectors = file.sectors; record_length = file.record_len
 abbrev pub IsKeyed : List SortField → Row → Type 0
 IsKeyed fields row = row.key.items ≡ key_of fields row.bytes.items
 
--- the bytes of a file after its last record are the same, to the end of its sectors
+-- the bytes of a file after its last record, up to the end of its sectors, are unchanged
 abbrev pub KeepsTail : FileShape → (old new : List (List ℕ)) → Type 0
 KeepsTail file old new = drop (file.count * file.record_length) (bytes_at file.sectors new) ≡ drop (file.count * file.record_length) (bytes_at file.sectors old)
 

@@ -1,4 +1,4 @@
--- Records in the order of their keys, a pack in which a file was sorted, and when a file isn't sorted.
+-- Records in the order of their keys, a pack with a sorted file, and when sorting is refused.
 use Rattle.std.specs.Prelude.{◌≡◌, ◌<◌, ℕ, Bool, true, false, List, length, slice_index_or, Some, Ok, Err, ⊤}
 use Rattle.std.specs.List.{All, Contains, filter}
 use Rattle.std.specs.List.Sorted.{IsPermutation, IsSortedByKey, ties}
@@ -26,11 +26,11 @@ use Rattle.s3_pack_care.specs.declared.sort_fault.SortFault.{SortFault}
 use Rattle.s3_pack_care.specs.declared.sort_fault.SortFault.TheVariants.{Field, Label, Mount, NoMemory, NotInOrder}
 use Rattle.s3_pack_care.specs.declared.fields.SortField.{SortField}
 
--- one record comes before another: of the first numbers of their keys that differ, its own is the less
+-- one record comes before another: at the first different number of their keys, its number is less
 abbrev pub comes_before : (key : List ℕ → List ℕ) → List ℕ → List ℕ → Bool
 comes_before key one other = is_lt (slice_cmp nat_cmp (key one) (key other))
 
--- the same records, in an order in which no neighbour is the wrong way round, those of equal keys as they stood
+-- the same records, sorted by key; records with equal keys keep their order
 pub record IsArranged (key : List ℕ → List ℕ) (old new : List (List ℕ)) : Type 0 where
   pub same : IsPermutation old new
   pub ordered : IsSortedByKey key (slice_cmp nat_cmp) new
@@ -41,7 +41,7 @@ abbrev pub records_of : FileLabel → List (List ℕ) → List (List ℕ)
 records_of label contents = records (file_of label) contents
 
 -- ---- a pack with a sorted file
--- a pack in which the records of one file are sorted by fields that are all in them, and everything else is as it was
+-- the records of one file are sorted by fields that are all in them, and everything else on the pack is unchanged
 pub record IsSortedIn (area : ℕ) (name : Name) (fields : List SortField) (header : Header) (old new : List (List ℕ)) : Type 0 where
   pub mounts : mounted new ≡ Ok header
   pub slots : (a i : ℕ) → a < 3 → slot_on header new a i ≡ slot_on header old a i
@@ -61,7 +61,7 @@ pub record IsSorted (area : ℕ) (name : Name) (fields : List SortField) (old ne
   pub is_mounted : mounted old ≡ Ok header
   pub sorted : IsSortedIn area name fields header old new
 
--- ---- when a file isn't sorted
+-- ---- when sorting is refused
 -- the first field that doesn't fit records of this length
 pub record IsFirstMisfit (fields : List SortField) (record_length place : ℕ) : Type 0 where
   pub within : place < length fields
@@ -73,27 +73,27 @@ are_in_order Sequential = true
 are_in_order Indexed = false
 are_in_order Direct = false
 
--- why the records of a file aren't sorted: they don't stand in order, or a field isn't in them; nothing is said of memory
+-- why records can't be sorted: the file isn't sequential, or a field isn't in the records; or memory ran out
 abbrev pub RefusesFile : List SortField → FileLabel → SortFault → Type 0
 RefusesFile fields label NotInOrder = are_in_order label.organization ≡ false
 RefusesFile fields label (Field place record_length) = (record_length ≡ label.record_length) × IsFirstMisfit fields record_length place
 RefusesFile fields label NoMemory = ⊤
 RefusesFile fields label _ = ⊥
 
--- the file is there, and isn't sorted
+-- the file exists and can't be sorted
 pub record IsUnsortable (area : ℕ) (name : Name) (fields : List SortField) (contents : List (List ℕ)) (fault : SortFault) : Type 0 where
   pub label : FileLabel
   pub stands : AreOn contents (λ areas. standing name (slots_in area areas) ≡ Present label)
   pub refuses : RefusesFile fields label fault
 
--- why a file of a pack isn't sorted; nothing is said of memory
+-- why a file of a pack isn't sorted; or memory ran out
 abbrev pub RefusesSort : (area : ℕ) → Name → List SortField → List (List ℕ) → SortFault → Type 0
 RefusesSort area name fields contents (Mount fault) = mounted contents ≡ Err fault
 RefusesSort area name fields contents (Label fault) = AreOn contents (λ areas. refusal (standing name (slots_in area areas)) ≡ Some fault)
 RefusesSort area name fields contents NoMemory = ⊤
 RefusesSort area name fields contents fault = IsUnsortable area name fields contents fault
 
--- what is wrong with a pack's header is wrong here too
+-- an error of the pack's header is one of sorting too
 abbrev pub of_care : CareFault → SortFault
 of_care (MountOfCare fault) = Mount fault
 of_care (LabelOfCare fault) = Label fault

@@ -1,4 +1,4 @@
--- Why a slot is damaged: the first test that its bytes don't pass.
+-- Why a slot is damaged: the first test that its bytes fail.
 use Rattle.std.specs.Prelude.{ℕ, Bool, true, false, ◌&&◌, ◌==◌, nat_le, List, [], drop, slice_index, is_some, Option, Some, None, if◌then◌else◌}
 use Rattle.std.specs.List.{position_from}
 use Rattle.byteorder.specs.Endian.{big_number}
@@ -15,11 +15,11 @@ use Rattle.s3_slots.specs.declared.slot.Slot.TheVariants.{Damaged, Free, Sound}
 use Rattle.s3_pack_check.specs.declared.damage.Damage.{Damage}
 use Rattle.s3_pack_check.specs.declared.damage.Damage.TheVariants.{Capacity, Count, Extents, Key, Mark, Name as NameDamage, Organization as OrganizationDamage, Overlap, RecordLength, Retention, SameLabel}
 
--- what a test that isn't passed says, else what comes behind it
+-- the damage of a failed test, or else the damage that the later tests find
 abbrev pub unless : Bool → Damage → Option Damage → Option Damage
 unless passed damage behind = if passed then behind else Some damage
 
--- the record length, the key, the capacity and the count
+-- damage of the record length, the key, the capacity or the count
 abbrev pub number_damage : Organization → List ℕ → Option Damage
 number_damage organization bytes =
     let record_length : ℕ = big_number 2 (drop 11 bytes) in
@@ -33,7 +33,7 @@ abbrev pub damage_by : Option Organization → List ℕ → Option Damage
 damage_by None bytes = Some OrganizationDamage
 damage_by (Some organization) bytes = unless (is_some (retention_by (slice_index bytes 10))) Retention (number_damage organization bytes)
 
--- what is wrong with the fields of a label, one after another, but for its extents
+-- the first damage of a label's fields, without its extents
 abbrev pub field_damage : List ℕ → Option Damage
 field_damage bytes =
     unless (slice_index bytes 0 == 1) Mark
@@ -44,11 +44,11 @@ is_damaged (Damaged name) = true
 is_damaged Free = false
 is_damaged (Sound label) = false
 
--- the first damaged slot of an area, if one is: what it holds can't be told
+-- the first damaged slot of an area; the files in it can't be known
 abbrev pub first_damaged : List Slot → Option ℕ
 first_damaged slots = position_from is_damaged 0 slots
 
--- a label that would be sound without the slots before it repeats the label of one of them, or overlaps it
+-- a label that is valid without the slots before it has the label of one of them, or overlaps it
 abbrev pub neighbour_damage : Option Name → List Slot → Damage
 neighbour_damage None earlier = Overlap
 neighbour_damage (Some name) earlier = if is_some (position_from (bears name) 0 earlier) then SameLabel else Overlap
@@ -60,6 +60,6 @@ abbrev pub damage_or : Option Damage → Damage → Damage
 damage_or None other = other
 damage_or (Some damage) other = damage
 
--- why a slot of these bytes is damaged behind the slots before it
+-- why a slot of these bytes is damaged, after the slots before it
 unfoldable pub damage_of : Format → Stretch → Option Name → List Slot → List ℕ → Damage
 damage_of format region name earlier bytes = damage_or (field_damage bytes) (room_damage format region name earlier bytes)

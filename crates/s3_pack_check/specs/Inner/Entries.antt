@@ -1,4 +1,4 @@
--- The entry of an index that is at fault.
+-- The first wrong entry of an index.
 use Rattle.std.specs.Prelude.{ℕ, ◌+◌, ◌-◌, ◌*◌, ◌==◌, Bool, true, false, not, ◌&&◌, ◌||◌, nat_eq, nat_le, nat_lt, List, [], ◌∷◌, drop, length, Option, Some, None, if◌then◌else◌}
 use Rattle.std.specs.List.{range_with_len}
 use Rattle.std.specs.Cmp.Lexicographic.{pointwise}
@@ -26,7 +26,7 @@ record_key label bytes i = part bytes (i * label.record_length + (label.key_star
 abbrev pub is_first_or_above : FileLabel → List ℕ → ℕ → Bool
 is_first_or_above label bytes i = (i == 0) || is_below (entry_key label bytes (i - 1)) (entry_key label bytes i)
 
--- the number of the record that an entry names; one that doesn't lie in the file names none, as 0 does
+-- the number of the record that an entry names; 0, which names none, if the entry isn't in the file
 abbrev pub entry_number : FileLabel → List ℕ → ℕ → ℕ
 entry_number label bytes i =
     let at : ℕ = entry_place (layout_of label) i + label.key_length in
@@ -40,8 +40,7 @@ has_record label number = nat_le 1 number && nat_le number label.count
 abbrev pub has_key_of : FileLabel → List ℕ → ℕ → ℕ → Bool
 has_key_of label bytes number i = pointwise nat_eq (record_key label bytes (number - 1)) (entry_key label bytes i)
 
--- what is wrong with an entry: its key isn't above that of the entry before it, it names no record of the file, or one with another
--- key
+-- The flaw of an entry: its key isn't above the key of the entry before it, it names no record of the file, or the record has another key.
 abbrev pub flaw_of : FileLabel → List ℕ → ℕ → Option EntryFlaw
 flaw_of label bytes i =
     let number : ℕ = entry_number label bytes i in
@@ -60,11 +59,11 @@ abbrev pub first_or : {A : Type 0} → Option A → Option A → Option A
 first_or None other = other
 first_or (Some x) other = Some x
 
--- what the first of these numbers gives for which there is anything
+-- the first value that there is for one of these numbers
 abbrev pub first_of : {A : Type 0} → (ℕ → Option A) → List ℕ → Option A
 first_of f [] = None
 first_of f (n ∷ more) = first_or (f n) (first_of f more)
 
--- the first entry with which something is wrong
+-- the first entry with a flaw
 unfoldable pub first_fault : FileLabel → List ℕ → Option WrongEntry
 first_fault label bytes = first_of (wrong_entry label bytes) (range_with_len 0 label.count)

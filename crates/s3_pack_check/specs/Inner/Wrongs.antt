@@ -1,4 +1,4 @@
--- All that is wrong with a pack.
+-- All damage on a pack.
 use Rattle.std.specs.Prelude.{◌<◌}
 use Rattle.std.specs.Prelude.{◌≡◌, ℕ, zero, suc, Bool, true, List, [], ◌∷◌, ◌++◌, take, slice_get, Option, Some, None, Result, Ok, Err, ⊤, if◌then◌else◌}
 use Rattle.std.specs.List.{flat_map, range_with_len}
@@ -47,7 +47,7 @@ region_in (suc (suc n)) areas = areas.header.level_two
 abbrev pub file_cause : FileLabel → List (List ℕ) → Option Cause
 file_cause label contents = if is_indexed label.organization then index_cause label contents else None
 
--- what is wrong with what stands in slot i of an area
+-- the cause of damage in slot i of an area
 abbrev pub cause_of : Areas → (area i : ℕ) → List (List ℕ) → Option Slot → Option Cause
 cause_of areas area i contents (Some (Damaged name)) =
     Some (Label (damage_of areas.header.format (region_in area areas) name (take i (slots_in area areas)) (slot_bytes area contents i)))
@@ -68,7 +68,7 @@ abbrev pub wrong_with : (area i : ℕ) → Option Name → Option Cause → List
 wrong_with area i name None = []
 wrong_with area i name (Some cause) = record { area = area; slot = i; name = name; cause = cause } ∷ []
 
--- what is told of a slot
+-- the damage that is reported for a slot
 unfoldable pub slot_wrongs : Areas → (area : ℕ) → List (List ℕ) → ℕ → List Wrong
 slot_wrongs areas area contents i =
     wrong_with area i (name_at (slice_get (slots_in area areas) i)) (cause_of areas area i contents (slice_get (slots_in area areas) i))
@@ -84,11 +84,11 @@ abbrev pub told_if : List (List ℕ) → Result Header MountFault → Result (Li
 told_if contents (Ok header) = Ok (wrongs_on (areas_on header contents) contents)
 told_if contents (Err fault) = Err fault
 
--- all that is wrong with the pack of these bytes, or why it isn't mounted
+-- all damage of the pack with these bytes, or why it can't be mounted
 abbrev pub told : List ℕ → Result (List Wrong) MountFault
 told bytes = told_if (contents_of bytes) (mounted (contents_of bytes))
 
--- a pack is refused by its header; nothing is said of memory
+-- a pack is refused for its header, or memory ran out
 abbrev pub IsRefused : Result (List Wrong) MountFault → CheckFault → Type 0
 IsRefused told (Mount fault) = told ≡ Err fault
 IsRefused told NoMemory = ⊤
@@ -98,13 +98,13 @@ abbrev pub fault_of : Refusal → CheckFault
 fault_of (BadPack fault) = Mount fault
 fault_of (Sectors fault) = NoMemory
 
--- ---- packs with nothing wrong
+-- ---- packs without damage
 abbrev pub IsRight : Option Slot → List (List ℕ) → Type 0
 IsRight None contents = ⊤
 IsRight (Some Free) contents = ⊤
 IsRight (Some (Damaged name)) contents = ⊥
 IsRight (Some (Sound label)) contents = is_indexed label.organization ≡ true → is_good label contents ≡ true
 
--- each used slot is sound, and each index good
+-- each used slot is valid, and each index is good
 abbrev pub IsSoundPack : Areas → List (List ℕ) → Type 0
 IsSoundPack areas contents = (area i : ℕ) → area < 3 → i < 32 → IsRight (slice_get (slots_in area areas) i) contents

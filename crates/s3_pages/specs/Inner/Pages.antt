@@ -17,7 +17,7 @@ unfoldable pub pages_from : ℕ → List Printed → List (List Printed)
 pages_from number [] = [] ∷ []
 pages_from number (line ∷ lines) = replicate (pages_on number line.page) [] ++ on_first line (pages_from line.page lines)
 
--- the pages after that of a number, given the lines that are printed after it
+-- the pages after the one with this number, given the lines that are printed after it
 abbrev pub pages_behind : ℕ → List Printed → List (List Printed)
 pages_behind number [] = []
 pages_behind number (line ∷ lines) = replicate (pages_on number line.page - 1) [] ++ pages_from line.page (line ∷ lines)

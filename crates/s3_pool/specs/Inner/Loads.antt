@@ -1,4 +1,4 @@
--- How many transfers an answer of the pool's own calls says to have failed.
+-- The number of failed transfers by an answer of the pool's own calls.
 use Rattle.std.specs.Prelude.{ℕ, Result, Ok, Err}
 use Rattle.s3_store.specs.Inner.Failures.{failed_transfers}
 use Rattle.s3_pool.specs.declared.pool_fault.PoolFault.{PoolFault}

@@ -1,4 +1,4 @@
--- Scripts of which a level accepts the same replies.
+-- Scripts whose replies a level accepts alike.
 use Rattle.std.specs.Prelude.{◌≡◌, ℕ, List, Ok}
 use Rattle.s3_cards.specs.declared.levels.LevelId.{LevelId}
 use Rattle.s3_cards.specs.declared.levels.LevelId.TheVariants.{One, Two}
@@ -22,7 +22,7 @@ use Rattle.s3_bureau.specs.Entries.{own}
 use Rattle.s3_bureau.specs.Runs.{Runs, Texts, cards_of, outcome_texts}
 use Rattle.s3_bureau.specs.Script.{entries_of}
 
--- by either list of entries a level comes to rest, and it accepts the same replies
+-- with either list of entries a level comes to rest, and it accepts the same replies
 pub record DoTheSame (w : World) (one other : List Action) : Type 0 where
   pub replies : accepted w one ≡ accepted w other
   pub one_rests : IsAtRest (solo w one)
@@ -42,16 +42,16 @@ abbrev pub texts_at : LevelId → Outcome → Texts
 texts_at One outcome = (outcome_texts outcome).one
 texts_at Two outcome = (outcome_texts outcome).two
 
--- Where no slot of the level's area was entangled, a mount of either pack judges its slots the same, and finds the same records under
--- each label.
+-- If no slot of the level's area had an overlapping or duplicate label, a mount of either pack finds the same slots, and the same records
+-- for each label.
 abbrev pub HaveSameFiles : LevelId → Header → (old one other : List (List ℕ)) → Type 0
 HaveSameFiles level header old one other =
     IsUntangled header.format (region_of level header) (area_of level) old
     → (slots_of header.format (region_of level header) (area_of level) one ≡ slots_of header.format (region_of level header) (area_of level) other)
     × ((label : FileLabel) → standing label.name (slots_of header.format (region_of level header) (area_of level) one) ≡ Present label → kept_on label one ≡ kept_on label other)
 
--- Two runs over the same pack, of two scripts by which a level with the same deck does the same: they give the same texts and the same
--- files of that level, whatever the other level's deck and entries are.
+-- Two runs over one pack give a level the same texts and files if the level has the same deck and both scripts do the same for it. The
+-- other level's deck and entries may differ.
 abbrev pub RunsAlike : Type 0
 RunsAlike =
     (level : LevelId) (pack deck1 deck2 script other_deck1 other_deck2 other_script : List ℕ) (header : Header) (entries others : List Entry) (outcome other : Outcome)

@@ -120,7 +120,7 @@ only_program None rest = Err Program
 only_program (Some name) [] = Ok (Some name)
 only_program (Some name) (more ∷ rest) = Err TooLong
 
--- the words after the digit: nothing, or a program's name
+-- what follows the digit: nothing, or a program's name
 abbrev pub program_said : List (List ℕ) → Result (Option Name) LineFault
 program_said [] = Ok None
 program_said (word ∷ rest) = only_program (program_named word) rest
@@ -140,7 +140,7 @@ rule_from number (Some level) None digit program = Err Letters
 rule_from number (Some level) (Some code) None program = Err Digit
 rule_from number (Some level) (Some code) (Some digit) program = allowed_rule (digit_fault code digit) (rule_for number level code digit program)
 
--- the words of a line are read as this: nothing, a rule, or its fault
+-- a line is read as this: nothing, a rule, or its fault
 abbrev pub WordsAreRead : (number : ℕ) → List (List ℕ) → Result (Option Rule) LineFault → Type 0
 WordsAreRead number [] read = read ≡ Ok None
 WordsAreRead number (level ∷ []) read = read ≡ Err TooShort

@@ -25,7 +25,7 @@ level_reply (Some level) (Some digit) = Reply (Some level) digit
 level_reply (Some level) None = Unknown
 level_reply None digit = Unknown
 
--- a digit and the words after it: nothing, or the digit that the first one's level is answered with
+-- what follows a digit: nothing, or a digit for the first one's level
 abbrev pub reply_said : (first : ℕ) → List (List ℕ) → Typed
 reply_said first [] = Reply None first
 reply_said first (word ∷ []) = level_reply (level_of first) (digit_of word)
@@ -57,7 +57,7 @@ abbrev pub both_said : Option LevelId → (count : List ℕ) → Typed
 both_said (Some level) count = so_many (Some level) (count_of count)
 both_said None count = Unknown
 
--- the words after `lines`: a level, a number of lines, or both; a 1 or a 2 alone is a level
+-- what follows `lines`: a level, a number of lines, or both; a 1 or a 2 alone is a level
 abbrev pub lines_said : List (List ℕ) → Typed
 lines_said [] = Lines None 10
 lines_said (word ∷ []) = one_said (level_word word) word

@@ -1,4 +1,4 @@
--- How far the output of a day is written, where the day ends with these printed lines and this halt text of level 1.
+-- How much of a day's output is written, for a day that ends with these printed lines and this halt text of level 1.
 use Rattle.std.specs.Prelude.{◌≡◌, ◌≤◌, ◌++◌, ℕ, List, [], codes, length, take, ⊤}
 use Rattle.s3_cards.specs.Printed.{Printed}
 use Rattle.s3_bureau.specs.Runs.{line, output_of}
@@ -16,7 +16,7 @@ written_at Start one two halts = []
 written_at (One n) one two halts = line (codes ":report1") ++ report_of (take n one)
 written_at (Two n) one two halts = up_to_two one halts ++ report_of (take n two)
 
--- all of the output, with the halt text of level 2
+-- the whole output, with the halt text of level 2
 abbrev pub whole_output : (one two : List Printed) (halts1 halts2 : List ℕ) → List ℕ
 whole_output one two halts1 halts2 = output_of (record { one = record { report = report_of one; halts = halts1 }; two = record { report = report_of two; halts = halts2 } })
 

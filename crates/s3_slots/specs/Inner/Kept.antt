@@ -1,4 +1,4 @@
--- What stays true of the slots of an area while its files are made, counted and dropped.
+-- The invariant of an area's slots while its files are made, counted and dropped.
 use Rattle.std.specs.Prelude.{◌≡◌, ◌≤◌, ℕ, true, List, slice_get, Some}
 use Rattle.std.specs.List.{Contains}
 use Rattle.s3_store.specs.Stretches.{end_of}
@@ -9,7 +9,7 @@ use Rattle.s3_slots.specs.declared.label.FileLabel.{FileLabel}
 use Rattle.s3_slots.specs.declared.slot.Slot.{Slot}
 use Rattle.s3_slots.specs.declared.slot.Slot.TheVariants.{Sound}
 
--- each sound label is well formed, and no two of them have a sector or a name in common
+-- each valid label is well formed, and no two valid labels share a sector or a name
 pub record AreKept (region : Stretch) (slots : List Slot) : Type 0 where
   pub formed : (i : ℕ) (label : FileLabel) → slice_get slots i ≡ Some (Sound label) → is_well_formed region label ≡ true
   pub apart : (i j : ℕ) (first second : FileLabel) (n : ℕ) → slice_get slots i ≡ Some (Sound first) → slice_get slots j ≡ Some (Sound second)
@@ -17,7 +17,7 @@ pub record AreKept (region : Stretch) (slots : List Slot) : Type 0 where
   pub named : (i j : ℕ) (first second : FileLabel) → slice_get slots i ≡ Some (Sound first) → slice_get slots j ≡ Some (Sound second)
       → first.name ≡ second.name → i ≡ j
 
--- a label that a pack of so many sectors has: it is well formed in a region of the pack
+-- a label on a pack of so many sectors: it is well formed in a region of the pack
 pub record IsOfPack (sectors : ℕ) (label : FileLabel) : Type 0 where
   pub region : Stretch
   pub within : end_of region ≤ sectors

@@ -25,7 +25,7 @@ retention_code Permanent = LETTER_P
 abbrev pub extent_bytes : Stretch → List ℕ
 extent_bytes stretch = big_bytes 2 stretch.start ++ big_bytes 2 stretch.sectors
 
--- an extent by its place, nothing behind the last one
+-- the extent at a place; an unused one after the last
 abbrev pub extent_at : List Stretch → ℕ → Stretch
 extent_at extents i = unwrap_or (slice_get extents i) (record { start = 0; sectors = 0 })
 
@@ -39,7 +39,7 @@ label_bytes label =
     ++ extent_bytes (extent_at label.extents 1) ++ extent_bytes (extent_at label.extents 2) ++ extent_bytes (extent_at label.extents 3)
     ++ replicate 18 0
 
--- A label whose fields are in the ranges of their bytes: its name is one, its extents are up to four, each of them used.
+-- A label whose fields are in the ranges of their bytes: it has a name and one to four extents, each of them used.
 pub record IsWritable (label : FileLabel) : Type 0 where
   pub codes : length label.name.codes ≡ 8
   pub named : is_name label.name.codes ≡ true

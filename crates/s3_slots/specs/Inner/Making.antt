@@ -1,4 +1,4 @@
--- Files that may be asked for, a list of them made one after another, and labels of a level's own area and of the masters.
+-- Requests for new files, making a list of them, and labels of a level's own area and of the masters.
 use Rattle.std.specs.Prelude.{◌≡◌, ◌≤◌, ℕ, ◌+◌, Bool, true, false, List, [], ◌∷◌, Option, Some, None, Result, Ok, Err}
 use Rattle.s3_cards.specs.declared.name.Name.{Name}
 use Rattle.s3_cards.specs.Names.{is_name}
@@ -16,20 +16,20 @@ use Rattle.s3_slots.specs.declared.slot.Standing.TheVariants.{Absent, Blocked, P
 use Rattle.s3_store.specs.declared.stretch.Stretch.{Stretch}
 use Rattle.s3_slots.specs.Making.{dropped, counted, made}
 
--- ---- what may be asked for
--- so many records or tracks
+-- ---- what may be requested
+-- a number of records or of tracks
 abbrev pub IsSize : Size → Type 0
 IsSize (Records n) = (1 ≤ n) × (n ≤ 999999)
 IsSize (Tracks n) = (1 ≤ n) × (n ≤ 999)
 
--- a file that may be made, where there is room
+-- a file that may be made if there is space
 pub record IsNewFile (new : NewFile) : Type 0 where
   pub named : is_name new.name.codes ≡ true
   pub length : (1 ≤ new.record_length) × (new.record_length ≤ 1024)
   pub key : is_key_of new.organization new.record_length new.key_length new.key_start ≡ true
   pub size : IsSize new.size
 
--- what follows a make, or its refusal with the place of the file
+-- what follows after a make; or its refusal, with the place of the file
 abbrev pub and_then : ℕ → Result (List Slot) LabelFault → (List Slot → Result (List Slot) (ℕ × LabelFault)) → Result (List Slot) (ℕ × LabelFault)
 and_then at (Ok slots) go = go slots
 and_then at (Err fault) go = Err (at, fault)
@@ -40,7 +40,7 @@ planned at format region masters [] slots = Ok slots
 planned at format region masters (new ∷ news) slots =
     and_then at (made format region masters new slots) (planned (at + 1) format region masters news)
 
--- ---- labels of the own area alone
+-- ---- labels of the level's own area
 abbrev pub refusal : Standing → Option LabelFault
 refusal Absent = Some NotFound
 refusal Blocked = Some DamagedLabel
@@ -54,11 +54,11 @@ unless_refused (Some fault) slots = Err fault
 abbrev pub with_count : Name → ℕ → List Slot → Result (List Slot) LabelFault
 with_count name n slots = unless_refused (refusal (standing name slots)) (counted name n slots)
 
--- the slots after a label was dropped, whatever its retention
+-- the slots after a label was dropped, with any retention
 abbrev pub without_label : Name → List Slot → Result (List Slot) LabelFault
 without_label name slots = unless_refused (refusal (standing name slots)) (dropped name slots)
 
--- ---- a label for a level: its own area, then the masters
+-- ---- a label for a level: its own area first, then the masters
 abbrev pub file_in_masters : Standing → Result (FileLabel × Bool) LabelFault
 file_in_masters Absent = Err NotFound
 file_in_masters Blocked = Err DamagedLabel

@@ -1,4 +1,4 @@
--- Samples of headers, files and slots, for worked rows.
+-- Samples of headers, files and slots for worked examples.
 use Rattle.std.specs.Prelude.{ℕ, List, [], ◌∷◌, ◌++◌, replicate, take, None, Result, Ok, Err}
 use Rattle.byteorder.specs.Endian.{big_bytes}
 use Rattle.s3_cards.specs.declared.name.Name.{Name}
@@ -72,7 +72,7 @@ abbrev pub slots_in : Result (List Slot) (ℕ × LabelFault) → List Slot
 slots_in (Ok slots) = slots
 slots_in (Err _) = []
 
--- A of 2 tracks, B of 3 and C of 2 in level 1; then B is gone
+-- A of 2 tracks, B of 3 and C of 2 in level 1; then B is dropped
 abbrev pub without_b : Format → List Slot
 without_b format = dropped (named 0xc2) (slots_in (planned 0 format ten.level_one all_free (file 0xc1 2 ∷ file 0xc2 3 ∷ file 0xc3 2 ∷ []) all_free))
 
@@ -91,7 +91,7 @@ d_label = record {
 }
 
 -- ---- damage
--- labels of area 2 that are all ff
+-- labels of area 2 with all bytes FF
 abbrev pub all_ff : List (List ℕ)
 all_ff = replicate 17 [] ++ replicate 8 (replicate 256 0xff)
 

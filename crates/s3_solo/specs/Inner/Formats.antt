@@ -1,4 +1,4 @@
--- A level over a pack that was brought into the second format, beside the same level over the old pack.
+-- A level over a migrated pack (of the second format), and the same level over the old pack.
 use Rattle.std.specs.Prelude.{Bool, true, false, List, [], ◌∷◌}
 use Rattle.std.specs.List.{list_any}
 use Rattle.s3_slots.specs.declared.header.Format.TheVariants.{Second}
@@ -18,11 +18,11 @@ abbrev pub is_no_space : HaltCode → Bool
 is_no_space NoSpace = true
 is_no_space _ = false
 
--- some halt was shown for want of space
+-- some halt was shown because space was lacking
 abbrev pub shows_no_space : List ShownHalt → Bool
 shows_no_space halts = list_any (λ halt. is_no_space halt.code) halts
 
--- what a level's entries are answered, one after the other
+-- the answers to a level's entries, in order
 abbrev pub answers : World → List Action → List Did
 answers w [] = []
 answers w (action ∷ actions) = (step_of w action).did ∷ answers (step_of w action).world actions

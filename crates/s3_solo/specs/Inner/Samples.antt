@@ -1,4 +1,4 @@
--- A worked row: the deck that compiles the card lister and lists two cards.
+-- A worked example: the deck that compiles the card lister and lists two cards.
 use Rattle.std.specs.Prelude.{ℕ, ◌-◌, ◌+◌, List, [], ◌∷◌, ◌++◌, codes, length, replicate, take, drop, Option}
 use Rattle.s3_cards.specs.Deck.{card_of}
 use Rattle.s3_cards.specs.Printed.{Printed}
@@ -11,7 +11,7 @@ use Rattle.s3_solo.specs.declared.action.Action.TheVariants.{Turn, Reply}
 use Rattle.s3_solo.specs.World.{World, at_start}
 use Rattle.s3_solo.specs.Solo.{step_of, solo}
 
--- a card, with a text from a column on
+-- a card that has a text from a column on
 abbrev pub punched : (column : ℕ) → List ℕ → List ℕ → List ℕ
 punched column text card = take (column - 1) card ++ text ++ drop (column - 1 + length text) card
 
@@ -89,23 +89,23 @@ listed line text = record { page = 1; line = line; text = text ++ replicate (132
 abbrev pub first_line : Printed
 first_line = listed 1 (0xc1 ∷ 0xc2 ∷ 0xc3 ∷ [])
 
--- and DEF on line 2
+-- ABC on line 1 and DEF on line 2
 abbrev pub listing : List Printed
 listing = first_line ∷ listed 2 (0xc4 ∷ 0xc5 ∷ 0xc6 ∷ []) ∷ []
 
--- a job that sets date and switches, of a program that isn't there
+-- a job that sets date and switches, for a program that isn't in the library
 abbrev pub settings_deck : List (List ℕ)
 settings_deck =
     card_of (codes "// LOAD NONE,F1") ∷ card_of (codes "// DATE 06/15/76") ∷ card_of (codes "// SWITCH 1XX0XXX1") ∷ card_of (codes "// RUN")
     ∷ card_of (codes "/&") ∷ []
 
--- the same without RUN
+-- the same job without RUN
 abbrev pub faulty_deck : List (List ℕ)
 faulty_deck =
     card_of (codes "// LOAD NONE,F1") ∷ card_of (codes "// DATE 06/15/76") ∷ card_of (codes "// SWITCH 1XX0XXX1")
     ∷ card_of (codes "/&") ∷ []
 
--- two jobs of a program that isn't there
+-- two jobs of a program that isn't in the library
 abbrev pub two_jobs_deck : List (List ℕ)
 two_jobs_deck = settings_deck ++ settings_deck
 
@@ -113,7 +113,7 @@ two_jobs_deck = settings_deck ++ settings_deck
 abbrev pub at_halt : List (List ℕ) → World
 at_halt deck = (step_of (at_first deck) Turn).world
 
--- and after a reply to the halt that was shown
+-- the world after a reply to the halt that was shown
 abbrev pub passed_over : List (List ℕ) → (digit : ℕ) → World
 passed_over deck digit = (step_of (at_halt deck) (Reply digit)).world
 

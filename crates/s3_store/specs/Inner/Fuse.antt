@@ -1,7 +1,7 @@
--- What a contract sees of a store that fails at one call.
+-- A store that fails at one call, as a contract sees it.
 use Rattle.std.specs.Prelude.{ℕ, Bool}
 
--- the store behind it; how many calls are left up to and with the one that fails, 0 for none; whether that one was made
+-- The store below it; the number of calls left, including the one that fails (0 if none fails); and whether that call was made.
 pub record Fuse (S : Type 0) : Type 0 where
   pub inner : S
   pub calls_left : ℕ

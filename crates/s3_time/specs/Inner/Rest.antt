@@ -1,4 +1,4 @@
--- The worlds that a level comes to, and what it waits for at rest.
+-- The worlds that a level reaches, and what it waits for at rest.
 use Rattle.std.specs.Prelude.{◌≡◌, ◌⊎◌, ℕ, true, List, [], None, Ok}
 use Rattle.s3_cards.specs.declared.levels.LevelId.{LevelId}
 use Rattle.s3_slots.specs.Header.{mounted}
@@ -8,7 +8,7 @@ use Rattle.s3_solo.specs.declared.action.Action.{Action}
 use Rattle.s3_solo.specs.World.{World, at_start}
 use Rattle.s3_solo.specs.Solo.{solo}
 
--- a level comes to this world by some entries, with some deck, over a pack that is mounted
+-- a level reaches this world by some entries, with some deck, over a mounted pack
 pub record IsReached (w : World) : Type 0 where
   pub level : LevelId
   pub header : Header
@@ -18,6 +18,6 @@ pub record IsReached (w : World) : Type 0 where
   pub mounts : mounted contents ≡ Ok header
   pub there : solo (at_start level header contents deck) actions ≡ w
 
--- a halt waits, or no job is at work and none is left
+-- a halt waits, or no job runs and none is left
 abbrev pub WaitsOrIsOver : World → Type 0
 WaitsOrIsOver w = (is_waiting w.halts ≡ true) ⊎ ((w.job ≡ None) × (w.deck.jobs ≡ []))

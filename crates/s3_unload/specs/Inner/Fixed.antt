@@ -20,7 +20,7 @@ use Rattle.s3_unload.specs.declared.fault.UnloadFault.{UnloadFault}
 use Rattle.s3_unload.specs.declared.fault.UnloadFault.TheVariants.{Mount, NotFound, DamagedLabel, BadIndex, OtherLength, Hidden, NoCharacter, NoMemory, File}
 
 -- ---- the forms
--- the line feed of EBCDIC, and that of ASCII
+-- the line feed of EBCDIC, and the line feed of ASCII
 abbrev pub ebcdic_line_feed : ℕ
 ebcdic_line_feed = 37
 
@@ -40,7 +40,7 @@ end_of EbcdicLines = ebcdic_line_feed ∷ []
 end_of Ascii = []
 end_of AsciiLines = ascii_line_feed ∷ []
 
--- the bytes of a record without the line feed: those of the pack, or its characters
+-- the bytes of a record without the line feed: those on the pack, or its characters
 abbrev pub coded_as : FixedForm → List ℕ → List ℕ
 coded_as Ebcdic bytes = bytes
 coded_as EbcdicLines bytes = bytes
@@ -50,7 +50,7 @@ coded_as AsciiLines bytes = map shown_byte bytes
 abbrev pub fixed_of : FixedForm → List ℕ → List ℕ
 fixed_of form bytes = coded_as form bytes ++ end_of form
 
--- a record can be written so
+-- a record can be written in this form
 abbrev pub is_fixed : FixedForm → List ℕ → Bool
 is_fixed Ebcdic bytes = true
 is_fixed EbcdicLines bytes = true
@@ -61,8 +61,8 @@ abbrev pub fixed_text : FixedForm → List (List ℕ) → List ℕ
 fixed_text form records = flat_map (fixed_of form) records
 
 -- ---- files that are written
--- The file that stands under the label in the area was written after what the writer had: each of its records that are chosen, in the
--- order of their keys where it has an index. Each of them can be written so. So many records aren't chosen.
+-- The file of the label in the area was written after the earlier output: each of its chosen records, in key order if it has an index.
+-- Each of them can be written in this form. So many records aren't chosen.
 pub record UnloadsFixed (area : Area) (name : Name) (form : FixedForm) (chosen : ChosenRecords) (others : ℕ) (contents : List (List ℕ)) (old new : Option (List ℕ)) : Type 0 where
   pub label : FileLabel
   pub found : IsFound area name contents label
@@ -70,14 +70,14 @@ pub record UnloadsFixed (area : Area) (name : Name) (form : FixedForm) (chosen :
   pub written : Appends old new (fixed_text form (chosen_of chosen (ordered label contents)))
   pub counted : others + length (chosen_of chosen (ordered label contents)) ≡ length (ordered label contents)
 
--- of records in the order in which they were written, number n, from 1, is chosen, and can't be written so
+-- record number n, from 1, in the order in which they were written, is chosen and can't be written in this form
 pub record HasUnfixed (form : FixedForm) (chosen : ChosenRecords) (records : List (List ℕ)) (number : ℕ) : Type 0 where
   pub bytes : List ℕ
   pub there : slice_get records (number - 1) ≡ Some bytes
   pub is_meant : is_chosen chosen bytes ≡ true
   pub hidden : is_fixed form bytes ≡ false
 
--- record n, from 0, isn't written, given whether it fits: a byte has no character, or memory was refused
+-- record n, from 0, isn't written; whether it fits the form is given: a byte has no character, or memory ran out
 abbrev pub IsUnfit : ℕ → Bool → UnloadFault → Type 0
 IsUnfit n fits (NoCharacter number position) = (number ≡ n + 1) × (fits ≡ false)
 IsUnfit n fits NoMemory = ⊤
@@ -89,7 +89,7 @@ IsUnfit n fits DamagedLabel = ⊥
 IsUnfit n fits (OtherLength long) = ⊥
 IsUnfit n fits File = ⊥
 
--- records aren't all written: a byte has no character, or memory was refused
+-- not all records are written: a byte has no character, or memory ran out
 abbrev pub IsUnfixed : FixedForm → ChosenRecords → FileLabel → List (List ℕ) → UnloadFault → Type 0
 IsUnfixed form chosen label contents (NoCharacter number position) = HasUnfixed form chosen (in_order label contents) number
 IsUnfixed form chosen label contents NoMemory = ⊤
@@ -101,7 +101,7 @@ IsUnfixed form chosen label contents DamagedLabel = ⊥
 IsUnfixed form chosen label contents (OtherLength long) = ⊥
 IsUnfixed form chosen label contents File = ⊥
 
--- the file isn't written: by the pack alone, or for want of memory, or since the writer failed
+-- the file isn't written: because of the pack, because memory ran out, or because the writer failed
 abbrev pub IsFixedRefusal : Area → Name → FixedForm → ChosenRecords → List (List ℕ) → UnloadFault → Type 0
 IsFixedRefusal area name form chosen contents (Mount fault) = IsFindRefusal area name contents (Mount fault)
 IsFixedRefusal area name form chosen contents NotFound = IsFindRefusal area name contents NotFound

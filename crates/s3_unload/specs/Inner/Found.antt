@@ -15,7 +15,7 @@ abbrev pub slots_of_area : Area → Areas → List Slot
 slots_of_area Masters areas = areas.masters
 slots_of_area (Level level) areas = slots_at level areas
 
--- a mount of the sectors finds this file under the label in the area
+-- a mount of the sectors finds this file for the label in the area
 pub record IsFound (area : Area) (name : Name) (contents : List (List ℕ)) (label : FileLabel) : Type 0 where
   pub header : Header
   pub is_mounted : mounted contents ≡ Ok header

@@ -8,11 +8,11 @@ use Rattle.s3_cells.specs.declared.field.Field.{Field}
 use Rattle.s3_unload.specs.Inner.Tables.{IsHiddenIn}
 use Rattle.s3_unload.specs.declared.rows.HiddenField.{HiddenField}
 
--- a value of these fields can't be shown, or memory was refused
+-- the value of one of these fields can't be shown, or memory ran out
 abbrev pub HidesField : List Field → List ℕ → HiddenField → Type 0
 HidesField fields bytes hidden = IsHiddenIn fields bytes hidden.fault
 
--- what a hidden field of record n, from 0, is to its file
+-- the error for a hidden field of record n, from 0
 abbrev pub fault_by : ℕ → Field → ShowFault → UnloadFault
 fault_by n field (NoCharacter position) = Hidden (n + 1) field (NoCharacter position)
 fault_by n field NoNumber = Hidden (n + 1) field NoNumber

@@ -1,4 +1,4 @@
--- Files written out as lines: a record a line, as its characters or in hexadecimal digits.
+-- Files written as lines: one line for each record, in characters or in hexadecimal digits.
 use Rattle.std.specs.Prelude.{◌≡◌, ℕ, ◌+◌, ◌-◌, ◌/◌, ◌%◌, nat_lt, Bool, true, false, List, [], ◌∷◌, ◌++◌, map, slice_get, Option, Some, ⊤, if◌then◌else◌}
 use Rattle.std.specs.List.{flat_map, list_all}
 use Rattle.std.specs.Io.KnownBytes.{Appends}
@@ -16,7 +16,7 @@ use Rattle.s3_unload.specs.declared.lines.LineForm.TheVariants.{Text, Hexadecima
 use Rattle.s3_unload.specs.declared.fault.UnloadFault.{UnloadFault}
 use Rattle.s3_unload.specs.declared.fault.UnloadFault.TheVariants.{Mount, NotFound, DamagedLabel, BadIndex, OtherLength, Hidden, NoCharacter, NoMemory, File}
 
--- a hexadecimal digit, 0 to 9 and a to f, and the two of a byte
+-- a hexadecimal digit, 0 to 9 and a to f, and the two digits of a byte
 abbrev pub digit_of : ℕ → ℕ
 digit_of number = if nat_lt number 10 then 48 + number else 97 + (number - 10)
 
@@ -30,7 +30,7 @@ abbrev pub line_of : LineForm → List ℕ → List ℕ
 line_of Text bytes = map shown_byte bytes ++ new_line ∷ []
 line_of Hexadecimal bytes = flat_map digits_of bytes ++ new_line ∷ []
 
--- a record can be written so
+-- a record can be written in this form
 abbrev pub is_line : LineForm → List ℕ → Bool
 is_line Text bytes = list_all has_character bytes
 is_line Hexadecimal bytes = true
@@ -38,15 +38,15 @@ is_line Hexadecimal bytes = true
 abbrev pub lines_text : LineForm → List (List ℕ) → List ℕ
 lines_text form records = flat_map (line_of form) records
 
--- The file that stands under the label in the area was written behind what the writer had: a line for each of its records, in the
--- order in which they were written. Each of them can be written so.
+-- The file of the label in the area was written after the earlier output: a line for each of its records, in the order in which they were
+-- written. Each of them can be written in this form.
 pub record UnloadsLines (area : Area) (name : Name) (form : LineForm) (contents : List (List ℕ)) (old new : Option (List ℕ)) : Type 0 where
   pub label : FileLabel
   pub found : IsFound area name contents label
   pub shown : list_all (is_line form) (in_order label contents) ≡ true
   pub written : Appends old new (lines_text form (in_order label contents))
 
--- record number n, from 1, can't be written so
+-- record number n, from 1, can't be written in this form
 pub record HasUnshown (form : LineForm) (records : List (List ℕ)) (number : ℕ) : Type 0 where
   pub bytes : List ℕ
   pub there : slice_get records (number - 1) ≡ Some bytes
@@ -64,7 +64,7 @@ IsLineRefusal n form bytes DamagedLabel = ⊥
 IsLineRefusal n form bytes (OtherLength long) = ⊥
 IsLineRefusal n form bytes File = ⊥
 
--- lines aren't all written: a byte has no character, or memory was refused
+-- not all lines are written: a byte has no character, or memory ran out
 abbrev pub IsUnshown : LineForm → List (List ℕ) → UnloadFault → Type 0
 IsUnshown form records (NoCharacter number position) = HasUnshown form records number
 IsUnshown form records NoMemory = ⊤
@@ -76,7 +76,7 @@ IsUnshown form records DamagedLabel = ⊥
 IsUnshown form records (OtherLength long) = ⊥
 IsUnshown form records File = ⊥
 
--- the file isn't written: by the pack alone, or for want of memory, or since the writer failed
+-- the file isn't written: because of the pack, because memory ran out, or because the writer failed
 abbrev pub IsLinesRefusal : Area → Name → LineForm → List (List ℕ) → UnloadFault → Type 0
 IsLinesRefusal area name form contents (Mount fault) = IsFindRefusal area name contents (Mount fault)
 IsLinesRefusal area name form contents NotFound = IsFindRefusal area name contents NotFound

@@ -1,4 +1,4 @@
--- The records of a file that is open.
+-- The records of an open file.
 use Rattle.std.specs.Prelude.{◌≡◌, ℕ, true, false, List, ⊤}
 use Rattle.s3_store.specs.Bytes.{bytes_at}
 use Rattle.s3_slots.specs.Labels.{is_indexed, sectors_of}
@@ -14,13 +14,13 @@ use Rattle.s3_unload.specs.declared.ordered.Records.TheVariants.{InOrder, ByKey}
 use Rattle.s3_unload.specs.declared.fault.UnloadFault.{UnloadFault}
 use Rattle.s3_unload.specs.declared.fault.UnloadFault.TheVariants.{Mount, NotFound, DamagedLabel, BadIndex, OtherLength, Hidden, NoCharacter, NoMemory, File}
 
--- it is the file of the label, without an index
+-- the file of the label, without an index
 pub record IsPlain (label : FileLabel) (file : Sequential) : Type 0 where
   pub sectors : file.sectors ≡ sectors_of label
   pub record_length : file.record_length ≡ label.record_length
   pub count : file.count ≡ label.count
 
--- it is the file of the label, with a good index
+-- the file of the label, with a good index
 pub record IsKeyed (label : FileLabel) (contents : List (List ℕ)) (file : Keyed) : Type 0 where
   pub opened : shown file ≡ opened_of (sectors_of label) (layout_of label) label.count
   pub key_order : HasKeyOrder (shown file) contents
@@ -37,7 +37,7 @@ abbrev pub IsOpened : FileLabel → List (List ℕ) → Records → Type 0
 IsOpened label contents (InOrder file) = IsOpenedInOrder label file
 IsOpened label contents (ByKey file) = IsOpenedByKey label contents file
 
--- the index isn't that of the records, or memory was refused
+-- the index isn't the key order of the records, or memory ran out
 abbrev pub IsOpenRefusal : FileLabel → List (List ℕ) → UnloadFault → Type 0
 IsOpenRefusal label contents BadIndex =
     is_good_index (index_in (layout_of label) label.count (bytes_at (sectors_of label) contents)) (keys_at (layout_of label) label.count (bytes_at (sectors_of label) contents)) ≡ false

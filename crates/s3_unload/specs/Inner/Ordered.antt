@@ -1,4 +1,4 @@
--- The records of a file, in the order of their keys where it has an index.
+-- The records of a file, in key order if it has an index.
 use Rattle.std.specs.Prelude.{ℕ, ◌-◌, List, [], map, slice_index_or, if◌then◌else◌}
 use Rattle.s3_slots.specs.Labels.{file_bytes, is_indexed}
 use Rattle.s3_slots.specs.declared.label.FileLabel.{FileLabel}

@@ -15,18 +15,18 @@ use Rattle.s3_unload.specs.declared.found.Area.{Area}
 use Rattle.s3_unload.specs.declared.fault.UnloadFault.{UnloadFault}
 use Rattle.s3_unload.specs.declared.fault.UnloadFault.TheVariants.{Mount, NotFound, DamagedLabel, BadIndex, OtherLength, Hidden, NoCharacter, NoMemory, File}
 
--- why nothing is unloaded where a mount over a store in memory is refused: such a store never fails
+-- why nothing is unloaded if a mount over a store in memory is refused; such a store never fails
 abbrev pub fault_of_mount : Refusal → UnloadFault
 fault_of_mount (BadPack fault) = Mount fault
 fault_of_mount (Sectors fault) = NoMemory
 
--- a mount finds under the label in the area what it says
+-- a mount finds this for the label in the area
 pub record Stands (area : Area) (name : Name) (contents : List (List ℕ)) (meant : Standing) : Type 0 where
   pub header : Header
   pub is_mounted : mounted contents ≡ Ok header
   pub stands : standing name (slots_of_area area (areas_on header contents)) ≡ meant
 
--- no file is found, by the pack alone or for want of memory
+-- no file is found, because of the pack or because memory ran out
 abbrev pub IsFindRefusal : Area → Name → List (List ℕ) → UnloadFault → Type 0
 IsFindRefusal area name contents (Mount fault) = mounted contents ≡ Err fault
 IsFindRefusal area name contents NotFound = Stands area name contents Absent

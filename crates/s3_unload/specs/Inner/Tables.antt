@@ -17,7 +17,7 @@ use Rattle.std.specs.declared.alloc.Global.{Global}
 abbrev pub row_of : List Field → List ℕ → List (List ℕ)
 row_of fields bytes = map (λ field. cell_of field bytes) fields
 
--- each of its values can be shown
+-- each value of these fields can be shown
 abbrev pub are_shown : List Field → List ℕ → Bool
 are_shown fields bytes = list_all (λ field. is_shown field bytes) fields
 
@@ -40,14 +40,14 @@ rows_text delimiter fields records = flat_map (λ bytes. row_text (setup delimit
 abbrev pub table_text : (delimiter : ℕ) → List Field → List (List ℕ) → List ℕ
 table_text delimiter fields records = row_text (setup delimiter) (heading fields) ++ rows_text delimiter fields records
 
--- the value of a field can't be shown, or memory was refused
+-- the value of a field can't be shown, or memory ran out
 abbrev pub IsHiddenValue : Field → List ℕ → ShowFault → Type 0
 IsHiddenValue field bytes (NoCharacter position) = is_shown field bytes ≡ false
 IsHiddenValue field bytes NoNumber = is_shown field bytes ≡ false
 IsHiddenValue field bytes (NoDate date) = is_shown field bytes ≡ false
 IsHiddenValue field bytes NoMemory = ⊤
 
--- a field of these, if memory wasn't refused, has a value that can't be shown
+-- one of these fields has a value that can't be shown, or memory ran out
 abbrev pub IsHiddenIn : List Field → List ℕ → ShowFault → Type 0
 IsHiddenIn fields bytes (NoCharacter position) = are_shown fields bytes ≡ false
 IsHiddenIn fields bytes NoNumber = are_shown fields bytes ≡ false
@@ -59,13 +59,13 @@ IsHiddenIn fields bytes NoMemory = ⊤
 abbrev pub text_in : Writer (Vec ℕ Global) → List ℕ
 text_in writer = (writer_under writer).items ++ writer_pending writer
 
--- it stands between rows
+-- the writer is between rows
 pub record IsBetweenRows (delimiter : ℕ) (writer : Writer (Vec ℕ Global)) : Type 0 where
   pub set_up : writer_setup writer ≡ setup delimiter
   pub fields : fields_written writer ≡ 0
   pub wrote : has_written writer ≡ false
 
--- it has written some rows more, and stands between rows
+-- the writer has written some rows more, and is between rows
 pub record AddsText (delimiter : ℕ) (old new : Writer (Vec ℕ Global)) (text : List ℕ) : Type 0 where
   pub added : text_in new ≡ text_in old ++ text
   pub between : IsBetweenRows delimiter new

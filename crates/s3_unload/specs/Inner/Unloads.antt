@@ -17,9 +17,8 @@ use Rattle.s3_unload.specs.declared.found.Area.{Area}
 use Rattle.s3_unload.specs.declared.fault.UnloadFault.{UnloadFault}
 use Rattle.s3_unload.specs.declared.fault.UnloadFault.TheVariants.{Mount, NotFound, DamagedLabel, BadIndex, OtherLength, Hidden, NoCharacter, NoMemory, File}
 
--- The file that stands under the label in the area was written after what the writer had: a heading, and a row for each of its
--- records that are chosen, in the order of their keys where it has an index. Each value of them can be shown. So many records aren't
--- chosen.
+-- The file of the label in the area was written after the earlier output: a heading, and a row for each of its chosen records, in key
+-- order if it has an index. Each value of them can be shown. So many records aren't chosen.
 pub record Unloads (area : Area) (name : Name) (layout : Layout) (chosen : ChosenRecords) (delimiter others : ℕ) (contents : List (List ℕ)) (old new : Option (List ℕ)) : Type 0 where
   pub label : FileLabel
   pub found : IsFound area name contents label
@@ -59,7 +58,7 @@ IsRowRefusal n fields bytes (OtherLength long) = ⊥
 IsRowRefusal n fields bytes (NoCharacter number position) = ⊥
 IsRowRefusal n fields bytes File = ⊥
 
--- a file that stands there isn't written for this cause
+-- an existing file isn't written for this reason
 pub record Refuses (area : Area) (name : Name) (contents : List (List ℕ)) (cause : FileLabel → Type 0) : Type 0 where
   pub label : FileLabel
   pub found : IsFound area name contents label

@@ -1,4 +1,4 @@
--- The text so far is that of the halts so far.
+-- The text so far is the text of the halts so far.
 use Rattle.std.proofs.Common.{◌≡◌, map, take, vec_items}
 use Rattle.s3_operator.specs.Inner.Halts.{halt_of}
 use Rattle.s3_bureau.specs.Texts.{halt_text_of}

@@ -1,4 +1,4 @@
--- The codes of so many columns, and blanks behind them.
+-- The codes of so many columns, and then blanks.
 use Rattle.std.proofs.Common.{◌≡◌, ◌+◌, ◌-◌, ◌≤◌, length}
 use Rattle.s3_cards.specs.Inner.Deck.{codes_to}
 use Rattle.s3_cards.proofs.deck.translate_groups.Given as goal

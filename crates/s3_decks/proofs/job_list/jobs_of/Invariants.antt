@@ -1,4 +1,4 @@
--- The jobs so far, and those that stand from here on.
+-- The jobs so far, and those from here on.
 use Rattle.std.proofs.Common.{◌≡◌, ◌-◌, ◌++◌, length, map, vec_items}
 use Rattle.s3_ocl.specs.Streams.{jobs_from, jobs_within}
 use Rattle.s3_decks.specs.Inner.Days.{said}

@@ -1,4 +1,4 @@
--- So many lines were drained, and nothing else was done.
+-- So many lines were drained, and nothing else has changed.
 use Rattle.s3_level.specs.Inner.Holds.{around}
 use Rattle.s3_level.proofs.Draining.{DrainedSo}
 use Rattle.s3_level.proofs.level.Level.drain_all.Given as goal

@@ -1,4 +1,4 @@
--- So many turns acted, nothing else was done, and behind them a job is at work.
+-- So many turns acted, nothing else has changed, and after them a job is running.
 use Rattle.std.proofs.Common.{◌≡◌, ◌-◌, ◌≤◌, true, is_some}
 use Rattle.s3_level.specs.Inner.Holds.{around}
 use Rattle.s3_level.proofs.Repeating.{TurnedSo}
