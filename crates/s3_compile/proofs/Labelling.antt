@@ -93,7 +93,7 @@ record IsOn {X Y : Type 0} (read : Reading X Y) (at : ℕ) (entry : Name × X) (
   place : read.place entry.1 ≡ at
   found : read.found entry.0 ≡ Some at
 
--- both are given and agree, or neither is given
+-- two options agree: both have values that agree, or both are empty
 abbrev Agree : {X Y : Type 0} → (X → Y → Type 0) → Option X → Option Y → Type 0
 Agree P None None = Unit {0}
 Agree P None (Some y) = ⊥

@@ -57,7 +57,7 @@ resumes old inside new answer same goes source stands =
     )
 
 -- ---- a run that follows the semantics
--- with one more answer it follows the semantics after that answer
+-- a run that follows the semantics still follows it after one more answer
 pub follows_on : (source : Source) (switches : ℕ) (date : List ℕ) (past : List Answer) (old new : Stepper) (answer : Answer)
     → Follows source switches date past old → Resumes old new answer → Follows source switches date (past ++ answer ∷ []) new
 follows_on source switches date past old new answer follows goes =
@@ -67,7 +67,7 @@ follows_on source switches date past old new answer follows goes =
       runs = λ answers. next.1 answers ∙ (follows.runs (answer ∷ answers) ∙ ap (Req source switches date) (sym (append_assoc past (answer ∷ []) answers)));
     }
 
--- its pending request is the request of the semantics
+-- a run that follows the semantics has its pending request
 pub waits_as : (source : Source) (switches : ℕ) (date : List ℕ) (past : List Answer) (c : Stepper) → Follows source switches date past c → waits c ≡ Req source switches date past
 waits_as source switches date past c follows = waits_first c source ∙ (follows.runs [] ∙ ap (Req source switches date) (append-nil past))
 

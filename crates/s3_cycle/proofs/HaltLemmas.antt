@@ -76,7 +76,7 @@ passed_to source p progress from to e some behind few off =
     halts_passed source p progress (to - from) from e some (omega (arith, few, behind)) (λ n after before. off n after (omega (arith, before, behind)))
     ∙ ap (λ n. halts_from source p progress n e) sum
 
--- none is left after H9
+-- no halt is left after H9
 halts_over : (source : Source) (p : Program) (progress : Progress) (e : Environment) → halts_from source p progress 10 e ≡ cycle_from source p progress e
 unfolding halts_shown
 halts_over source p progress e = refl

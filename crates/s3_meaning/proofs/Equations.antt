@@ -319,7 +319,7 @@ module _ (most : ℕ) (a a' : Anew) (same : AgreeAnew most a a') where
     }))).at _ answers few;
   }
 
-  -- this holds if the cycles agree for readings with an unread file
+  -- the processing of a selected record agrees if the cycles agree for readings with an unread file
   selected_or_last-agree : (source : Source) (reading : Reading) → ((next : Reading) → list_any is_unread next.files ≡ true → Agree most (a.cycle next) (a'.cycle next)) → Agree most (selected_or_last source a reading (select reading)) (selected_or_last source a' reading (select reading))
   unfolding selected_or_last
   selected_or_last-agree source reading cycles = by_choice (select reading) refl

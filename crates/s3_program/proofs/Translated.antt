@@ -109,7 +109,7 @@ made_valid known lines a =
     ∙ (ap (λ (m : Meant). valid_by (tables_in known) (source_of lines) m) (made_meant known lines)
     ∙ both _ _ a.right (sound_known known lines a)))
 
--- one line more
+-- one more line
 last_of : (file : Option FileLine) → filter_map {X = Option FileLine} (λ o. o) (file ∷ []) ≡ option_to_list file
 last_of None = refl
 last_of (Some file) = refl

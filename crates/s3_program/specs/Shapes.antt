@@ -24,7 +24,7 @@ same_shape (Numeric m d) (Numeric n e) = m == n && d == e
 same_shape (Alphanumeric m) (Numeric n e) = false
 same_shape (Numeric m d) (Alphanumeric n) = false
 
--- both have the same kind and the same length, in bytes or digits
+-- two shapes of the same kind and the same length, in bytes or digits
 abbrev pub same_kind_and_length : Shape → Shape → Bool
 same_kind_and_length (Alphanumeric m) (Alphanumeric n) = m == n
 same_kind_and_length (Numeric m d) (Numeric n e) = m == n

@@ -200,7 +200,7 @@ pub goes_further : (p : Program) (anew : Anew) (go : Rest) (spots : List Spot) (
 goes_further p anew go [] last = refl
 goes_further p anew go (spot ∷ spots) last = goes_further p anew (rest_at p anew go spot) spots last
 
--- at its end a section continues with `go`
+-- a section at its end continues with `go`
 pub at_end : (p : Program) (anew : Anew) (go : Rest) (spot : Spot) → rest_of p spot.section spot.place ≡ [] → rest_at p anew go spot ≡ go
 unfolding calculated
 at_end p anew go spot none = ap (calculated (source_named p) anew (rest_of p spot.section spot.begin) go None) none

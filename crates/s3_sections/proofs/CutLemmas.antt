@@ -77,7 +77,7 @@ begins_behind at [] all closed line there = absurd (none_some line there)
 begins_behind at (l ∷ ls) all closed line there =
     apart line.time (ap (λ group. goes_on (time_on group line.time)) (sym closed) ∙ (ap (λ (x : CalculationLine Reference). goes_on (time_on at.group x.time)) (sym (some_same l line there)) ∙ all.0.grouped))
 
--- then earlier groups don't matter
+-- earlier groups don't matter to lines that begin a group
 pub fresh : (p : Program) (one two : CalculationTime) (lines : List (CalculationLine Reference)) → BeginsWith lines → named_calculations p one [] lines ≡ named_calculations p two [] lines
 fresh p one two [] begins = refl
 fresh p one two (line ∷ lines) begins =

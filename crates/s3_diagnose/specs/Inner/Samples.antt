@@ -93,7 +93,7 @@ card_file = plain_file name_r usage.Input (Some file.Primary) device.CardReader
 abbrev pub print_file : FileLine
 print_file = plain_file name_p usage.Output None device.Printer
 
--- by record number
+-- a file chained by record number
 abbrev pub chained_file : FileLine
 chained_file = record (plain_file name_d usage.Input (Some file.Chained) device.Disk) { is_random = true }
 

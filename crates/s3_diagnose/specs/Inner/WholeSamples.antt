@@ -34,7 +34,7 @@ number_field = field name_a 1 3 (form.Zoned 0)
 abbrev pub put_number : SheetLine
 put_number = put_field name_a put.Plain 3
 
--- by their level entries: a line without operation, a line with one, BEGSR, ENDSR, DIV and MVR
+-- lines with a level entry: without operation, with one, BEGSR, ENDSR, DIV and MVR
 abbrev pub conditions : CalculationTime → SheetLine
 conditions time = c (line time None None None None)
 
@@ -65,7 +65,7 @@ displaced =
     -- AND, OR and field lines without a record line before them
     (and_record ∷ or_record 1 ∷ number_field ∷ record_of name_r 2 ∷ number_field ∷ [], 1 ∷ 2 ∷ 3 ∷ [])
     ∷
-    -- the same rules for line cards
+    -- AND and OR cards continue a line card, also through other AND and OR cards, but not through a field card
     (line_card (Some name_p) ∷ and_card ∷ or_card ∷ put_number ∷ and_card ∷ put_number ∷ [], 5 ∷ [])
     ∷
     (put_number ∷ and_card ∷ line_card (Some name_p) ∷ put_number ∷ [], 1 ∷ 2 ∷ [])

@@ -18,7 +18,7 @@ use Rattle.s3_meaning.specs.Inner.SheetWords.{Corner, on, print_file, disk_file,
 abbrev pub matched_type : List ℕ → ℕ → List SheetLine
 matched_type file indicator = type_of_all file indicator ∷ match_field_at 1 2 Alphanumeric (codes "K") 1 ∷ []
 
--- its records print the file's name and M1, and M if MR is on
+-- records of this type print the file's name and M1, and M if MR is on
 abbrev pub matched_line : List ℕ → ℕ → List SheetLine
 matched_line file indicator =
     line Detail (on (General indicator)) ∷ constant 1 file ∷ value 3 (codes "K") Plain ∷ constant_on (on Matching) 4 (codes "M") ∷ []
