@@ -1,4 +1,4 @@
--- Lines without diagnostics are what translation needs.
+-- Lines without diagnostics satisfy the requirements of translation.
 use Rattle.std.proofs.Common.{◌≡◌, ℕ, List, [], Result, Ok, Err, IsErrAnd}
 use Rattle.std.specs.Prelude.{IsTrue}
 use Rattle.s3_lines.specs.declared.sheet.Line.{Line}
@@ -23,7 +23,7 @@ accepted_of_none run_card known lines defines read none =
     let clear = clear_of_none run_card known lines same none in
     accepted_of_clear known lines defines (defined_of_clear known lines same clear) read clear
 
--- where memory ran out nothing is said of the lines
+-- if memory runs out, the result claims nothing about the lines
 pub without_memory : (lines : List Line) (run_card : ℕ) (result : Result Program CompileFault) → IsErrAnd result (λ fault. fault ≡ NoMemory) → Compiles lines run_card result
 without_memory lines run_card (Ok program) fault = absurd fault
 without_memory lines run_card (Err NoMemory) fault = tt

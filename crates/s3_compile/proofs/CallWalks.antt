@@ -1,4 +1,4 @@
--- The calls of C lines, found by a walk over them.
+-- The calls of calculation lines, found by a walk over the lines.
 use Rattle.std.proofs.Common.{◌≡◌, ℕ, suc, ◌+◌, ◌<◌, ◌++◌, length, drop, get_or, List, [], ◌∷◌, refl, sym, ◌∙◌, ap, arith, drop-cons, append_assoc, subst}
 use Rattle.std.specs.Prelude.{Option, Some, None}
 use Rattle.s3_lines.specs.declared.sheet.CalculationLine.{CalculationLine}
@@ -14,7 +14,7 @@ first_call : (caller callee : Option ℕ) (calls : List Call) → with_call call
 first_call caller None calls = refl
 first_call caller (Some callee) calls = refl
 
--- one line more
+-- one more line
 pub calls_next : (old new : List Call) (at next : CalculationStanding) (lines : List (CalculationLine Meaning)) (i : ℕ) (d : CalculationLine Meaning) (all : List Call) → i < length lines
     → next ≡ behind_calculation at (get_or lines i d) → new ≡ old ++ with_call (caller_of at (get_or lines i d)) (callee_of (get_or lines i d)) []
     → old ++ calls_from at (drop i lines) ≡ all → new ++ calls_from next (drop (i + 1) lines) ≡ all
@@ -29,7 +29,7 @@ calls_next old new at next lines i d all within is more so_far =
     ∙ (first_call (caller_of at here) (callee_of here) (calls_from (behind_calculation at here) rest) ∙ ap (calls_from at) (sym split)) in
     ap (λ calls. calls ++ calls_from next rest) more ∙ (append_assoc old call (calls_from next rest) ∙ (ap (λ calls. old ++ calls) parted ∙ so_far))
 
--- no place is past the number of lines
+-- no place exceeds the number of lines
 pub next_line_within : (at next : CalculationStanding) (lines : List (CalculationLine Meaning)) (i : ℕ) (d : CalculationLine Meaning) → next ≡ behind_calculation at (get_or lines i d)
     → IsWithin i at → IsWithin (i + 1) next
 next_line_within at next lines i d is h = subst (IsWithin (i + 1)) (sym is) (calculation_within i at (get_or lines i d) h)

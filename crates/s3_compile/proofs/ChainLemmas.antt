@@ -1,4 +1,4 @@
--- Chains of calls: which calls have so many before them, and that a call in a circle has any number before it.
+-- Nested calls: the calls with a number of calls before them; a recursive call has any number before it.
 use Rattle.std.proofs.Common.{◌≡◌, ℕ, ◌<◌, List, [], ◌∷◌, ◌++◌, take, get_or, length, Bool, true, false, cond, ◌||◌, ◌&&◌, refl, sym, ◌∙◌, ap, arith, zero, suc, ◌+◌, nat_eq, filter, inl, inr}
 use Rattle.std.specs.Prelude.{Option, Some, None}
 use Rattle.std.specs.List.{list_any}
@@ -69,7 +69,7 @@ passes_none keeps xs old i d within so_far fails =
     ∙ (sym (append-nil (filter keeps (take i xs)))
     ∙ (ap (λ b. filter keeps (take i xs) ++ cond b (get_or xs i d ∷ []) []) (sym fails) ∙ sym (filter_more keeps xs i d within)))
 
--- ---- one call more
+-- ---- one more call
 pub within_same : (subroutines others : ℕ → Bool) → ((subroutine : ℕ) → subroutines subroutine ≡ others subroutine) → (calls : List Call)
     → filter (λ call. is_among subroutines call.caller) calls ≡ filter (λ call. is_among others call.caller) calls
 within_same subroutines others same calls = filter_agree (λ call. is_among subroutines call.caller) (λ call. is_among others call.caller) (λ call. at call.caller) calls
@@ -98,7 +98,7 @@ later_next calls left later n is next =
 pub later_first : (calls later : List Call) → later ≡ filter (λ call. is_among (is_called calls) call.caller) calls → later ≡ filter (λ call. ends_chain calls 1 call.caller) calls
 later_first calls later next = later_next calls calls later 0 (sym (all_kept calls)) next
 
--- ---- circles
+-- ---- recursive calls
 place_is : (o : Option ℕ) (place : ℕ) → is_place o place ≡ true → o ≡ Some place
 place_is None place is = absurd (false≢true is)
 place_is (Some other) place is = ap (λ (p : ℕ). Some p) (eqb-true other place is)
@@ -108,7 +108,7 @@ one_more calls n k call within at chain =
     list_any-from_Any (λ other. nat_eq call.callee other.callee && ends_chain calls n other.caller) calls
     (k, call, within, at, and_from _ _ (eq-eqb call.callee call.callee refl) chain)
 
--- what a subroutine reaches has as many calls before it
+-- a subroutine reached from another has as many calls before it
 reached_chain : (calls : List Call) (m n from to : ℕ) → reaches calls m from to ≡ true → ends_chain calls n (Some from) ≡ true → ends_chain calls n (Some to) ≡ true
 reached_chain calls zero n from to same chain = ap (λ (s : ℕ). ends_chain calls n (Some s)) (sym (eqb-true from to same)) ∙ chain
 reached_chain calls (suc m) n from to reached chain =

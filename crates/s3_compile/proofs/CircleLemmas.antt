@@ -1,4 +1,4 @@
--- Calls in a circle: each is the ninth of a chain.
+-- Recursive calls: each is also a ninth nested call.
 use Rattle.std.proofs.Common.{◌≡◌, ℕ, ◌<◌, List, [], ◌∷◌, get_or, length, Bool, true, false, cond, ◌||◌, ◌&&◌, refl, sym, ◌∙◌, ap, arith, ◌+◌, nat_eq, filter, take, subst}
 use Rattle.std.specs.Prelude.{Option, Some, None}
 use Rattle.std.specs.Option.{option_eq}
@@ -63,14 +63,14 @@ any_same : (test : Call → Bool) (calls : List Call) (call : Call) → list_any
 any_same test [] call = refl
 any_same test (other ∷ calls) call = same_step (same_call call other) (test other) (test call) _ _ (λ same. ap test (sym (same_is call other same))) (any_same test calls call)
 
--- ---- calls that are added to a set
+-- ---- calls added to a set
 same_turned : (a b : Call) → same_call a b ≡ same_call b a
 same_turned a b = alike (same_call a b) (same_call b a) (λ same. turned a b (same_is a b same)) (λ same. turned b a (same_is b a same))
   where
     turned : (x y : Call) → x ≡ y → same_call y x ≡ true
     turned x y is = ap (λ z. same_call z x) (sym is) ∙ same_self x
 
--- a set with one call more
+-- the set with one more call
 pub record HasOneMore {S : Type 0} (old new : IndexSet Call S) (call : Call) : Type 0 where
   pub at : (other : Call) → contains same_call new other ≡ cond (same_call call other) true (contains same_call old other)
 
@@ -86,7 +86,7 @@ pub known_more : {S : Type 0} (old new : IndexSet Call S) (calls : List Call) (i
 known_more old new calls i d within more so_far call =
     one_added old new (get_or calls i d) more call ∙ (ap (λ b. b || same_call call (get_or calls i d)) (so_far call) ∙ sym (list_any_more (same_call call) calls i d within))
 
--- of calls that are gone over, those that pass a test are added
+-- the calls that pass a test are added
 pub record AddsPassing {S : Type 0} (test : Call → Bool) (initial new : IndexSet Call S) (calls : List Call) : Type 0 where
   pub at : (call : Call) → contains same_call new call ≡ (contains same_call initial call || list_any (λ other. same_call call other && test other) calls)
 
@@ -114,7 +114,7 @@ adds_none test initial old calls i d within fails =
     adds_more test initial old old calls i d within (λ call.
     sym (ap (λ b. contains same_call old call || b) (and_right (same_call call (get_or calls i d)) (test (get_or calls i d)) fails) ∙ or_none (contains same_call old call)))
 
--- ---- circles
+-- ---- recursive calls
 back_is : (calls : List Call) (caller : ℕ) (call : Call) → (is_place call.caller caller && reaches calls (length calls) call.callee caller) ≡ (is_place call.caller caller && is_in_circle calls call)
 back_is calls caller call = at call.caller call.callee
   where
@@ -149,7 +149,7 @@ in_circle_is calls call = at call.caller call.callee
     at None callee is = absurd (false≢true is)
     at (Some caller) callee is = (caller, (refl, is))
 
--- a call in a circle is among the ninth calls
+-- a recursive call is among the ninth nested calls
 circle_is_ninth : (calls : List Call) (call : Call) → list_any (same_call call) calls ≡ true → (caller : ℕ) → call.caller ≡ Some caller → reaches calls (length calls) call.callee caller ≡ true
     → list_any (λ other. is_place other.caller caller) (filter (λ other. ends_chain calls 8 other.caller) calls) ≡ true
 circle_is_ninth calls call known caller is back =
@@ -177,7 +177,7 @@ pub none_tried : {S : Type 0} (calls ninth : List Call) (circling : IndexSet Cal
 none_tried calls [] circling is empty none call = ap (list_any (same_call call)) none ∙ all_tried calls [] [] is (λ subroutine. refl) call
 none_tried calls (x ∷ xs) circling is empty none call = absurd (omega (arith, empty))
 
--- ---- what is forbidden
+-- ---- forbidden calls
 first_known : (calls : List Call) (call : Call) (k : ℕ) → k < length calls → get_or calls k call ≡ call → list_any (same_call call) calls ≡ true
 first_known calls call k within at = list_any-from_Any (same_call call) calls (k, call, within, at, same_self call)
 

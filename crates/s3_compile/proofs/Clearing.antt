@@ -1,4 +1,4 @@
--- Lines without diagnostics: on none of them does a condition hold.
+-- Lines without diagnostics: no condition holds for any of them.
 use Rattle.std.proofs.Common.{◌≡◌, ℕ, ◌+◌, ◌==◌, List, [], ◌∷◌, ◌++◌, Bool, true, false, cond, not, ◌||◌, refl, sym, ◌∙◌, ap, subst}
 use Rattle.std.specs.Prelude.{map, filter, filter_map}
 use Rattle.std.specs.List.{list_any, count_by}
@@ -51,12 +51,12 @@ none_kept test (x ∷ xs) none = step (test x) none (none_kept test xs)
 clear_line : (holds : ℕ → Bool) (card : ℕ) (among : List ℕ) → map (diagnostic_of card) (filter holds among) ≡ [] → not (list_any holds among) ≡ true
 clear_line holds card among none = ap not (none_kept holds among (none_mapped (diagnostic_of card) (filter holds among) none))
 
--- what the places of C lines go by stays as it is
+-- the meanings of names don't change the entries that decide a line's place
 same_verbs : (meanings : Meanings) (lines : List (CalculationLine Name)) → map verb_of (map (meant_calculation meanings) lines) ≡ map verb_of lines
 same_verbs meanings [] = refl
 same_verbs meanings (line ∷ lines) = ap (λ (verbs : List Verb). verb_of line ∷ verbs) (same_verbs meanings lines)
 
--- ---- all lines, sheet by sheet
+-- ---- all lines, by kind of specification
 record AreClear (known : Known) (at : Standing) (lines : List Line) : Type 0 where
   files : files_clear known.first_file at.files (filter_map file_line lines) ≡ true
   inputs : inputs_clear known.marks at.inputs (map (meant_input known.meanings) (filter_map input_line lines)) ≡ true
@@ -112,7 +112,7 @@ primaries (line ∷ lines) = step line.card line.sheet (primaries lines)
     step card (sheet.Calculation calculation) later = later
     step card (sheet.Output output) later = later
 
--- a diagnostic that is put among others leaves no empty list
+-- a list into which a diagnostic is inserted isn't empty
 nothing_placed : (one_primary : Bool) (found : List Diagnostic) (diagnostic : Diagnostic) → cond one_primary found (placed found diagnostic) ≡ [] → (one_primary ≡ true) × (found ≡ [])
 nothing_placed true found diagnostic none = (refl, none)
 nothing_placed false found diagnostic none =
@@ -128,7 +128,7 @@ meant_clear run_card lines none =
     let one : has_one_primary_file (filter_map file_line lines) ≡ true = ap (λ (n : ℕ). n == 1) (sym (primaries lines)) ∙ parts.0 in
     both _ _ (both _ _ (both _ _ (both _ _ one clear.files) clear.inputs) clear.calculations) clear.outputs
 
--- lines without diagnostics are clear with the meanings that a table has, if they are those of the lines
+-- for lines without diagnostics no condition holds, given tables with the meanings of the lines
 pub clear_of_none : (run_card : ℕ) (known : Definitions) (lines : List Line) → meaning_of (tables_in known) ≡ meanings_of lines → compile_diagnostics run_card lines ≡ []
     → are_clear (filter_map file_line lines) (known_lines (tables_in known) lines).inputs (known_lines (tables_in known) lines).calculations (known_lines (tables_in known) lines).outputs ≡ true
 clear_of_none run_card known lines same none =

@@ -1,4 +1,4 @@
--- Lines without diagnostics: all that they name is defined. What an operation uses would have 5, and what it has no use for 8.
+-- In lines without diagnostics all names are defined. An undefined name that is used would get 5, and a surplus one 8.
 use Rattle.std.proofs.Common.{◌≡◌, ℕ, List, [], ◌∷◌, ◌++◌, Bool, true, false, cond, not, ◌&&◌, refl, sym, ◌∙◌, ap, subst}
 use Rattle.std.specs.Prelude.{Option, Some, None, is_some, is_none, map, filter_map}
 use Rattle.std.specs.Option.{option_or}
@@ -52,7 +52,7 @@ use Rattle.s3_diagnose.specs.Known.{Meanings, meant_input}
 use Rattle.s3_diagnose.specs.Lookups.{input_given, result_given, fields_given, tables_given, meanings_of}
 use Rattle.s3_compile.proofs.Labelling.{is_off}
 
--- ---- what is used
+-- ---- names that are used
 meaning_defined : (meaning : Meaning) → is_undefined meaning ≡ false → is_defined meaning ≡ true
 meaning_defined a.Undefined h = cc
 meaning_defined (a.File file) h = refl
@@ -80,7 +80,7 @@ result_defined target.Number (Some meaning) known fits = meaning_defined meaning
 result_defined target.Text (Some meaning) known fits = meaning_defined meaning known
 result_defined target.Any (Some meaning) known fits = meaning_defined meaning known
 
--- ---- a C line
+-- ---- a calculation line
 abbrev AllDefined : CalculationLine Meaning → Type 0
 AllDefined line = (factor_passes is_defined line.factor1 && factor_passes is_defined line.factor2 && entry_passes is_defined line.result) ≡ true
 
@@ -163,7 +163,7 @@ calculations_defined forbidden at (line ∷ lines) clear =
     both _ _ (by_operation (is_cut_by later) line.operation line off.undefined off.unfit)
     (calculations_defined forbidden (behind_calculation at line) lines parts.1)
 
--- ---- the I sheet: fields of records are defined by their own lines
+-- ---- Input specifications: fields of records are defined by their own lines
 abbrev pub is_known_field : (is_known : Name → Bool) → InputLine Name → Bool
 is_known_field is_known (Record file indicator codes) = true
 is_known_field is_known (AndCodes codes) = true
@@ -191,7 +191,7 @@ inputs_defined marks at (line ∷ lines) clear fields =
     let each = and_parts (is_defined_field line) (list_all is_defined_field lines) fields in
     both _ _ (input_defined marks at line parts.0 each.0) (inputs_defined marks (behind_input at line) lines parts.1 each.1)
 
--- ---- the O sheet
+-- ---- Output specifications
 file_defined : (file before : Option Meaning) → is_undefined_entry (option_or file before) ≡ false → entry_passes is_defined file ≡ true
 file_defined None before known = refl
 file_defined (Some file) before known = meaning_defined file known
@@ -212,7 +212,7 @@ outputs_defined at (line ∷ lines) clear =
     let parts = and_parts (is_clear (output_holds at line)) (outputs_clear (behind_output at line) lines) clear in
     both _ _ (output_defined at line (is_off (output_holds at line) parts.0).undefined) (outputs_defined (behind_output at line) lines parts.1)
 
--- ---- all sheets
+-- ---- all specifications
 pub all_defined : (meant : Meant) → are_clear meant.files meant.inputs meant.calculations meant.outputs ≡ true → list_all is_defined_field meant.inputs ≡ true → are_defined meant ≡ true
 unfolding are_clear are_defined
 all_defined meant clear fields =
@@ -222,7 +222,7 @@ all_defined meant clear fields =
     both _ _ (both _ _ (inputs_defined (marks_of meant.inputs) first_input meant.inputs two.1 fields) (calculations_defined (forbidden_among meant.calculations) first_calculation meant.calculations three.1))
     (outputs_defined first_output meant.outputs four.1)
 
--- ---- what lines define is found
+-- ---- the definitions of lines are found
 found_first : {X : Type 0} (o rest : Option X) → is_some o ≡ true → is_some (option_or o rest) ≡ true
 found_first None rest there = cc
 found_first (Some x) rest there = refl
@@ -235,7 +235,7 @@ found_more : {X : Type 0} (b : Bool) (x : X) (rest : Option X) → is_some rest 
 found_more true x rest there = refl
 found_more false x rest there = there
 
--- a test that what the I lines give passes is passed by each of their fields
+-- a test that all fields defined by input lines pass holds for each of them
 fields_known : (is_known : Name → Bool) (lines : List (InputLine Name))
     → ((name : Name) → is_some (lookup (same_name name) (filter_map input_given lines)) ≡ true → is_known name ≡ true) → list_all (is_known_field is_known) lines ≡ true
 fields_known is_known [] known = refl
@@ -276,7 +276,7 @@ fields_defined lines =
     meant_fields (meanings_of lines) (filter_map input_line lines)
     (fields_known (λ name. is_defined (meanings_of lines kind.Field name)) (filter_map input_line lines) (found_field lines))
 
--- clear lines name nothing that isn't defined, if a table has the meanings of the lines
+-- if no condition holds for the lines, all their names are defined
 pub defined_of_clear : (known : Definitions) (lines : List Line) → meaning_of (tables_in known) ≡ meanings_of lines
     → are_clear (filter_map file_line lines) (known_lines (tables_in known) lines).inputs (known_lines (tables_in known) lines).calculations (known_lines (tables_in known) lines).outputs ≡ true
     → are_defined (known_lines (tables_in known) lines) ≡ true

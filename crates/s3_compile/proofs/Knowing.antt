@@ -1,4 +1,4 @@
--- What the tables of lines say is what the lines say.
+-- The look-up tables of a source agree with its lines.
 use Rattle.std.proofs.Common.{◌≡◌, List, ◌∙◌, ap}
 use Rattle.std.specs.Prelude.{map, filter_map}
 use Rattle.std.proofs.Math.Path.{fun_ext}

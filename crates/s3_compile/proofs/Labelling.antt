@@ -1,4 +1,4 @@
--- Where lines have no diagnostic, tags and subroutines stand where the tables say, and no name stands twice.
+-- In lines without diagnostics, tags and subroutines have the places in the tables, and no name occurs twice.
 use Rattle.std.proofs.Common.{◌≡◌, ℕ, ◌+◌, ◌<◌, ◌≤◌, List, [], ◌∷◌, Bool, true, false, refl, sym, ◌∙◌, ap, subst, arith, nat_eq, ◌==◌}
 use Rattle.std.specs.Prelude.{Option, Some, None, map, option_map, unwrap_or}
 use Rattle.std.specs.List.{list_any, cons_option}
@@ -33,7 +33,7 @@ use Rattle.s3_program.proofs.GivenLemmas.{distinct_first}
 use Rattle.s3_program.proofs.SoundLemmas.{both}
 use Rattle.s3_diagnose.specs.Lookups.{tag_given, subroutine_given, with_entry, tags_from, subroutines_from}
 
--- ---- what doesn't hold of a line
+-- ---- conditions that don't hold for a line
 pub record IsOff (holds : ℕ → Bool) : Type 0 where
   pub undefined : holds 5 ≡ false
   pub redefined : holds 6 ≡ false
@@ -47,7 +47,7 @@ is_off holds clear =
     let eight = or_parts (holds 8) (list_any holds (9 ∷ 10 ∷ 11 ∷ 12 ∷ [])) seven.1 in
     record { undefined = five.0; redefined = six.0; unfit = eight.0 }
 
--- ---- names whose places ascend, where a look-up finds each at its own place
+-- ---- names with ascending places, each found at its own place
 abbrev pub Ascends : {X : Type 0} → (X → ℕ) → (Name → Option ℕ) → ℕ → List (Name × X) → Type 0
 Ascends place found low [] = Unit {0}
 Ascends place found low (entry ∷ entries) =
@@ -57,7 +57,7 @@ pub ascends_behind : {X : Type 0} (place : X → ℕ) (found : Name → Option �
 ascends_behind place found low [] all = tt
 ascends_behind place found low (entry ∷ entries) all = let first = all.0 in (omega arith, all.1)
 
--- a name that is found at an earlier place is none of these
+-- a name that is found at an earlier place isn't among these
 absent : {X : Type 0} (place : X → ℕ) (found : Name → Option ℕ) (low : ℕ) (entries : List (Name × X)) (name : Name) (p : ℕ) → found name ≡ Some p → p < low → Ascends place found low entries
     → list_any (same_name name) (keys_of entries) ≡ false
 absent place found low [] name p at below all = refl
@@ -79,21 +79,21 @@ ascending_distinct place found low (entry ∷ entries) all =
     both _ _ (not_from_false _ (absent place found (place entry.1 + 1) entries entry.0 (place entry.1) all.1.0 (omega arith) all.1.1))
     (ascending_distinct place found (place entry.1 + 1) entries all.1.1)
 
--- ---- a table of labels beside the places of lines
--- how a table of labels is read: where each label stands, where a look-up of a name ends, what of a label is compared, and how
+-- ---- a table of labels compared with the places of lines
+-- how a table of labels is read: the place of a label, the look-up of a name, the compared value, and the comparison
 record Reading (X Y : Type 0) : Type 0 where
   place : X → ℕ
   found : Name → Option ℕ
   value : X → Y
   same : Y → Y → Bool
 
--- a label of a line is what its meaning gives, and is found at the place of the line
+-- the label of a line agrees with its meaning, and is found at the line's place
 record IsOn {X Y : Type 0} (read : Reading X Y) (at : ℕ) (entry : Name × X) (given : Y) : Type 0 where
   same : read.same (read.value entry.1) given ≡ true
   place : read.place entry.1 ≡ at
   found : read.found entry.0 ≡ Some at
 
--- both are given, or neither is
+-- two options agree: both have values that agree, or both are empty
 abbrev Agree : {X Y : Type 0} → (X → Y → Type 0) → Option X → Option Y → Type 0
 Agree P None None = Unit {0}
 Agree P None (Some y) = ⊥
@@ -219,7 +219,7 @@ all_labelled tables forbidden at (line ∷ lines) clear =
       subroutines = one_more (subroutines_by tables) at.place _ _ _ _ here.subroutine later.subroutines;
     }
 
--- tables that hold what lines give first
+-- tables with the first definitions of the lines are right
 pub labels_right : (tables : Tables) (forbidden : Call → Bool) (lines : List (CalculationLine Name)) → tables.tags ≡ firsts (tags_from first_calculation lines)
     → tables.subroutines ≡ firsts (subroutines_from first_calculation lines) → calculations_clear forbidden first_calculation (map (known_calculation tables) lines) ≡ true
     → labels_stand tables.tags tables.subroutines (map (known_calculation tables) lines) ≡ true

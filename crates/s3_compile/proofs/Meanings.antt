@@ -1,4 +1,4 @@
--- What names mean by the tables of what lines define is what they mean by the lines.
+-- Names have the same meanings by the tables of definitions as by the lines.
 use Rattle.std.proofs.Common.{◌≡◌, List, ◌++◌, ◌∙◌, ap}
 use Rattle.std.specs.Prelude.{filter_map}
 use Rattle.std.specs.Map.{lookup}
@@ -21,7 +21,7 @@ use Rattle.s3_program.proofs.LineLemmas.{all_taken}
 use Rattle.s3_diagnose.specs.Lookups.{tables_given, meanings_of, fields_given, tags_from, subroutines_from}
 use Rattle.s3_compile.specs.Inner.Defines.{Defines}
 
--- a table of first entries finds what all entries give first
+-- a look-up in a table of first entries finds the first of all entries
 found_first : {X : Type 0} (table entries : List (Name × X)) → table ≡ firsts entries → (name : Name) → lookup (same_name name) table ≡ lookup (same_name name) entries
 found_first table entries is name = ap (lookup (same_name name)) is ∙ first_found name entries
 

@@ -20,7 +20,7 @@ use Rattle.s3_diagnose.specs.Lookups.{input_given, result_given, tag_given, subr
 use Rattle.s3_compile.specs.Inner.Noted.{fields_of, field_on, results_of, result_on, places_of, place_on, place_after, place_behind, tags_of, tag_on, subroutines_of, subroutine_on, behind_given, calculation_behind}
 use Rattle.s3_diagnose.proofs.Walks.{calculation_within, calculations_more}
 
--- what a table notes one after the other
+-- three lists noted one after another
 pub noted_in_turn : {X : Type 0} (none one two three xs ys zs : List (Name × X)) → none ≡ [] → one ≡ all_noted none xs → two ≡ all_noted one ys → three ≡ all_noted two zs
     → three ≡ firsts (xs ++ (ys ++ zs))
 noted_in_turn {X} none one two three xs ys zs empty first second third =
@@ -29,7 +29,7 @@ noted_in_turn {X} none one two three xs ys zs empty first second third =
     ∙ (sym (noted_behind one ys zs)
     ∙ (ap (λ (table : List (Name × X)). all_noted table (ys ++ zs)) (first ∙ ap (λ (table : List (Name × X)). all_noted table xs) empty) ∙ sym (noted_behind [] xs (ys ++ zs)))))
 
--- one line more, where a walk gives what its first line gives and then what the others give
+-- one more line of a walk, which gives the entries of its first line, then those of the others
 pub noted_next : {X A L : Type 0} (on : A → L → List (Name × X)) (behind : A → L → A) (walk : A → List L → List (Name × X))
     → ((at : A) (line : L) (lines : List L) → walk at (line ∷ lines) ≡ on at line ++ walk (behind at line) lines)
     → (old new : List (Name × X)) (at next : A) (lines : List L) (i : ℕ) (d : L) (all : List (Name × X)) → i < length lines → next ≡ behind at (get_or lines i d)
@@ -63,7 +63,7 @@ subroutines_step at line lines = step (calculation_line line) (filter_map calcul
     step None rest = refl
     step (Some c) rest = with_given (subroutine_given at c) (subroutines_from (behind_calculation at c) rest)
 
--- no place is past the number of lines
+-- no place exceeds the number of lines
 pub next_within : (at next : CalculationStanding) (lines : List Line) (i : ℕ) (d : Line) → next ≡ calculation_behind at (get_or lines i d) → IsWithin i at → IsWithin (i + 1) next
 next_within at next lines i d is h = subst (IsWithin (i + 1)) (sym is) (step (calculation_line (get_or lines i d)))
   where

@@ -27,7 +27,7 @@ use Rattle.s3_program.proofs.GivenLemmas.{found_in_both}
 use Rattle.s3_diagnose.proofs.Walks.{both_first, both_second}
 use Rattle.s3_compile.specs.Inner.Noted.{Finds, FindsMore, Has, HasMore, all_on, some_on, in_type_on}
 
--- ---- a walk: a table and what the lines that are left give find together what all the lines give
+-- ---- a walk: the table and the remaining lines' entries together give what all entries give
 pub record Covers {K X S : Type 0} (same : K → K → Bool) (table : IndexMap K X S) (left all : List (K × X)) : Type 0 where
   pub at : (key : K) → option_or (get same table key) (lookup (same key) left) ≡ lookup (same key) all
 
@@ -40,7 +40,7 @@ covers_more same old new xs ys all covers more = record {
       ∙ (ap (option_or (get same old key)) (sym (found_in_both (same key) xs ys)) ∙ covers.at key));
 }
 
--- one line more, where a walk gives what its first line gives and then what the others give
+-- one more line of a walk, which gives the entries of its first line, then those of the others
 pub covers_next : {K X S A L : Type 0} (same : K → K → Bool) (on : A → L → List (K × X)) (behind : A → L → A) (walk : A → List L → List (K × X))
     → ((at : A) (line : L) (lines : List L) → walk at (line ∷ lines) ≡ on at line ++ walk (behind at line) lines)
     → (old new : IndexMap K X S) (at next : A) (lines : List L) (i : ℕ) (d : L) (all : List (K × X)) → i < length lines → next ≡ behind at (get_or lines i d)
@@ -54,18 +54,18 @@ covers_next {K} {X} {S} same on behind walk step old new at next lines i d all w
     ap (walk at) split ∙ (step at here rest ∙ ap (λ a. on at here ++ walk a rest) (sym is)) in
     covers_more same old new (on at here) (walk next rest) all (subst (λ left. Covers same old left all) parted covers) more
 
--- an entry that is given
+-- an entry that a line gives
 pub given_more : {K X S L : Type 0} (same : K → K → Bool) (old new : IndexMap K X S) (level : ℕ → L) (mark : L → K × X) (entry : Option ℕ) (number : ℕ) → entry ≡ Some number
     → FindsMore same old new (mark (level number) ∷ []) → FindsMore same old new (map mark (option_to_list (option_map level entry)))
 given_more same old new level mark entry number is more =
     subst (λ e. FindsMore same old new (map mark (option_to_list (option_map level e)))) (sym is) more
 
--- two tests that are the same
+-- two equal tests give the same look-ups
 pub same_finds : {K X S : Type 0} (eq same : K → K → Bool) → ((a b : K) → eq a b ≡ same a b) → (old new : IndexMap K X S) (entries : List (K × X)) → FindsMore eq old new entries
     → FindsMore same old new entries
 same_finds eq same alike old new entries more = subst (λ test. FindsMore test old new entries) (fun_ext (λ a. fun_ext (alike a))) more
 
--- ---- keys whose derived test of equality is that of their parts
+-- ---- keys whose derived equality is the equality of their parts
 pub level_finds : {X S : Type 0} (eq : Level → Level → Bool) → ((m n : ℕ) → eq (level key.Control m) (level key.Control n) ≡ same_level (level key.Control m) (level key.Control n)) → ((m n : ℕ) → eq (level key.Match m) (level key.Match n) ≡ same_level (level key.Match m) (level key.Match n))
     → ((m n : ℕ) → eq (level key.Control m) (level key.Match n) ≡ same_level (level key.Control m) (level key.Match n)) → ((m n : ℕ) → eq (level key.Match m) (level key.Control n) ≡ same_level (level key.Match m) (level key.Control n))
     → (old new : IndexMap Level X S) (entries : List (Level × X)) → FindsMore eq old new entries → FindsMore same_level old new entries
@@ -133,7 +133,7 @@ covers_keys_next {K} {S} same on behind walk step old new at next lines i d all 
           ∙ (ap (λ b. contains same old key || b) (sym (any_of_both (same key) (on at here) (walk next rest)) ∙ ap (list_any (same key)) (sym parted)) ∙ covers.at key));
     }
 
--- ---- the walks over I lines
+-- ---- walks over input lines
 pub next_place : (at : InputStanding) (line : InputLine Meaning) → (behind_input at line).place ≡ at.place + 1
 next_place at (Record file indicator codes) = refl
 next_place at (AndCodes codes) = refl
@@ -174,7 +174,7 @@ ranged_input_at [] i d within all = absurd (omega arith)
 ranged_input_at (line ∷ lines) zero d within all = both_first (is_ranged_input line) (list_all is_ranged_input lines) all
 ranged_input_at (line ∷ lines) (suc i) d within all = ranged_input_at lines i d (omega arith) (both_second (is_ranged_input line) (list_all is_ranged_input lines) all)
 
--- ---- all that tables say of match and control fields
+-- ---- all tables of match and control fields
 pub marks_found : (tables : MarkTables) (lines : List (InputLine Meaning)) → Has same_type tables.types (types_from first_input lines)
     → Finds same_group_mark tables.in_all (all_marks_from first_input lines)
     → Finds same_group_mark tables.in_some (some_marks_from (contains same_type tables.types) first_input lines)

@@ -1,4 +1,4 @@
--- Lines of cards without a fault of their own have fields with lengths in their ranges.
+-- Lines of cards without errors of their own have fields with lengths in range.
 use Rattle.std.proofs.Common.{◌≡◌, List, [], ◌∷◌, refl, ◌∙◌, ap}
 use Rattle.std.specs.Prelude.{IsTrue, map, filter_map, option_map}
 use Rattle.std.specs.List.{list_all, cons_option}
@@ -41,7 +41,7 @@ pub ranged_of_read : (lines : List Line) → IsTrue (are_read lines) → IsTrue 
 unfolding are_read
 ranged_of_read lines read = all_ranged lines (both_second _ _ (both_first _ _ read))
 
--- and so have the I lines with what they name
+-- the input lines with meanings are in range too
 ranged_inputs : (meanings : Meanings) (lines : List Line) → IsTrue (are_ranged lines) → IsTrue (list_all is_ranged_input (map (meant_input meanings) (filter_map input_line lines)))
 ranged_inputs meanings [] h = refl
 ranged_inputs meanings (line ∷ lines) h =

@@ -1,4 +1,4 @@
--- A search back from a subroutine: what each level of it reaches.
+-- A backward search from a subroutine, level by level of callers.
 use Rattle.std.proofs.Common.{◌≡◌, ℕ, ◌≤◌, ◌<◌, ◌-◌, List, [], ◌∷◌, ◌++◌, length, take, get_or, Bool, true, false, ◌||◌, ◌&&◌, not, refl, sym, ◌∙◌, ap, arith, zero, suc, ◌+◌, nat_eq, subst, inl, inr, Vec}
 use Rattle.std.specs.List.{list_any, flat_map}
 use Rattle.std.proofs.Math.Path.{fun_ext}
@@ -12,7 +12,8 @@ use Rattle.s3_program.specs.Jumps.{is_place, reaches}
 use Rattle.s3_compile.specs.Inner.Reaching.{calls_it, callers_in, HasCallers, Adds}
 use Rattle.s3_compile.proofs.ChainLemmas.{alike, or_none}
 
--- a set has what reaches a subroutine by at most n calls, and each call of one of these is from another of these, but for those of the last level
+-- The set has the subroutines that reach `to` by at most n calls. Each caller of one is in the set, except callers of those at the last
+-- level.
 pub record Level {S : Type 0} (calls : List Call) (n to : ℕ) (reaching : IndexSet ℕ S) (level : List ℕ) : Type 0 where
   pub at : (from : ℕ) → contains nat_eq reaching from ≡ reaches calls n from to
   pub within : (from : ℕ) → list_any (nat_eq from) level ≡ true → contains nat_eq reaching from ≡ true
@@ -29,7 +30,7 @@ any_flat : {X Y : Type 0} (test : Y → Bool) (f : X → List Y) (xs : List X) �
 any_flat test f [] = refl
 any_flat test f (x ∷ xs) = list_any-append test (f x) (flat_map f xs) ∙ ap (λ b. list_any test (f x) || b) (any_flat test f xs)
 
--- ---- what is added
+-- ---- added subroutines
 pub adds_nothing : {S : Type 0} (set : IndexSet ℕ S) (list : List ℕ) → Adds set set list list []
 adds_nothing set list = record {
   all = λ subroutine. sym (or_none (contains nat_eq set subroutine));
@@ -77,7 +78,7 @@ adds_flat f old mid new before between after xs here i within is first second =
     subst (λ (added : List ℕ). Adds old new before after added) (flat_map_more f [] (take i xs) (get_or xs i 0) ∙ ap (λ (ys : List ℕ). flat_map f ys) (sym (take_more xs i 0 within)))
     (adds_joined old mid new before between after (flat_map f (take i xs)) (f (get_or xs i 0)) first (subst (λ (added : List ℕ). Adds mid new between after added) is second))
 
--- ---- chains
+-- ---- nested calls
 itself : (calls : List Call) (n from to : ℕ) → nat_eq from to ≡ true → reaches calls n from to ≡ true
 itself calls zero from to same = same
 itself calls (suc n) from to same = or_left _ _ same
@@ -166,7 +167,7 @@ level_next {A} {S} {R} calls table n to old new level next has before adds =
               or_left (list_any (nat_eq callee) next) (contains nat_eq new caller) (freshly callee ∙ and_from _ _ (ap not unknown) through)
         ]
 
--- a level with no subroutine is the last
+-- an empty level is the last one
 stays : {A S R : Type 0} (calls : List Call) (table : IndexMap ℕ (Vec ℕ A) R) (n to : ℕ) (reaching : IndexSet ℕ S) → HasCallers table calls → Level calls n to reaching []
     → (k : ℕ) → Level calls (k + n) to reaching []
 stays calls table n to reaching has last zero = let e : n ≡ 0 + n = omega arith in subst (λ (m : ℕ). Level calls m to reaching []) e last

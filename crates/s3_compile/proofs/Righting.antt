@@ -1,4 +1,4 @@
--- Where lines have no diagnostic, the tables of what they define are right.
+-- For lines without diagnostics, the tables of their definitions are right.
 use Rattle.std.proofs.Common.{◌≡◌, ℕ, ◌+◌, ◌++◌, List, [], ◌∷◌, Bool, true, false, ◌&&◌, cond, refl, sym, ◌∙◌, ap, arith, append_assoc, ◌==◌}
 use Rattle.std.specs.Prelude.{Option, Some, None, map, filter_map, is_some}
 use Rattle.std.specs.List.{list_all, cons_option}
@@ -80,7 +80,7 @@ files_of_clear known lines defines clear =
     let distinct : are_distinct (keys_of (map file_entry files)) ≡ true = ap are_distinct (same_keys 0 files) ∙ ascending_distinct _ _ 0 (file_places 0 files) ascend in
     defines.files ∙ (ap firsts (all_taken file_entry file_line lines) ∙ distinct_first (map file_entry files) distinct)
 
--- ---- fields: their shapes are those of the source
+-- ---- fields: they have the shapes of the source
 inputs_shaped : (lines : List (InputLine Name)) → filter_map input_given lines ≡ filter_map input_shape lines
 inputs_shaped [] = refl
 inputs_shaped (Record file indicator codes ∷ lines) = inputs_shaped lines
@@ -88,7 +88,7 @@ inputs_shaped (AndCodes codes ∷ lines) = inputs_shaped lines
 inputs_shaped (OrCodes indicator codes ∷ lines) = inputs_shaped lines
 inputs_shaped (FieldOfRecord field ∷ lines) = ap (λ shapes. (field.name, shape_of_field field) ∷ shapes) (inputs_shaped lines)
 
--- a line without operation bears no result
+-- a line without operation has no result
 result_shaped : (tables : Tables) (forbidden : Call → Bool) (at : CalculationStanding) (later : List Verb) (line : CalculationLine Name)
     → is_clear (calculation_holds forbidden at later (known_calculation tables line)) ≡ true → result_given line ≡ result_shape line
 result_shaped tables forbidden at later line clear = on line.operation line.result line.definition (is_off (calculation_holds forbidden at later (known_calculation tables line)) clear)
@@ -153,7 +153,7 @@ results_ranged tables (line ∷ lines) all =
     on (Some operation) (Some name) None here later = later
     on (Some operation) (Some name) (Some shape) here later = both _ _ here later
 
--- what holds of all entries holds of the first ones
+-- a property of all entries holds for the first ones
 noted_all : {X : Type 0} (p : Name × X → Bool) (table entries : List (Name × X)) → list_all p table ≡ true → list_all p entries ≡ true → list_all p (all_noted table entries) ≡ true
 unfolding all_noted
 noted_all p table [] before all = before
@@ -215,7 +215,7 @@ right_of_clear known lines defines read clear =
     both _ _ (both _ _ (both _ _ (both _ _ files fields) reserved) shaped)
     (labels_right tables forbidden calculations defines.tags defines.subroutines calculated)
 
--- lines of defined names, of cards without a fault of their own and without a diagnostic
+-- lines without diagnostics, of cards without errors of their own, are accepted
 pub accepted_of_clear : (known : Definitions) (lines : List Line) → Defines known lines → are_defined (known_lines (tables_in known) lines) ≡ true → are_read lines ≡ true
     → are_clear (filter_map file_line lines) (known_lines (tables_in known) lines).inputs (known_lines (tables_in known) lines).calculations (known_lines (tables_in known) lines).outputs ≡ true
     → IsAccepted known lines

@@ -1,4 +1,4 @@
--- Answers that fit, and what follows each.
+-- Answers that fit, and how the run continues after each.
 use Rattle.std.proofs.Common.{◌≡◌, ◌≢◌, ◌==◌, ◌≤◌, ◌<◌, ℕ, zero, suc, Bool, true, false, List, [], ◌∷◌, length, map, Option, Some, slice_get, nat_le, get_or, if◌then◌else◌, refl, sym, ap, ◌∙◌, subst, arith, ne_eqb, true≢false}
 use Rattle.std.proofs.Math.Path.{fun_ext}
 use Rattle.std.proofs.lemmas.Bool.{and_parts}
@@ -103,7 +103,7 @@ record_fits file size (Reply digit) long short h = absurd (true≢false (sym h))
 pub at_most : (a b : ℕ) → nat_le a b ≡ true → a ≤ b
 at_most a b h = grind (arith, nat_tests, h)
 
--- the records of a file are no longer than its device takes
+-- the records of a file are at most as long as its device allows
 pub file_ranged : (p : Program) (file : ℕ) → file < length p.files.items → is_between 1 (longest_record (file_at p file).device) (file_at p file).record_length ≡ true
 unfolding are_in_range
 file_ranged p file within =
@@ -167,7 +167,7 @@ read_fits p progress positions place asks.Jump answer in_range is h = absurd is
 read_fits p progress positions place (asks.Ask code) answer in_range is h = absurd is
 read_fits p progress positions place (asks.End at_once) answer in_range is h = absurd is
 
--- ---- the point at which it waits
+-- ---- the point at which the run waits
 pub waits_at : (c : Stepper) (point : Point) → IsWaiting c → c.point ≡ point → Waits c.program c.progress c.request point
 waits_at c point waiting is = subst (Waits c.program c.progress c.request) is waiting.waits
 
@@ -218,7 +218,7 @@ totals_reached old one two new off first second goes =
     goes_as old new _ _ (to_totals_when (own old) (held_by old) false off ∙ last_is (own old) (turn FirstPage false (with_last_record (held_by old))))
     (both_changed old one two new (λ source. last_time source (again source)) first second goes)
 
--- ---- the file that is read
+-- ---- the file being read
 ranged_at : (p : Program) (files : List InputFile) (k : ℕ) → k < length files → ((j : ℕ) (x : InputFile) → j < length files → x ≡ get_or files j x → x.file < length p.files.items)
     → IsFileRanged (input_at (map (input_of p) files) k).file
 ranged_at p [] k within all = absurd (omega (arith, within))
@@ -229,7 +229,7 @@ pub head_ranged : (c : Stepper) (place : ℕ) → IsRunning c → place < length
 head_ranged c place running within =
     ranged_at c.program c.progress.reading.files.items place within (λ j x inside there. input_slot c.program c.progress.reading j x running.reading inside there)
 
--- ---- the case that there is
+-- ---- the actual answer
 pub answered_by : (old new : Stepper) (answer other : Code.Answer) (meant : Answer → Source → Program → Progress → Rest) → answer ≡ other → GoesOn old new (here old (meant (answer_of other))) → GoesOn old new (here old (meant (answer_of answer)))
 answered_by old new answer other meant is goes =
     let P : Code.Answer → Type 0 = λ a. GoesOn old new (here old (meant (answer_of a))) in subst P (sym is) goes
@@ -239,7 +239,7 @@ pub continues_at : (old new : Stepper) (next other : Continuation) → next ≡ 
 continues_at old new next other is goes =
     let P : Continuation → Type 0 = λ t. GoesOn old new (here old (λ source program progress. continued source program progress t)) in subst P (sym is) goes
 
--- a record that is put into its file, or refused
+-- a record is written to its file, or refused
 pub stored_done : (old new : Stepper) (walk : Walk) (next : ℕ) → GoesOn old new (here old (λ source program progress. lines_from source program progress walk next))
     → GoesOn old new (here old (λ source program progress. stored_or_halted (again source) (lines_from source program progress walk next) Meant.Done))
 unfolding stored_or_halted
@@ -250,13 +250,13 @@ pub stored_refused : (old new : Stepper) (walk : Walk) (next : ℕ) (code : Halt
 unfolding stored_or_halted
 stored_refused old new walk next code goes = goes
 
--- a job that is over has no answer
+-- a job that has ended has no answer
 pub never_answered : (p : Program) (positions : List (Option ℕ)) (request : Request) (at_once : Bool) (answer : Answer) → request ≡ asks.End at_once → fits (request_of p positions request) answer ≡ true → ⊥
 unfolding request_of
 never_answered p positions request at_once answer is h =
     true≢false (sym h ∙ ap (λ (r : Request). fits (request_of p positions r) answer) is)
 
--- a file that is read anew
+-- a file is read again
 pub head_read : (old new : Stepper) (place : ℕ) → GoesOn old new (here old (λ source program progress. file_read source (again source) (input_at (inputs_in program progress) place) (head_put source program progress place)))
     → GoesOn old new (here old (λ source program progress. head_again source program progress place))
 head_read old new place goes =

@@ -1,4 +1,4 @@
--- The next card or record of a file is asked for.
+-- The run requests the next card or record of a file.
 use Rattle.std.proofs.Common.{◌≡◌, ◌⊎◌, inl, inr, ℕ, ◌<◌, length, get_or, Bool, true, false, sym, ◌∙◌, ap}
 use Rattle.std.specs.Prelude.{Option, Some, slice_get, unwrap_or, if◌then◌else◌}
 use Rattle.std.proofs.lemmas.Option.{slice_get-get_or}
@@ -50,11 +50,11 @@ asks_record old new place slot size request file same reads running unread there
     ∙ (λ i. ask (Meant.Read (sym name i) (sym as_long i))
     (λ answer. on_read (own old) (again (own old)) (input_at (inputs_in old.program old.progress) place) (head_put (own old) old.program old.progress place) answer (held_by old))))
 
--- the F line at a slot, as it is read
+-- the File Description specification in a slot, as it is read
 pub slot_listed : (program : Program) (slot : ℕ) (file : FileLine) → slot < length program.files.items → file ≡ get_or program.files.items slot file → slice_get program.files.items slot ≡ Some file
 slot_listed program slot file within there = slice_get-get_or program.files.items slot file within ∙ ap (λ (f : FileLine). Some f) (sym there)
 
--- the file that stands at a slot
+-- the file in a slot
 pub slot_file : (program : Program) (slot : ℕ) (file : FileLine) → slot < length program.files.items → file ≡ get_or program.files.items slot file → file_at program slot ≡ file
 slot_file program slot file within there = ap (λ (o : Option FileLine). unwrap_or o no_file) (slice_get-get_or program.files.items slot file within) ∙ sym there
 

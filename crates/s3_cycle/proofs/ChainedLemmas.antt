@@ -1,4 +1,4 @@
--- The record that a CHAIN finds becomes the current one of its file and is kept, and its fields are moved.
+-- The record that CHAIN finds is kept as the current record of its file, and its fields are moved.
 use Rattle.std.proofs.Common.{◌≡◌, ℕ, ◌<◌, ◌≤◌, List, length, Option, Some, slice_set, if◌then◌else◌, refl, sym, ap, ◌∙◌, subst, length-set, Vec, Global, true}
 use Rattle.std.proofs.Math.Path.{fun_ext}
 use Rattle.s3_cards.specs.declared.name.Name.{Name}
@@ -37,7 +37,7 @@ use Rattle.s3_cycle.proofs.GoingLemmas.{goes_as, goes_changed, goes_then}
 use Rattle.s3_cycle.proofs.HeadLemmas.{EndWithin, at_most, file_there}
 use Rattle.s3_match.proofs.FieldLemmas.{kind_fields}
 
--- the fields of a record of a type end within it
+-- the fields of a record's type lie within the record
 pub chained_within : (p : Program) (file : ℕ) (start : TypeStart) (bytes : List ℕ) → file < length p.files.items → is_type_start p start ≡ true → type_of (source_named p) (name_of_file p file) bytes ≡ Some (kind_at p start)
     → (file_at p file).record_length ≤ length bytes → EndWithin bytes (fields_at p start.fields)
 chained_within p file start bytes within starts typed long =
@@ -85,14 +85,14 @@ still_behind source p progress other time.Last = refl
 still_calculating : (source : Source) (p : Program) (progress other : Progress) → calculating source p (with_record progress other) ≡ calculating source p progress
 still_calculating source p progress other = ap (λ (go : Rest). goes_through p (again source) go (spots_of progress.course)) (still_behind source p progress other progress.time)
 
--- a run with the record that CHAIN found
+-- the run with the record that CHAIN found
 abbrev pub kept : Stepper → List ℕ → Stepper
 kept c bytes = record c { progress = record c.progress { «record» = bytes } }
 
 pub kept_running : (c : Stepper) (bytes : List ℕ) → IsRunning c → IsRunning (kept c bytes)
 kept_running c bytes running = record { overflow = running.overflow; state = running.state; reading = running.reading; heads = running.heads; calculations = running.calculations; totals_guard = running.totals_guard; inputs = running.inputs; outputs = running.outputs }
 
--- ---- its fields are moved from there
+-- ---- the fields of the kept record are moved
 pub kept_moves : (c : Stepper) (place : ℕ) (found bytes : List ℕ) → found ≡ bytes → CanCalculate c.program c.progress → AreWithin c.program bytes place → CanMove c.program (kept c found).progress moves.Chained place
 kept_moves c place found bytes same calculates within = record {
   moves = record { time = still_time c.program c.progress (kept c found).progress c.progress.time calculates.time; course = calculates.course };
@@ -110,11 +110,11 @@ found_moved old new place found bytes same goes =
     goes_then old (kept old found) new _ _ refl
     (found_begun old place bytes ∙ ap (λ (xs : List ℕ). here (kept old xs) (λ source program progress. fields_from source program progress moves.Chained place)) (sym same)) goes
 
--- its fields end within it
+-- the fields of the kept record lie within it
 pub ends_within : (old current : Stepper) (start : TypeStart) (bytes : List ℕ) → current.program ≡ old.program → EndWithin bytes (fields_at old.program start.fields) → AreWithin current.program bytes start.fields
 ends_within old current start bytes program within = subst (λ (p : Program). EndWithin bytes (fields_at p start.fields)) (sym program) within
 
--- fields of a record of this type are moved, and the calculations go on
+-- the fields of a record of this type are moved, and calculations continue
 abbrev pub moved_then : TypeStart → List ℕ → Source → Program → Progress → Rest
 moved_then start bytes source program progress = fields_moved (again source) (kind_at program start).fields bytes (calculating source program progress)
 

@@ -1,4 +1,4 @@
--- CHAIN: what it asks for, and what follows where no record is found.
+-- CHAIN: its request, and how the run continues if no record is found.
 use Rattle.std.proofs.Common.{◌≡◌, ℕ, suc, ◌<◌, arith, ℤ, List, [], ◌∷◌, Bool, true, false, length, refl, sym, ap, ◌∙◌, subst}
 use Rattle.std.specs.Prelude.{Option, Some, None, slice_get, unwrap_or, if◌then◌else◌}
 use Rattle.std.specs.List.{list_all}
@@ -60,7 +60,7 @@ use Rattle.s3_cycle.proofs.CalculatingLemmas.{with_course, calculating_from, per
 use Rattle.s3_cycle.proofs.PerformingLemmas.{performs}
 use Rattle.s3_cycle.proofs.FileLemmas.{file_tabled, chained_on_disk}
 
--- ---- its indicator
+-- ---- the indicator of a CHAIN
 first_settable : (entries : List (Option Indicator)) → list_all is_settable_entry entries ≡ true → is_settable_entry (first_indicator entries) ≡ true
 first_settable [] all = refl
 first_settable (entry ∷ entries) all = (and_parts (is_settable_entry entry) (list_all is_settable_entry entries) all).0
@@ -68,11 +68,11 @@ first_settable (entry ∷ entries) all = (and_parts (is_settable_entry entry) (l
 pub chain_settable : (p : Program) (place : ℕ) (line : CalculationLine Reference) → slice_get p.calculations.items place ≡ Some line → line.operation ≡ Some op.Chain → is_settable_entry (first_indicator line.indicators) ≡ true
 chain_settable p place line there bears = first_settable line.indicators (brings p line op.Chain (record { place = place; there = there; bears = bears }) refl).settable
 
--- the indicator of a CHAIN that is answered
+-- the indicator of an answered CHAIN isn't a switch
 pub answered_settable : (p : Program) (file : ℕ) (missing : Option Indicator) → IsChainOf p file missing → is_settable_entry missing ≡ true
 answered_settable p file missing chain = ap is_settable_entry chain.misses ∙ chain_settable p chain.place chain.line chain.there chain.operation
 
--- ---- its file
+-- ---- the file of a CHAIN
 file_there : (p : Program) (file : ℕ) → file < length p.files.items → slice_get p.files.items file ≡ Some (file_at p file)
 file_there p file within = slice_get-get_or p.files.items file no_file within ∙ ap (λ (f : FileLine). Some f) (sym (unwrap_or-slice_get p.files.items file no_file))
 
@@ -117,12 +117,12 @@ pub halts_missing : (c new : Stepper) (missing : Option Indicator) → missing �
 halts_missing c new missing is goes =
     goes_as c new _ _ (ap (λ (entry : Option Indicator). not_found (again (own c)) entry (calculating (own c) c.program c.progress) (held_by c)) is) goes
 
--- what is shown, and the calculations behind it
+-- CHAIN finds no record, and the calculations after it continue
 pub missed_on : (c mid new : Stepper) (missing : Option Indicator) → ShowsMiss c mid missing → GoesOn mid new (here mid calculating)
     → GoesOn c new (here c (λ source program progress. not_found (again source) missing (calculating source program progress)))
 missed_on c mid new missing shows goes = goes_then c mid new _ _ shows.program shows.runs goes
 
--- ---- a CHAIN, and then the calculations
+-- ---- a CHAIN, then the calculations after it
 -- a line that is a CHAIN in this file
 pub record IsChainIn (p : Program) (place : ℕ) (line : CalculationLine Reference) (file : ℕ) : Type 0 where
   pub there : slice_get p.calculations.items place ≡ Some line
@@ -160,7 +160,7 @@ chains_so c place file line it b served =
         (λ answer. on_chain (own c) (again (own c)) (named_line c.program line) name (calculating (own c) c.program c.progress) answer e'))
         else not_found (again (own c)) (first_indicator line.indicators) (calculating (own c) c.program c.progress)) (forgotten (own c) name (held_by c))
 
--- the condition of its file
+-- whether the file's condition is on
 pub served_as : (c : Stepper) (line : CalculationLine Reference) (chain : Chained) (result : Bool) → IsChained c.program line chain → result ≡ test_holds c.state.values.indicators chain.served
     → result ≡ is_served (held_by c) (file_at c.program chain.file)
 unfolding environment held
@@ -174,7 +174,7 @@ served_as c line chain result is same =
     on None = refl
     on (Some indicator) = refl
 
--- no record is sought, or none is found
+-- CHAIN seeks or finds no record
 pub chains_missing : (c mid new : Stepper) (place file : ℕ) (missing : Option Indicator) (line : CalculationLine Reference) (result : Calculated) → IsChainIn c.program place line file → missing ≡ first_indicator line.indicators
     → Changes c mid (λ source. forgotten source (name_of_file c.program file)) → false ≡ is_served (held_by c) (file_at c.program file) → Misses mid new missing result → DoesChain c new place result
 chains_missing c mid new place file missing line result it is changes served misses = by result misses
@@ -197,12 +197,12 @@ chains_missing c mid new place file missing line result it is changes served mis
     }
     by one.Waits m = goes_then c mid new _ _ (changed_program c mid change changes) same m
 
--- an indicator that is turned off, if there is one
+-- an indicator, if there is one, is turned off
 entry_off : (entry : Option Indicator) (e : Environment) → all_turned false (entries (entry ∷ [])) e ≡ turn_entry entry false e
 entry_off None e = refl
 entry_off (Some indicator) e = refl
 
--- what follows an answer, by the file and the indicator alone
+-- what follows an answer depends only on the file and the indicator
 answered_so : (source : Source) (p : Program) (progress : Progress) (file : ℕ) (missing : Option Indicator) (line : CalculationLine Reference) (e : Environment) → missing ≡ first_indicator line.indicators → (answer : Answer)
     → on_chain source (again source) (named_line p line) (name_of_file p file) (calculating source p progress) answer e ≡ chain_answered source p progress file missing answer e
 unfolding on_chain
@@ -214,7 +214,7 @@ answered_so source p progress file missing line e is Done = ap (λ (entry : Opti
 answered_so source p progress file missing line e is (Refused code) = ap (λ (entry : Option Indicator). not_found (again source) entry (calculating source p progress) e) (sym is)
 answered_so source p progress file missing line e is (Reply digit) = ap (λ (entry : Option Indicator). not_found (again source) entry (calculating source p progress) e) (sym is)
 
--- a record is sought
+-- CHAIN seeks a record
 pub chains_waiting : (c mid new : Stepper) (place file size : ℕ) (missing : Option Indicator) (line : CalculationLine Reference) (seeks : Sought) → IsRunning c → CanCalculate c.program c.progress → IsChainIn c.program place line file
     → missing ≡ first_indicator line.indicators → Changes c mid (λ source. forgotten source (name_of_file c.program file)) → true ≡ is_served (held_by c) (file_at c.program file) → size ≡ (file_at c.program file).record_length → Seeks c line file seeks
     → new ≡ record mid { request = asks.File file (calls.Chain size seeks); point = at.Chained file missing } → GoesOn c new (here c (chaining place))
@@ -251,7 +251,7 @@ chains_waiting c mid new place file size missing line seeks running calculates i
         (ChainRequest (name_of_file (sym (changed_program c mid change changes) i) file) (sym sized i) (sym sought_there.value i))
         (λ answer. after_answer answer i)
 
--- ---- a CHAIN that is performed: the course stands below it
+-- ---- a performed CHAIN: the course continues after it
 pub chain_line : (c : Stepper) (place : ℕ) → IsPerformed c place op.Chain → IsLineAt c.program place op.Chain
 chain_line c place performs_it = record { line = performs_it.line; there = performs_it.there; operation = performs_it.bears }
 

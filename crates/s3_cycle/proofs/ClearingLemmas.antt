@@ -34,7 +34,7 @@ use Rattle.s3_operations.proofs.IndicatingLemmas.{turned_by, turn_once, off_wher
 use Rattle.s3_cycle.specs.Inner.Clearing.{turned_off}
 use Rattle.s3_cycle.proofs.IdentifyLemmas.{kind_settable}
 
--- ---- one after the other
+-- ---- one indicator after another
 settable_kept : (lines : List (InputLine Reference)) → list_all is_settable_entry (map type_indicator lines) ≡ true → list_all is_settable (indicators_on lines) ≡ true
 settable_kept [] all = refl
 settable_kept (Record file indicator codes ∷ lines) all =
@@ -57,7 +57,7 @@ one_off types k d other v w within before =
     rw (before, take_more types k d within, list_any-append (same_indicator other) (take k types) (get_or types k d ∷ []))
     (turn_once (list_any (same_indicator other) (take k types)) (same_indicator other (get_or types k d)) false v)
 
--- the one at this place goes off
+-- the indicator at this place goes off
 abbrev pub IsSetOff : (old new : Indicators) → (place : ℕ) → Indicator → Type 0
 IsSetOff old new place other = on_in new other ≡ (if indicator_place other == place then false else on_in old other)
 
@@ -70,7 +70,7 @@ settable_there : (p : Program) (places : List ℕ) (k : ℕ) (d : Indicator) →
 settable_there p places k d are within =
     holds_at is_settable (indicators_on p.inputs.items) k d (settable_kept p.inputs.items (types_settable p)) (omega (arith, within, ap length are.placed, length-map (indicators_on p.inputs.items) indicator_place))
 
--- its place is one of the words
+-- the place of a type's indicator is within the words
 pub type_place_within : (places : List ℕ) (p : Program) (k place : ℕ) → ArePlacesOf p.inputs.items places → k < length places → place ≡ get_or places k 0 → place < 1600
 type_place_within places p k place are within is = subst (λ (n : ℕ). n < 1600) (sym is) (All-get_or (λ (n : ℕ). n < 1600) places k 0 within are.within)
 
@@ -81,7 +81,7 @@ one_more_off p old new places k place d other v are within is set before =
     turned_to old new (get_or types k d) other false place (place_there p places k place d are within is) (settable_there p places k d are within) set
     ∙ one_off types k d other v (on_in old other) (omega (arith, within, ap length are.placed, length-map types indicator_place)) before
 
--- a single one
+-- a program with only one type
 pub only_off : (p : Program) (old new : Indicators) (places : List ℕ) (place : ℕ) (d other : Indicator) → ArePlacesOf p.inputs.items places → length places ≡ 1 → place ≡ get_or places 0 0
     → IsSetOff old new place other → on_in new other ≡ turned_off (indicators_on p.inputs.items) other (on_in old other)
 only_off p old new places place d other are one is set =
@@ -90,7 +90,7 @@ only_off p old new places place d other are one is set =
     one_more_off p old new places 0 place d other (on_in old other) are (omega (arith, one)) is set refl
     ∙ ap (λ (shown : List Indicator). turned_off shown other (on_in old other)) all
 
--- ---- all of them are the types of the source
+-- ---- the program's indicators are those of the source's types
 types_shown : (tables : Tables) (other : Indicator) (file : Name) (lines : List (InputLine Reference))
     → list_any (same_indicator other) (indicators_on lines) ≡ list_any (λ (kind : RecordType). same_indicator other kind.indicator) (types_from file (map (named_input tables) lines))
 types_shown tables other file [] = refl

@@ -1,4 +1,4 @@
--- The current records of files: that of one file is put.
+-- The current records of files: one of them is set.
 use Rattle.std.proofs.Common.{◌≡◌, ◌≢◌, ◌==◌, ℕ, zero, suc, ◌<◌, Bool, true, false, List, [], ◌∷◌, length, Option, Some, slice_get, slice_set, get_or, unwrap_or, option_map, option_and_then, if◌then◌else◌, refl, sym, ap, ◌∙◌, arith, length-set, Vec, Global}
 use Rattle.std.proofs.Math.Path.{fun_ext}
 use Rattle.std.proofs.lemmas.Bool.Decides.{nat_tests}
@@ -40,7 +40,7 @@ get_other (y ∷ ys) zero (suc j) x other = refl
 get_other (y ∷ ys) (suc k) zero x other = refl
 get_other (y ∷ ys) (suc k) (suc j) x other = get_other ys k j x (λ (e : j ≡ k). other (ap suc e))
 
--- ---- the file of a slot
+-- ---- the file in a slot
 file_there : (p : Program) (file : ℕ) → file < length p.files.items → slice_get (tables p).files file ≡ Some (file_entry (file_at p file))
 file_there p file within =
     slice_get-map file_entry p.files.items file
@@ -50,11 +50,11 @@ own_name : (p : Program) (file : ℕ) (name : Name) → file < length p.files.it
 own_name p file name within =
     same_slot (tables p).files file (file_entry (file_at p file)) name (kept (parts_of p) p.valid).files_distinct (file_there p file within) ∙ ap (same_name name) (sym (file_named p file within))
 
--- ---- its current record
+-- ---- the current record of a file
 number_not : (m n : ℕ) → (m == n) ≡ false → m ≢ n
 number_not m n h = λ (e : m ≡ n). absurd (grind (arith, nat_tests, h))
 
--- that of one file is put, or it has none any more
+-- the current record of one file is set or cleared
 pub current_set : (p : Program) (current : List (Option Current)) (file : ℕ) (to : Option Current) (name : Name) → file < length p.files.items → length current ≡ length p.files.items
     → current_in p (slice_set current file to) name ≡ (if same_name name (name_of_file p file) then to else current_in p current name)
 current_set p current file to name within size = step (same_name name (name_of_file p file)) refl
@@ -77,7 +77,7 @@ current_set p current file to name within size = step (same_name name (name_of_f
         value (slice_get current (slot_in (tables p).files name)) (get_other current file (slot_in (tables p).files name) to (number_not _ _ (at false is)))
         ∙ sym (ap (λ (b : Bool). if b then to else current_in p current name) is)
 
--- ---- the record that is selected
+-- ---- the selected record
 pub slot_within : (c : Stepper) (selection : Selection) (x : InputFile) → IsRunning c → IsTaken c.program c.progress selection → x ≡ get_or c.progress.reading.files.items selection.place x → x.file < length c.program.files.items
 slot_within c selection x running taken found = input_slot c.program c.progress.reading selection.place x running.reading taken.record_there.within found
 

@@ -12,7 +12,7 @@ use Rattle.s3_cycle.specs.Inner.Requests.{request_of}
 use Rattle.s3_cycle.specs.Inner.Going.{here, IsRunning, GoesOn}
 use Rattle.s3_cycle.proofs.GoingLemmas.{goes_wait}
 
--- a job that is over asks for nothing more, whatever it is answered
+-- a job that has ended makes no further request
 pub ended_asks : (at_once : Bool) (e : Environment) → ended at_once e ≡ ask (Meant.End at_once) (λ answer. ended at_once e)
 unfolding ended ask
 ended_asks at_once e = fun_ext by

@@ -1,4 +1,4 @@
--- What a valid program says of its files: each is one of the table of files, and takes the lines that are put out to it.
+-- Facts about the files of a valid program: each has a use in the table of files, and allows the lines written to it.
 use Rattle.std.proofs.Common.{◌≡◌, ℕ, zero, suc, ◌+◌, ◌<◌, arith, Bool, true, false, not, ◌&&◌, ◌||◌, if◌then◌else◌, List, [], ◌∷◌, length, map, drop, get_or, Option, Some, None, inl, inr, refl, sym, ◌∙◌, ap, subst, true≢false}
 use Rattle.std.specs.Prelude.{slice_get, is_some, option_map}
 use Rattle.std.specs.List.{list_any, list_all}
@@ -59,7 +59,7 @@ use Rattle.s3_cycle.specs.declared.progress.Progress.{Progress}
 use Rattle.s3_cycle.specs.Inner.Rest.{inputs_in}
 
 -- ---- the table of files
--- of the conditions that are tried the last one
+-- the last condition of the list, number 12, doesn't hold
 no_misuse : (holds : ℕ → Bool) → is_clear holds ≡ true → holds 12 ≡ false
 no_misuse holds clear =
     only (holds 12)
@@ -88,8 +88,8 @@ file_tabled p k file there =
     let keeps : Kept (parts_of p) = kept (parts_of p) p.valid in
     each_tabled _ first_file p.files.items k file (and_parts _ _ (and_parts _ _ (and_parts _ _ (and_parts _ _ keeps.clear).0).0).0).1 there
 
--- ---- the lines that a file takes
--- the file of the lines before
+-- ---- the lines that a file allows
+-- the file that the earlier lines name
 abbrev IsFileOf : Program → (last : ℕ) → Option Meaning → Type 0
 IsFileOf p last before = (file : FileLine) → slice_get p.files.items last ≡ Some file → before ≡ Some (a.File file)
 
@@ -115,7 +115,7 @@ taken card at file is h = elim (cases_Bool (allows_output file card.is_addition)
       absurd (true≢false (sym (ap (λ (b : Bool). not b || (has_spacing card.spacing && not (is_print_device file.device))) refuses) ∙ (sym (ap (refuses_line card) is) ∙ h)))
 ]
 
--- a line among these ones: its card, which its file takes
+-- a line among these: its card, which its file allows
 record IsTakenIn (p : Program) (place : ℕ) (lines : List (OutputLine Reference)) (start : OutputStart) : Type 0 where
   skip : ℕ
   card : OutputCard Reference
@@ -163,7 +163,7 @@ taken_in p last place number at (FieldCard field ∷ lines) start same kinds cle
     one_further p place (FieldCard field) lines start
     (taken_in p last (place + 1) number (behind_output at (meant_output (tables p) (FieldCard field))) lines start same (and_parts _ _ kinds).1 (and_parts _ _ clear).1 there)
 
--- the file of a line takes it
+-- the file of a line allows the line
 pub line_taken : (p : Program) (start : OutputStart) (line : Output) (file : FileLine) → IsStart p start → IsLineAt p start line → slice_get p.files.items start.file ≡ Some file → allows_output file line.is_addition ≡ true
 unfolding are_of_kinds are_clear
 line_taken p start line file is line_is there =
@@ -199,7 +199,7 @@ unread : (file : FileLine) (d : Option Designation) → not (is_some d) ≡ true
 unread file None none is = true≢false (sym is)
 unread file (Some d) none is = true≢false (sym none)
 
--- what the cycle reads, but for cards
+-- a file that the cycle reads is on disk, unless it has cards
 pub read_on_disk : (file : FileLine) → is_in_table file ≡ true → is_input file ≡ true → is_card_reader file.device ≡ false → file.device ≡ Disk
 read_on_disk file tabled selected no_cards = by file.device refl
   where
@@ -208,7 +208,7 @@ read_on_disk file tabled selected no_cards = by file.device refl
     by CardReader is = absurd (true≢false (sym (ap is_card_reader is) ∙ no_cards))
     by Printer is = absurd (unread file file.designation (and_parts _ _ (and_parts _ _ (ap (λ d. is_in_table_on d file) (sym is) ∙ tabled)).0).1 selected)
 
--- what CHAIN gets at
+-- a file that CHAIN reads is on disk
 pub chained_on_disk : (file : FileLine) → is_in_table file ≡ true → is_chained file.designation ≡ true → file.device ≡ Disk
 chained_on_disk file tabled chained = by file.device refl
   where
@@ -217,7 +217,7 @@ chained_on_disk file tabled chained = by file.device refl
     by CardReader is = absurd (not_both file.designation (and_parts _ _ (and_parts _ _ (ap (λ d. is_in_table_on d file) (sym is) ∙ tabled)).0).1 chained)
     by Printer is = absurd (no_reader_prints file.designation (and_parts _ _ (and_parts _ _ (ap (λ d. is_in_table_on d file) (sym is) ∙ tabled)).0).1 chained)
 
--- what lines are put out to, but for the printer
+-- a file to which lines are written is on disk, unless it is printed
 pub record IsPutOnDisk (file : FileLine) : Type 0 where
   pub on_disk : file.device ≡ Disk
   pub put_out : is_only_read file ≡ false

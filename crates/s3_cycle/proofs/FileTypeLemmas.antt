@@ -1,4 +1,4 @@
--- The record identifying indicators of one file go off, by the numbers of its types.
+-- The record identifying indicators of one file go off, by the file's types.
 use Rattle.std.proofs.Common.{◌≡◌, ℕ, ◌+◌, ◌<◌, ◌&&◌, ◌||◌, not, length, get_or, drop, map, take, List, [], ◌∷◌, Bool, true, false, refl, sym, ◌∙◌, ap, arith}
 use Rattle.std.specs.Prelude.{Option, Some, None, is_some, unwrap_or, filter, filter_map, nat_lt, if◌then◌else◌}
 use Rattle.std.specs.List.{list_any, list_all}
@@ -36,7 +36,7 @@ use Rattle.s3_cycle.specs.Inner.Clearing.{shown_by, turned_off, without_types_of
 use Rattle.s3_cycle.proofs.ClearingLemmas.{IsSetOff, one_off}
 use Rattle.s3_cycle.proofs.IdentifyLemmas.{kind_settable}
 
--- ---- one after the other
+-- ---- one type after another
 abbrev shown : Program → TypeStart → Indicator
 shown p start = (kind_at p start).indicator
 
@@ -49,7 +49,7 @@ one_type_off p old new starts k place d other v within starts_there is set befor
     ∙ ap (λ (i : Indicator). if same_indicator other i then false else on_in old other) (sym here)
     ∙ one_off (shown_by p starts) k (shown p d) other v (on_in old other) (omega (arith, within, length-map starts (shown p))) before
 
--- ---- the types of the source by their starts
+-- ---- the types of the source, by their starts
 abbrev passes : {Y : Type 0} → (Y → Bool) → Option Y → Bool
 passes p None = false
 passes p (Some y) = p y

@@ -1,4 +1,4 @@
--- A run begins: nothing is read yet, and no file has a current record.
+-- The start of a run: nothing has been read, and no file has a current record.
 use Rattle.std.proofs.Common.{◌≡◌, ℕ, ◌<◌, ◌++◌, ◌∙◌, Vec, length, take, get_or, map, replicate, List, [], ◌∷◌, Bool, true, false, not, ◌||◌, refl, sym, ap, subst, zero, suc, arith}
 use Rattle.std.specs.Prelude.{Option, None, is_some, slice_get, filter, if◌then◌else◌}
 use Rattle.std.specs.Option.{option_and_then}

@@ -1,4 +1,4 @@
--- The law of a suspended run: its pending request, and what an answer makes of it.
+-- The theorem of a suspended run: its pending request, and its continuation after an answer.
 use Rattle.std.proofs.Common.{◌≡◌, ◌≤◌, Bool, ℕ, Some, unwrap_or, List, [], ◌∷◌, ◌++◌, Option, refl, sym, ap, ◌∙◌, subst, append-nil, append_assoc}
 use Rattle.std.specs.Prelude.{slice_get}
 use Rattle.std.proofs.lemmas.List.{length-map}
@@ -37,7 +37,7 @@ unfolding StandsFor
 begins program switches date c starts source stands =
     (ap source_named starts.same ∙ stands, λ answers. ap (λ (run : Run). run answers) (ap (λ (s : Source). rest s c) (sym stands) ∙ (starts.runs ∙ ap (λ (s : Source). Req s switches date) stands)))
 
--- the run behind an answer
+-- the run after an answer
 answered_on : (c : Stepper) (answer : Code.Answer) (source : Source) (answers : List Answer) → answered source c.program c.progress c.point (answer_of answer) (held_by c) answers ≡ rest source c (answer_of answer ∷ answers)
 unfolding rest ask
 answered_on c answer source answers = refl
@@ -56,8 +56,8 @@ resumes old inside new answer same goes source stands =
           ∙ answered_on old answer source answers,
     )
 
--- ---- a run that follows the whole one
--- with one more answer it follows behind that answer
+-- ---- a run that follows the semantics
+-- a run that follows the semantics still follows it after one more answer
 pub follows_on : (source : Source) (switches : ℕ) (date : List ℕ) (past : List Answer) (old new : Stepper) (answer : Answer)
     → Follows source switches date past old → Resumes old new answer → Follows source switches date (past ++ answer ∷ []) new
 follows_on source switches date past old new answer follows goes =
@@ -67,11 +67,11 @@ follows_on source switches date past old new answer follows goes =
       runs = λ answers. next.1 answers ∙ (follows.runs (answer ∷ answers) ∙ ap (Req source switches date) (sym (append_assoc past (answer ∷ []) answers)));
     }
 
--- it waits where the whole one does
+-- a run that follows the semantics has its pending request
 pub waits_as : (source : Source) (switches : ℕ) (date : List ℕ) (past : List Answer) (c : Stepper) → Follows source switches date past c → waits c ≡ Req source switches date past
 waits_as source switches date past c follows = waits_first c source ∙ (follows.runs [] ∙ ap (Req source switches date) (append-nil past))
 
--- ---- what it waits for, as the meaning has it
+-- ---- the pending request in the terms of the semantics
 as_asked : (c : Stepper) (request : Request) → asked c ≡ request → waits c ≡ request_of c.program c.composition request
 unfolding waits asked
 as_asked c request is = ap (request_of c.program c.composition) is
@@ -100,7 +100,7 @@ pub waits_end : (c : Stepper) (at_once : Bool) → asked c ≡ asks.End at_once 
 unfolding request_of
 waits_end c at_once is = as_asked c (asks.End at_once) is
 
--- a line as it is put out is as long as its positions
+-- a written line is as long as its positions
 pub line_filled : (request : Request) (positions : List (Option ℕ)) → IsLine request positions → IsLine request (filled positions)
 line_filled (asks.Print page line) positions is =
     let P : ℕ → Type 0 = λ n. (1 ≤ n) × (n ≤ 132) in
@@ -116,7 +116,7 @@ pub slot_named : (c : Stepper) (slot : ℕ) (line : FileLine) → slice_get (fil
 unfolding files
 slot_named c slot line there = file_name c.program slot ∙ ap (λ o. (unwrap_or o no_file).name) there
 
--- they are those of the source, so no answer changes them
+-- the files are those of the source, so no answer changes them
 pub files_stand : (c : Stepper) (source : Source) → StandsFor c source → files c ≡ source.files
 unfolding StandsFor files named
 files_stand c source stands = ap (λ (s : Source). s.files) stands
@@ -125,7 +125,7 @@ pub files_stay : (old new : Stepper) → ((source : Source) → StandsFor old so
 unfolding StandsFor
 files_stay old new stays = files_stand new (own old) (stays (own old) refl) ∙ sym (files_stand old (own old) refl)
 
--- a record is as long as its positions
+-- a written record is as long as its positions
 pub file_filled : (files_of : List FileLine) (request : Request) (positions : List (Option ℕ)) → FitsFile files_of request positions → FitsFile files_of request (filled positions)
 file_filled files_of (asks.File file call) positions is =
     let P : ℕ → Type 0 = λ n. IsDiskFile files_of file (Allows call n) in

@@ -1,4 +1,4 @@
--- A file has no current record any more, and its record identifying indicators go off.
+-- A file loses its current record, and its record identifying indicators go off.
 use Rattle.std.proofs.Common.{◌≡◌, ℕ, ◌<◌, List, length, Option, None, slice_set, if◌then◌else◌, refl, ap, ◌∙◌, length-set, Vec, Global}
 use Rattle.std.proofs.Math.Path.{fun_ext}
 use Rattle.s3_cards.specs.declared.name.Name.{Name}

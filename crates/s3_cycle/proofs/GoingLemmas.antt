@@ -1,4 +1,4 @@
--- Steps of a suspended run, one after another.
+-- Steps of a suspended run, in sequence.
 use Rattle.std.proofs.Common.{◌≡◌, refl, sym, ap, ◌∙◌, subst}
 use Rattle.s3_meaning.specs.Source.{Source}
 use Rattle.s3_meaning.specs.Environment.{Environment}
@@ -21,11 +21,11 @@ use Rattle.s3_cycle.specs.Inner.Environment.{environment, others}
 use Rattle.s3_cycle.specs.Inner.Going.{own, held_by, here, AreSound, IsRunning, Continues, Waits, GoesOn, Changes}
 
 -- ---- requests
--- what it waits at says nothing of where it stands
+-- the invariant doesn't depend on the pending request
 pub waiting_running : (c : Stepper) (request : Request) (point : Point) → IsRunning c → IsRunning (record c { request = request; point = point })
 waiting_running c request point running = record { overflow = running.overflow; state = running.state; reading = running.reading; heads = running.heads; calculations = running.calculations; totals_guard = running.totals_guard; inputs = running.inputs; outputs = running.outputs }
 
--- a run waits where it asks
+-- a run waits for its request
 pub goes_wait : (old new : Stepper) (request : Request) (point : Point) (run : Run) → new ≡ record old { request = request; point = point } → IsRunning old → Waits old.program old.progress request point → IsLine request old.composition → FitsFile old.program.files.items request old.composition
     → run ≡ ask (request_of old.program old.composition request) (λ answer. answered (own old) old.program old.progress point answer (held_by old)) → GoesOn old new run
 unfolding rest
@@ -39,47 +39,47 @@ pub halts : (old new : Stepper) (code : HaltCode) (then : Continuation) → new 
 unfolding halted request_of
 halts old new code then same running can = goes_wait old new (asks.Ask code) (at.Reply then) _ same running (refl, can) tt tt refl
 
--- ---- one step, and another behind it
--- a step that is followed by another
+-- ---- one step, then another
+-- a step, followed by another
 pub goes_then : (old mid new : Stepper) (run run' : Run) → mid.program ≡ old.program → run' ≡ run → GoesOn mid new run → GoesOn old new run'
 goes_then old mid new run run' program same goes = record { program = goes.program ∙ program; sound = goes.sound; runs = goes.runs ∙ sym same }
 
--- the same run, meant in another way
+-- an equal run
 pub goes_as : (old new : Stepper) (run run' : Run) → run' ≡ run → GoesOn old new run → GoesOn old new run'
 goes_as old new run run' same goes = goes_then old old new run run' refl same goes
 
--- ---- changes of the environment alone
--- it runs on
+-- ---- updates of the environment only
+-- an update keeps the invariant
 pub changed_running : (old new : Stepper) (change : Source → Environment → Environment) → Changes old new change → IsRunning old → IsRunning new
 changed_running old new change changes running =
     let P : Stepper → Type 0 = λ k. IsRunning k in
     subst P (sym changes.stays) (record { overflow = running.overflow; state = changes.sound; reading = running.reading; heads = running.heads; calculations = running.calculations; totals_guard = running.totals_guard; inputs = running.inputs; outputs = running.outputs })
 
--- over the same program, as far as before
+-- an update keeps the program
 pub changed_program : (old new : Stepper) (change : Source → Environment → Environment) → Changes old new change → new.program ≡ old.program
 changed_program old new change changes = ap (λ (k : Stepper). k.program) changes.stays
 
 pub changed_progress : (old new : Stepper) (change : Source → Environment → Environment) → Changes old new change → new.progress ≡ old.progress
 changed_progress old new change changes = ap (λ (k : Stepper). k.progress) changes.stays
 
--- a fact of program and progress stays
+-- a fact about program and progress is kept
 pub changed_stays : (fact : Program → Progress → Type 0) (old new : Stepper) (change : Source → Environment → Environment) → Changes old new change → fact old.program old.progress → fact new.program new.progress
 changed_stays fact old new change changes holds =
     let P : Stepper → Type 0 = λ k. fact k.program k.progress in subst P (sym changes.stays) holds
 
--- what is meant from there is what was meant, from the changed environment
+-- the run after an update is the run that updates the environment first
 pub here_changed : (old new : Stepper) (change : Source → Environment → Environment) (meant : Source → Program → Progress → Rest) → Changes old new change
     → here new meant ≡ here old (λ source program progress e. meant source program progress (change source e))
 here_changed old new change meant changes =
     ap (λ (k : Stepper). here k meant) changes.stays ∙ ap (meant (own old) old.program old.progress) changes.held
 
--- a change, and a step behind it
+-- an update, then a step
 pub goes_changed : (old mid new : Stepper) (change : Source → Environment → Environment) (meant : Source → Program → Progress → Rest) → Changes old mid change → GoesOn mid new (here mid meant)
     → GoesOn old new (here old (λ source program progress e. meant source program progress (change source e)))
 goes_changed old mid new change meant changes goes =
     goes_then old mid new _ _ (changed_program old mid change changes) (sym (here_changed old mid change meant changes)) goes
 
--- two changes, one after the other
+-- two updates, one after the other
 pub changes_both : (old mid new : Stepper) (first second : Source → Environment → Environment) → Changes old mid first → Changes mid new second → Changes old new (λ source e. second source (first source e))
 changes_both old mid new first second before behind =
     let P : Stepper → Type 0 = λ k. Changes k new second → Changes old new (λ source e. second source (first source e)) in
@@ -89,7 +89,7 @@ changes_both old mid new first second before behind =
       held = further.held ∙ ap (second (own old)) before.held;
     }) behind
 
--- a change of the values
+-- an update of values
 pub values_changed : (old new : Stepper) (values : Values) (change : Source → Environment → Environment) → new ≡ record old { state = record old.state { values = values } } → AreSound old.program old.state
     → ChangesValues old.program old.state.values values change → Changes old new change
 unfolding environment

@@ -1,4 +1,4 @@
--- Step 1 behind its lines: each of H1 to H9 that is on halts.
+-- Step 1 after its lines: each of H1 to H9 that is on halts the job.
 use Rattle.std.proofs.Common.{◌≡◌, ℕ, zero, suc, ◌+◌, ◌-◌, ◌<◌, ◌≤◌, nat_le, Bool, true, false, if◌then◌else◌, List, [], ◌∷◌, drop, refl, sym, ◌∙◌, ap, arith}
 use Rattle.std.proofs.lemmas.Bool.{and_parts, leb-true}
 use Rattle.s3_lines.specs.Ranges.{is_between}
@@ -16,7 +16,7 @@ use Rattle.s3_cycle.specs.Inner.Going.{own, held_by, here, GoesOn}
 use Rattle.s3_cycle.specs.Inner.Halting.{IsFirstHalt, AreOff}
 use Rattle.s3_cycle.proofs.GoingLemmas.{goes_as}
 
--- ---- the numbers that are left
+-- ---- the remaining numbers
 abbrev numbers : List ℕ
 numbers = 1 ∷ 2 ∷ 3 ∷ 4 ∷ 5 ∷ 6 ∷ 7 ∷ 8 ∷ 9 ∷ []
 
@@ -38,7 +38,7 @@ numbers_from n some few =
     let same : n + 1 - 1 ≡ n = omega arith in
     numbers_left (n - 1) (omega arith) ∙ (ap (λ m. m ∷ drop (n - 1 + 1) numbers) one ∙ ap (λ m. n ∷ drop m numbers) (one ∙ sym same))
 
--- the next one halts if it is on
+-- the next indicator halts the job if it is on
 halts_next : (source : Source) (p : Program) (progress : Progress) (n : ℕ) (e : Environment) → 1 ≤ n → n ≤ 9
     → halts_from source p progress n e
     ≡ (if e.on (Halt n) then halted (again source) (HaltIndicator n) (λ e'. halts_from source p progress (n + 1) (turn (Halt n) false e')) else halts_from source p progress (n + 1)) e
@@ -57,7 +57,7 @@ halts_off source p progress n e some few off =
     halts_next source p progress n e some few
     ∙ ap (λ (b : Bool). (if b then halted (again source) (HaltIndicator n) (λ e'. halts_from source p progress (n + 1) (turn (Halt n) false e')) else halts_from source p progress (n + 1)) e) off
 
--- those that are off are passed over
+-- indicators that are off are skipped
 halts_passed : (source : Source) (p : Program) (progress : Progress) (gap from : ℕ) (e : Environment) → 1 ≤ from → from + gap ≤ 10 → ((n : ℕ) → from ≤ n → n < from + gap → e.on (Halt n) ≡ false)
     → halts_from source p progress from e ≡ halts_from source p progress (from + gap) e
 halts_passed source p progress zero from e some few off =
@@ -76,12 +76,12 @@ passed_to source p progress from to e some behind few off =
     halts_passed source p progress (to - from) from e some (omega (arith, few, behind)) (λ n after before. off n after (omega (arith, before, behind)))
     ∙ ap (λ n. halts_from source p progress n e) sum
 
--- none is left behind H9
+-- no halt is left after H9
 halts_over : (source : Source) (p : Program) (progress : Progress) (e : Environment) → halts_from source p progress 10 e ≡ cycle_from source p progress e
 unfolding halts_shown
 halts_over source p progress e = refl
 
--- ---- a run shows them
+-- ---- the halts of a run
 within : (n : ℕ) → is_between 1 10 n ≡ true → (1 ≤ n) × (n ≤ 10)
 within n is = let parts = and_parts (nat_le 1 n) (nat_le n 10) is in (leb-true 1 n parts.0, leb-true n 10 parts.1)
 

@@ -1,4 +1,4 @@
--- The fields of the records at heads stand within them, as files are read and heads taken.
+-- The fields of the records at heads lie within them, as files are read and heads are taken.
 use Rattle.std.proofs.Common.{◌≡◌, ℕ, ◌<◌, ◌≤◌, length, get_or, map, List, [], ◌∷◌, Bool, true, false, refl, sym, ◌∙◌, ap, subst, zero, suc, arith}
 use Rattle.std.specs.Prelude.{Option, Some, None, is_some, unwrap_or, slice_get, nat_le, if◌then◌else◌}
 use Rattle.std.specs.List.{All, list_all}
@@ -34,11 +34,11 @@ use Rattle.s3_cycle.specs.Inner.Going.{IsHeadWithin, IsRunning}
 abbrev pub EndWithin : List ℕ → List (FieldLine Name) → Type 0
 EndWithin bytes fields = All (λ (field : FieldLine Name). field.to ≤ length bytes) fields
 
--- the fields of the record at a head that is meant end within it
+-- the fields of a head lie within its record, in the terms of the semantics
 abbrev pub IsWithin : meaning.InputFile → Type 0
 IsWithin input = (head : meaning.Head) → input.standing ≡ meaning.Stands head → EndWithin head.bytes head.kind.fields
 
--- ---- heads as they are kept, and as they are meant
+-- ---- heads in the run and in the semantics
 head_on : meaning.Standing → Option meaning.Head
 head_on (meaning.Stands head) = Some head
 head_on meaning.Unread = None
@@ -114,7 +114,7 @@ vacated_each name (input ∷ inputs) heads (suc k) d within = vacated_each name 
 pub vacated_within : (name : Name) (inputs : List meaning.InputFile) → All IsWithin inputs → All IsWithin (map (meaning.vacated name) inputs)
 vacated_within name inputs heads = vacated_each name inputs heads
 
--- ---- a record that is put at a head
+-- ---- a record becomes a head
 pub there_is : (files : List InputFile) (k : ℕ) → k < length files → (x : InputFile) × (x ≡ get_or files k x)
 there_is [] k within = absurd (omega (arith, within))
 there_is (x ∷ xs) zero within = (x, refl)
@@ -155,13 +155,13 @@ put_within program start bytes input fields head e =
 pub reading_running : (c : Stepper) (reading : Reading) → IsRunning c → IsReading c.program reading → All (IsHeadWithin c.program) reading.files.items → IsRunning (record c { progress = record c.progress { reading = reading } })
 reading_running c reading running sound heads = record { overflow = running.overflow; state = running.state; reading = sound; heads = heads; calculations = running.calculations; totals_guard = running.totals_guard; inputs = running.inputs; outputs = running.outputs }
 
--- one record more was read
+-- one more record is read
 pub counted_heads : (program : Program) (old new : Reading) (place : ℕ) → place < length old.files.items → IsReading program old → IsReading program new → All (IsHeadWithin program) old.files.items
     → reading_in program new ≡ changed_at place counted_read (reading_in program old) → All (IsHeadWithin program) new.files.items
 counted_heads program old new place within before sound heads same =
     heads_still program old new place counted_read before sound heads same (heads_meant program old.files.items before.inputs heads place _ (omega (arith, within, length-map old.files.items (input_of program))))
 
--- a record is put there, or not
+-- a record becomes the head, or doesn't
 pub put_heads : (program : Program) (old new : Reading) (place : ℕ) (start : TypeStart) (bytes : List ℕ) → place < length old.files.items → IsReading program old → IsReading program new → All (IsHeadWithin program) old.files.items
     → type_of (source_named program) (input_at (reading_in program old).files place).file.name bytes ≡ Some (kind_at program start) → (input_at (reading_in program old).files place).file.record_length ≤ length bytes
     → reading_in program new ≡ changed_at place (put program start bytes) (reading_in program old) → All (IsHeadWithin program) new.files.items

@@ -1,4 +1,4 @@
--- The identifying indicator of a record goes on, and its control fields may break.
+-- The record identifying indicator goes on, and control breaks are detected.
 use Rattle.std.proofs.Common.{◌≡◌, ℕ, ◌<◌, length, get_or, drop, map, List, [], ◌∷◌, true, ◌||◌, refl, sym, ◌∙◌, ap, subst, zero, suc}
 use Rattle.std.specs.Prelude.{Option, is_some, unwrap_or, option_map}
 use Rattle.std.specs.Option.{option_or}
@@ -35,7 +35,7 @@ use Rattle.s3_cycle.specs.Inner.Environment.{environment, others}
 use Rattle.s3_cycle.specs.Inner.Going.{held_by, Changes}
 use Rattle.s3_cycle.specs.Inner.Selecting.{identified}
 
--- ---- a type's indicator is no switch
+-- ---- a type's indicator isn't a switch
 all_behind : (k : ℕ) (lines : List (InputLine Reference)) → list_all is_settable_entry (map type_indicator lines) ≡ true → list_all is_settable_entry (map type_indicator (drop k lines)) ≡ true
 all_behind zero lines all = all
 all_behind (suc k) [] all = refl

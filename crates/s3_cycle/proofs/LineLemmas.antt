@@ -1,4 +1,4 @@
--- Lines of the O sheet that are put out together: which of them are passed over, and what one that is due does.
+-- The output lines of one walk: those that are skipped, and the effect of those that are written.
 use Rattle.std.proofs.Common.{◌≡◌, ℕ, zero, suc, ◌+◌, ◌<◌, ◌≤◌, Bool, true, false, ◌&&◌, if◌then◌else◌, List, [], ◌∷◌, ◌++◌, length, drop, get_or, Option, Some, None, Fits, w64, refl, sym, ◌∙◌, ap, subst, true≢false, arith}
 use Rattle.std.specs.Prelude.{slice_get, unwrap_or, option_map, is_some, filter_map}
 use Rattle.std.specs.List.{cons_option}
@@ -95,7 +95,7 @@ wanted_walked walk.Overflow Detail = refl
 wanted_walked walk.Overflow Total = refl
 wanted_walked walk.Overflow Exception = refl
 
--- the kind of a line is that of its card, and so of its start
+-- a line has the kind of its card, and so of its start
 kind_of : (p : Program) (start : OutputStart) (line : Output) → IsStart p start → IsLineAt p start line → line.kind ≡ start.kind
 kind_of p start line is line_is =
     let s : StartsAt p start = starts_at p start is in
@@ -105,7 +105,7 @@ kind_of p start line is line_is =
     kind_in (Some l) = l.kind
     kind_in None = Heading
 
--- its file is that of its slot, or none where no file has the slot
+-- the file of a line is the file in its slot; none if no file has the slot
 pub file_of_line : (p : Program) (start : OutputStart) (line : Output) → IsLineAt p start line → file_named (source_named p) line.file ≡ slice_get p.files.items start.file
 file_of_line p start line line_is = by (slice_get p.files.items start.file) refl
   where
@@ -149,7 +149,7 @@ outputs_there p w place start line there line_is =
     ap (filter_map (output_at (tables p) p.outputs.items)) (drop_there (starts_of p.starts w) place start there)
     ∙ ap (λ o. cons_option o (outputs_from p w (place + 1))) line_is
 
--- a line is put out where it holds
+-- a line is written if its conditions hold
 line_next : (p : Program) (w : Walk) (place : ℕ) (start : OutputStart) (line : Output) (go : Rest) (e : Environment) → slice_get (starts_of p.starts w) place ≡ Some start → IsLineOf p w start line
     → lines_then (source_named p) p w place go e
     ≡ (if line_holds (source_named p) (is_at_overflow w) e line
@@ -165,7 +165,7 @@ line_next p w place start line go e there is =
     then line_put (source_named p) (again (source_named p)) line file (lines_then (source_named p) p w (place + 1) go)
     else lines_then (source_named p) p w (place + 1) go) e) (file_of_line p start line is.there)
 
--- one that isn't due is passed over
+-- a line that isn't due is skipped
 pub line_passed : (p : Program) (w : Walk) (place : ℕ) (start : OutputStart) (line : Output) (go : Rest) (e : Environment) → slice_get (starts_of p.starts w) place ≡ Some start → IsLineOf p w start line
     → (is_used e (slice_get p.files.items start.file) && line_holds (source_named p) (is_at_overflow w) e line) ≡ false
     → lines_then (source_named p) p w place go e ≡ lines_then (source_named p) p w (place + 1) go e
@@ -187,7 +187,7 @@ line_passed p w place start line go e there is off =
     by (Some file) true next h = on_served (is_served e file) true (file_line_put (source_named p) (again (source_named p)) line file next) next h
     by (Some file) false next h = refl
 
--- one that is due is put out
+-- a line that is due is written
 pub line_due : (p : Program) (w : Walk) (place : ℕ) (start : OutputStart) (line : Output) (file : FileLine) (go : Rest) (e : Environment) → slice_get (starts_of p.starts w) place ≡ Some start
     → IsLineOf p w start line → slice_get p.files.items start.file ≡ Some file
     → (is_used e (slice_get p.files.items start.file) && line_holds (source_named p) (is_at_overflow w) e line) ≡ true
@@ -203,7 +203,7 @@ line_due p w place start line file go e there is file_is on =
     ∙ ap (λ o. line_put (source_named p) (again (source_named p)) line o (lines_then (source_named p) p w (place + 1) go) e) file_is
     ∙ ap (λ (used : Bool). (if used then file_line_put (source_named p) (again (source_named p)) line file (lines_then (source_named p) p w (place + 1) go) else lines_then (source_named p) p w (place + 1) go) e) served
 
--- none is left behind the last
+-- no line is left after the last
 pub lines_past : (p : Program) (w : Walk) (place : ℕ) (go : Rest) (e : Environment) → length (starts_of p.starts w) ≤ place → lines_then (source_named p) p w place go e ≡ go e
 unfolding lines_then lines_put
 lines_past p w place go e past =
@@ -214,7 +214,7 @@ due_by : (c : Stepper) (w : Walk) (start : OutputStart) (line : Output) → IsLi
     → is_due c w start ≡ (is_used (held_by c) (slice_get c.program.files.items start.file) && line_holds (own c) (is_at_overflow w) (held_by c) line)
 due_by c w start line line_is = ap (λ o. is_used (held_by c) (slice_get c.program.files.items start.file) && is_held c w o) line_is
 
--- the instruction at a place is that of the line that starts there
+-- the instruction at a place is the instruction of the line that starts there
 pub line_read : (c : Stepper) (number : ℕ) (instruction : OutputInstruction) (start : OutputStart) → IsRunning c → slice_get (own_starts c.program.starts) number ≡ Some start
     → instruction ≡ get_or c.outputs.lines.items number instruction → IsLine c.program start instruction
 line_read c number instruction start running there read =
@@ -223,14 +223,14 @@ line_read c number instruction start running there read =
     let inside : number < length lines = omega (arith, slice_get_within (own_starts c.program.starts) number start there, are.count) in
     are.each number start instruction there (slice_get_read lines (length lines) number instruction refl inside read)
 
--- it is there, wherever a line stands that is put out together with others
+-- each line of a walk has an instruction
 pub line_within : (c : Stepper) (w : Walk) (place number : ℕ) → IsRunning c → slice_get (own_starts c.program.starts) number ≡ slice_get (starts_of c.program.starts w) place → place < length (starts_of c.program.starts w)
     → number < length c.outputs.lines.items
 line_within c w place number running same within =
     let at = there_is (starts_of c.program.starts w) place within in
     omega (arith, slice_get_within (own_starts c.program.starts) number at.0 (same ∙ at.1), running.outputs.lines.count)
 
--- it is due where its guard holds
+-- a line is due if its guard holds
 pub due_guarded : (c : Stepper) (w : Walk) (place number : ℕ) (instruction : OutputInstruction) (at_overflow holds : Bool) → IsRunning c → slice_get (own_starts c.program.starts) number ≡ slice_get (starts_of c.program.starts w) place
     → instruction ≡ get_or c.outputs.lines.items number instruction → at_overflow ≡ is_at_overflow w → holds ≡ line_guard_holds c.state.values.indicators at_overflow instruction.guard
     → (start : OutputStart) → slice_get (starts_of c.program.starts w) place ≡ Some start → holds ≡ is_due c w start
@@ -242,7 +242,7 @@ due_guarded c w place number instruction at_overflow holds running same read tim
     ∙ ((line_read c number instruction start running (same ∙ there) read).guard (is_at_overflow w) c.state.values (others c.program c.state) line.0 line.1.there
     ∙ sym (due_by c w start line.0 line.1.there)))
 
--- ---- where instructions stand
+-- ---- the places of instructions
 pub beginning_number : (c : Stepper) (w : Walk) (place : ℕ) → w ≡ walk.Beginning → place < length (starts_of c.program.starts w) → slice_get (own_starts c.program.starts) place ≡ slice_get (starts_of c.program.starts w) place
 beginning_number c w place is =
     let s = c.program.starts in
@@ -289,7 +289,7 @@ overflow_number c w place number running is within read =
     ∙ (slice_get-map (λ (x : OutputStart). Some x) s.overflow.items place ∙ ap (option_map (λ (x : OutputStart). Some x)) (ap (λ v. slice_get (starts_of s v) place) (sym is) ∙ at.1))) in
     some_is _ _ same ∙ sym at.1
 
--- their numbers fit
+-- the numbers of total lines fit 64 bits
 pub totals_fit : (c : Stepper) (w : Walk) (place : ℕ) → IsRunning c → w ≡ walk.Totals → place < length (starts_of c.program.starts w) → Fits w64 (c.outputs.totals + place)
 totals_fit c w place running is within =
     let s = c.program.starts in
@@ -317,7 +317,7 @@ exceptions_fit c w place running is within =
 pub due_within : (c : Stepper) (w : Walk) (place : ℕ) → IsDue c w place → place < length (starts_of c.program.starts w)
 due_within c w place due = slice_get_within (starts_of c.program.starts w) place due.start due.there
 
--- ---- the next one that is due
+-- ---- the next line that is due
 pub passes_none : (c : Stepper) (w : Walk) (next : ℕ) → PassesTo c w next next
 passes_none c w next = λ go. refl
 

@@ -77,7 +77,7 @@ use Rattle.s3_cycle.proofs.FileLemmas.{IsPutOnDisk, file_tabled, line_taken, put
 use Rattle.s3_cycle.proofs.LineLemmas.{IsLineOf, line_due, line_of, line_read}
 
 -- ---- the carriage
--- the overflow indicator is no switch
+-- an overflow indicator isn't a switch
 settable : (i : Indicator) → is_overflow_indicator i ≡ true → is_settable i ≡ true
 settable (Switch n) is = absurd (true≢false (sym is))
 settable _ is = refl
@@ -99,13 +99,13 @@ overflow_settable c running =
     let ranged = (kept (parts_of c.program) c.program.valid).ranged in
     ap is_settable_entry running.overflow ∙ overflow_in c.program.files.items (and_parts _ _ (and_parts _ _ (and_parts _ _ ranged).0).0).0
 
--- it stands where it was put
+-- the carriage has its new position
 pub carriage_put : (c : Stepper) (to : Carriage) → AreSound c.program c.state
     → Changes c (record c { state = record c.state { carriage = to } }) (λ source e. record e { page = to.page; line = to.line })
 unfolding environment held
 carriage_put c to sound = record { stays = refl; sound = record { values = sound.values; current = sound.current }; held = refl }
 
--- with overflow its indicator goes on
+-- at overflow the overflow indicator goes on
 with_overflow : (source : Source) (to : Place) (o : Option Indicator) (e : Environment) → overflow_of source.files ≡ o → to.overflow ≡ true → turn_entry o true (record e { page = to.page; line = to.line }) ≡ put_carriage source to e
 with_overflow source to None e is on = rw is refl
 with_overflow source to (Some i) e is on = rw (is, on) refl
@@ -167,7 +167,7 @@ prints old mid new line spacing there after w next running walk spaced is_there 
     printable_on : mid ≡ record old { state = mid.state } → IsLine (asks.Print there.carriage.page there.carriage.line) mid.composition
     printable_on stays = let P : Stepper → Type 0 = λ k. IsLine (asks.Print there.carriage.page there.carriage.line) k.composition in subst P (sym stays) printable
 
--- ---- a record is put into its file
+-- ---- a record is written to its file
 pub file_name : (p : Program) (k : ℕ) → name_of_file p k ≡ (file_at p k).name
 file_name p k = ap (λ (o : Option (Name × FileLine)). unwrap_or (option_map (λ (e : Name × FileLine). e.0) o) no_name) (slice_get-map file_entry p.files.items k) ∙ by (slice_get p.files.items k)
   where
@@ -180,7 +180,7 @@ file_within p k within =
     let there = slice_get-get_or p.files.items k no_file within in
     there ∙ ap (λ file. Some file) (sym (ap (λ o. unwrap_or o no_file) there))
 
--- the current record of a file stands in its slot
+-- the current record of a file, by the file's slot
 current_there : (c : Stepper) (k : ℕ) (current : Option Current) → k < length c.program.files.items → slice_get c.state.current.items k ≡ Some current
     → (held_by c).current (file_at c.program k).name ≡ current
 unfolding environment held
@@ -190,7 +190,7 @@ current_there c k current within there =
     ap (λ n. option_and_then (λ (o : Option Current). o) (slice_get c.state.current.items n)) slot
     ∙ ap (λ (o : Option (Option Current)). option_and_then (λ (o : Option Current). o) o) there
 
--- what a line asks for
+-- the request of a line
 abbrev pub Asks : Stepper → (file : ℕ) → DiskRequest → FileCall → Type 0
 Asks c file asked call = (line : Output) → AsksFor c.program file line asked → request_to (name_of_file c.program file) c.composition call ≡ disk_request (file_at c.program file) line c.composition (held_by c)
 
@@ -206,7 +206,7 @@ appends c file asked is = asks_as c file asked disk.Append calls.Append is (ap (
 pub adds : (c : Stepper) (file : ℕ) (asked : DiskRequest) → asked ≡ disk.Add → Asks c file asked calls.Add
 adds c file asked is = asks_as c file asked disk.Add calls.Add is (ap (λ name. Meant.Add name (filled c.composition)) (file_name c.program file))
 
--- the file of a record that can be stored is there
+-- the file of a record that can be written exists
 pub store_within : (c : Stepper) (file : ℕ) (asked : DiskRequest) → CanStore c file asked → file < length c.program.files.items
 store_within c file asked stores = slice_get_within c.program.files.items file stores.fits.line stores.fits.there
 
@@ -219,7 +219,7 @@ updates c file asked current sound within stands is =
     (ap (λ name. Meant.Update name current c.composition) (file_name c.program file)
     ∙ ap (λ o. Meant.Update (file_at c.program file).name o c.composition) (sym (current_there c file current within there)))
 
--- ---- what its file allows
+-- ---- the requests that a file allows
 abbrev is_add : Meant.Request → Bool
 is_add (Meant.Add name record_bytes) = true
 is_add request = false
@@ -246,7 +246,7 @@ update_changes file line positions e is = (and_parts (is_updated file) (not line
     by false true h = absurd (true≢false (sym h))
     by false false h = absurd (true≢false (sym h))
 
--- the F line of a file that takes a record
+-- the File Description specification of a file that records can be written to
 taking_line : (c : Stepper) (file : ℕ) (asked : DiskRequest) (stores : CanStore c file asked) → file_at c.program file ≡ stores.fits.line
 taking_line c file asked stores = ap (λ o. unwrap_or o no_file) stores.fits.there
 
@@ -283,8 +283,8 @@ stores old new line k call w next running walk is meant fits same =
     goes_wait old new (asks.File k call) (at.Records w next) _ same running (is, walk) tt fits
     (ap (λ r. ask r (λ answer. stored_or_halted (again (own old)) (lines_from (own old) old.program old.progress w next) answer (held_by old))) (sym meant))
 
--- ---- a line is put out
--- its run goes on with it as it is composed
+-- ---- a line is written
+-- the run composes the line, then continues after it
 pub record IsPut (old : Stepper) (w : Walk) (place : ℕ) (start : OutputStart) (line : Output) : Type 0 where
   pub is_line : IsLineOf old.program w start line
   pub within : start.file < length old.program.files.items
@@ -312,12 +312,12 @@ is_put old w place start there due =
         by None at used = absurd (true≢false (sym used))
         by (Some file) at used = slice_get_within files k file at
 
--- ---- it is composed
+-- ---- the line is composed
 told_is : (p : Program) (start : OutputStart) (file : FileLine) (request : LineRequest) → IsLineRequest p start file request → is_told request ≡ not (is_printer file.device)
 told_is p start file (lines.Print spacing) is = sym (ap not is.printer)
 told_is p start file (lines.Record request) is = sym (ap not is.other)
 
--- the instruction of a line that is due, and what is put out of it
+-- the instruction of a line that is due, with its content
 pub record IsDueLine (c : Stepper) (w : Walk) (place : ℕ) (start : OutputStart) (instruction : OutputInstruction) : Type 0 where
   pub line : Output
   pub put : IsPut c w place start line
@@ -336,7 +336,7 @@ due_line c w place number instruction running due same read =
       whole = is.whole (ap is_some (file_within c.program due.start.file put.1.within));
     }
 
--- it can be composed
+-- a due line can be composed
 pub due_composed : (c : Stepper) (w : Walk) (place number : ℕ) → (due : IsDue c w place) → slice_get (own_starts c.program.starts) number ≡ slice_get (starts_of c.program.starts w) place → CanCompose c number
 due_composed c w place number due same =
     let put = is_put c w place due.start due.there due.due in
@@ -354,7 +354,7 @@ pub line_fitting : (c : Stepper) (number : ℕ) (instruction : OutputInstruction
 line_fitting c number instruction running can read =
     line_fits c.program c.state.values can.start instruction running.state.values can.starts ((line_read c number instruction can.start running can.there read).whole can.file)
 
--- values and positions that a line composes, whatever its program is
+-- the values and positions that a line composes, for any program
 abbrev pub ComposesAll : OutputInstruction → (old new : Values) → List (Option ℕ) → Type 0
 ComposesAll instruction old new positions =
     (p : Program) (start : OutputStart) → AreValues p old → IsStart p start → IsWhole p start instruction → Composes p start instruction.length (is_told instruction.request) old new positions
@@ -385,7 +385,7 @@ composes_line old new number instruction values positions running can read same 
           ∙ ap (λ (s : State). let c : Composed = record { positions = new.composition; after = environment old.program s } in c) (sym is_state)));
     }
 
--- no list is so long that its places don't fit
+-- the places of a walk fit 64 bits
 pub place_fits : (c : Stepper) (w : Walk) (place : ℕ) → IsDue c w place → Fits w64 (place + 1)
 place_fits c w place due = by w (slice_get_within (starts_of c.program.starts w) place due.start due.there)
   where
@@ -401,7 +401,7 @@ printable Printer n is h = let both = and_parts (nat_le 1 n) (nat_le n 132) h in
 printable CardReader n is h = absurd (true≢false (sym is))
 printable Disk n is h = absurd (true≢false (sym is))
 
--- what is printed is the same where the record is blank at first
+-- the printed text is the same if the record begins blank
 begun_alike : (printed_so : Bool) (print : List ℕ → Rest) (store : List (Option ℕ) → Rest) (source : Source) (fields : List (OutputField Name)) (n : ℕ) (e : Environment)
     → (let c : Composed = composed source fields (record { positions = replicate n None; after = e }) in (if printed_so then print (filled c.positions) else store c.positions) c.after)
     ≡ (let c : Composed = composed source fields (record { positions = replicate n (first_position (not printed_so)); after = e }) in (if printed_so then print (filled c.positions) else store c.positions) c.after)
@@ -410,7 +410,7 @@ begun_alike true print store source fields n e =
     let alike : Alike _ _ = composed_alike source fields (record { positions = replicate n None; after = e }) (record { positions = replicate n (first_position false); after = e }) (begins_alike n e) in
     λ i. print (alike.filled i) (alike.after i)
 
--- it is composed, and then printed or stored
+-- the line is composed, then printed or written to its file
 composed_runs : (old mid : Stepper) (w : Walk) (place : ℕ) (start : OutputStart) (line : Output) → IsPut old w place start line → ComposesLine old mid start
     → here old (λ source program progress. lines_from source program progress w place)
     ≡ here mid (λ source program progress. (if is_printer (file_at program start.file).device then printed source line (filled mid.composition) (lines_from source program progress w (place + 1))
@@ -430,8 +430,8 @@ composed_runs old mid w place start line put composes =
 composed_program : (old mid : Stepper) (start : OutputStart) → ComposesLine old mid start → mid.program ≡ old.program
 composed_program old mid start composes = ap (λ (k : Stepper). k.program) composes.same
 
--- ---- and put out
--- the instruction of the line that is composed, as it is read again
+-- ---- the composed line is written
+-- the instruction of the composed line, as it is read again
 pub record IsComposed (old mid : Stepper) (w : Walk) (place : ℕ) (start : OutputStart) (line : Output) (instruction : OutputInstruction) : Type 0 where
   pub put : IsPut old w place start line
   pub composes : ComposesLine old mid start
@@ -449,7 +449,7 @@ is_composed old mid w place number instruction running due same composing read =
 whole_file : (old : Stepper) (start : OutputStart) (instruction : OutputInstruction) (whole : IsWhole old.program start instruction) → whole.file ≡ file_at old.program start.file
 whole_file old start instruction whole = sym (ap (λ o. unwrap_or o no_file) whole.there)
 
--- a line that is printed
+-- a printed line
 printing_of : (p : Program) (start : OutputStart) (file : FileLine) (request : LineRequest) (spacing : Spacing) → request ≡ lines.Print spacing → IsLineRequest p start file request → IsPrinting p start file spacing
 printing_of p start file request spacing is asked = subst (λ (r : LineRequest). IsLineRequest p start file r) is asked
 
@@ -483,7 +483,7 @@ line_printed old mid new w place start line instruction spacing is asked goes =
     else (λ e. ask (disk_request (file_at program start.file) line mid.composition e) (λ answer. stored_or_halted (again source) (lines_from source program progress w (place + 1)) answer e))))) printer)
     (goes line (printing.line line is.put.is_line.there))
 
--- one that goes into its file
+-- a line that is written to a file
 asks_for : (old : Stepper) (start : OutputStart) (line : Output) (instruction : OutputInstruction) (asked : DiskRequest) → IsLineAt old.program start line → instruction.file ≡ start.file
     → (whole : IsWhole old.program start instruction) → IsStoring old.program start whole.file asked → AsksFor old.program instruction.file line asked
 asks_for old start line instruction asked line_is slot whole storing =
@@ -491,7 +491,7 @@ asks_for old start line instruction asked line_is slot whole storing =
     λ positions e.
     ap (λ (f : FileLine). disk_request f line positions e) (sym at) ∙ (storing.line line positions e line_is ∙ ap (λ (f : FileLine). disk_spec.request_of asked f positions e) at)
 
--- its file on disk takes it
+-- the line's file on disk can take the record
 pub stores_line : (old mid : Stepper) (w : Walk) (place : ℕ) (start : OutputStart) (line : Output) (instruction : OutputInstruction) (asked : DiskRequest) → IsComposed old mid w place start line instruction
     → instruction.request ≡ lines.Record asked → CanStore mid instruction.file asked
 stores_line old mid w place start line instruction asked is request =

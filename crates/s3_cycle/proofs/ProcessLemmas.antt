@@ -59,7 +59,7 @@ unfolding heads_read selected_or_last
 selects_none c new none goes =
     goes_as c new _ _ (ap (λ (o : Option Selected). selected_or_last (own c) (again (own c)) (reading_in c.program c.progress.reading) o (held_by c)) (sym none)) goes
 
--- one file alone, with a record without match fields at its head
+-- only one file, whose head has no match fields
 one_alone : (files : List InputFile) → is_keyless_alone files ≡ true → length files ≡ 1
 one_alone [] alone = absurd (true≢false (sym alone))
 one_alone (input ∷ []) alone = refl

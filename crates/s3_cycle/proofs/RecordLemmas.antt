@@ -1,4 +1,4 @@
--- Step 10: MR is set, and the selected record is the current one of its file.
+-- Step 10: MR is set, and the selected record becomes the current record of its file.
 use Rattle.std.proofs.Common.{◌≡◌, List, Some, refl, ap, subst, ◌∙◌}
 use Rattle.s3_cards.specs.declared.name.Name.{Name}
 use Rattle.s3_lines.specs.declared.indicator.Indicator.TheVariants.{Matching}
@@ -37,7 +37,7 @@ record_is_moved old mid two new selection taken first second goes =
     (with_record old selection (turn Matching selection.is_matched (held_by old)))) (kind_fields old.program selection.start taken.record_there.starts))
     (goes_changed old two new (λ source e. with_record old selection (turn Matching selection.is_matched e)) (selected_from selection selection.start.fields) both goes)
 
--- ---- the time of its details, which begins first
+-- ---- the start of detail time
 at_details_is : (c : Stepper) (selection : Selection) → c.progress.time ≡ time.Details selection → c ≡ at_details c selection
 at_details_is c selection is = λ i. record c { progress = record c.progress { time = is i } }
 
@@ -55,7 +55,7 @@ moved_at_time old new selection goes = goes_then old (at_details old selection) 
 pub taken_at_time : (c : Stepper) (selection : Selection) → IsTaken c.program c.progress selection → IsTaken c.program (at_details c selection).progress selection
 taken_at_time c selection taken = (details_move c selection taken).moves
 
--- what stays while the record becomes the current one
+-- the invariant is kept when the record becomes the current one
 pub still_running : (old mid two : Stepper) (selection : Selection) (first second : Source → Environment → Environment) → IsRunning old → Changes (at_details old selection) mid first → Changes mid two second → IsRunning two
 still_running old mid two selection first second running before behind =
     changed_running mid two second behind (changed_running (at_details old selection) mid first before (details_running old selection running))

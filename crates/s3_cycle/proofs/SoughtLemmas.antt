@@ -1,4 +1,4 @@
--- What a CHAIN seeks: a key is as long as that of its file, and a record number is a number.
+-- The key or record number that a CHAIN seeks: a key has the file's key length, and a record number is a number.
 use Rattle.std.proofs.Common.{◌≡◌, ℕ, ◌<◌, ◌≤◌, ◌==◌, ℤ, List, [], Bool, true, false, not, length, refl, sym, ap, ◌∙◌, subst, arith, inl, inr, unsigned_abs}
 use Rattle.std.specs.Prelude.{Option, Some, None, is_some, slice_get, option_map, nat_le, unwrap_or}
 use Rattle.std.proofs.lemmas.Bool.{and_parts, true≢false, cases_Bool}
@@ -103,7 +103,7 @@ text_length p values slot size name rest sound f =
 zoned_length : (digits : ℕ) (value : ℤ) → length (zoned digits value) ≡ digits
 zoned_length digits value = length-zoned_bytes (is_negative value) digits (unsigned_abs value)
 
--- ---- factor 1 of a CHAIN to a file with keys
+-- ---- factor 1 of a CHAIN to a keyed file
 abbrev is_key : Option KeyField → Option (Factor Meaning) → Bool
 is_key key None = false
 is_key key (Some one) = not (is_no_key key (shape_of_factor one))
@@ -146,7 +146,7 @@ bytes_long p values rest (Some (Named (FieldSlot k))) key sound value fits plain
     step None at value fits = absurd (true≢false (sym value))
     step (Some e) at value fits = shaped e.0 e.1 at fits
 
--- a number is no literal text
+-- a number isn't a text literal
 number_bytes_long : (p : Program) (values : Values) (rest : Environment) (one : Option (Factor Reference)) (key : KeyField) → IsSound p values → is_value (meant_factor p one) ≡ true → IsKey key (meant_factor p one)
     → is_number (source_named p) (named_factor p one) ≡ true → length (bytes_in (source_named p) (held p values rest) (named_factor p one)) ≡ key.length
 number_bytes_long p values rest None key sound value fits numeric = absurd (true≢false (sym numeric))
@@ -154,7 +154,7 @@ number_bytes_long p values rest (Some (TextFactor literal)) key sound value fits
 number_bytes_long p values rest (Some (NumberFactor literal)) key sound value fits numeric = bytes_long p values rest (Some (NumberFactor literal)) key sound value fits refl
 number_bytes_long p values rest (Some (Named name)) key sound value fits numeric = bytes_long p values rest (Some (Named name)) key sound value fits refl
 
--- a slot of a text that is a factor, of a literal too
+-- the slot of a text factor, field or literal
 slot_bytes_long : (p : Program) (values : Values) (rest : Environment) (one : Option (Factor Reference)) (slot : ℕ) (key : KeyField) → IsSound p values → is_value (meant_factor p one) ≡ true → IsKey key (meant_factor p one)
     → IsTextSlot p one slot → length (text_at (texts_of values.texts) slot) ≡ key.length
 slot_bytes_long p values rest (Some (TextFactor literal)) slot key sound value fits is =
@@ -205,7 +205,7 @@ by_key c line chain found is key keyed long same = record {
 few : (n m : ℕ) → n ≡ m → m ≤ 29 → n ≤ 29
 few n m same less = omega (arith, same, less)
 
--- ---- by the text of a slot
+-- ---- a key from the text in a slot
 text_sought : (c : Stepper) (line : CalculationLine Reference) (chain : Chained) (slot : ℕ) → (is : IsChained c.program line chain) → chain.sought ≡ sought.Text slot → (is_some is.file.key ≡ true) × IsTextSlot c.program line.factor1 slot
 text_sought c line chain slot is same = subst (λ (s : SoughtBy). IsSought c.program line is.file.key s) same is.seeks
 
@@ -236,7 +236,7 @@ seeks_text c line chain slot text found running of_program is same there found_a
     by_key c line chain found is k.key k.is (ap (λ (xs : List ℕ). length xs) found_as ∙ text_key c line chain slot text k.key running of_program is same there k.is)
     (found_as ∙ (sym (text_found c.state.values slot text there) ∙ sym ((text_sought c line chain slot is same).1.means c.state.values (others c.program c.state) running.state.values)))
 
--- ---- by the zoned digits of the number of a slot
+-- ---- a key from the zoned digits of the number in a slot
 number_sought : (c : Stepper) (line : CalculationLine Reference) (chain : Chained) (slot : ℕ) → (is : IsChained c.program line chain) → chain.sought ≡ sought.Number slot
     → IsSought c.program line is.file.key (sought.Number slot)
 number_sought c line chain slot is same = subst (λ (s : SoughtBy). IsSought c.program line is.file.key s) same is.seeks
@@ -264,7 +264,7 @@ seeks_zoned c line chain slot number found running of_program is same value form
     (ap (λ (xs : List ℕ). length xs) bytes ∙ number_bytes_long c.program c.state.values (others c.program c.state) line.factor1 k.key running.state.values (chain_value c.program line of_program) (key_fits c.program line chain k.key of_program is k.is) it.1.2.numeric)
     bytes
 
--- ---- by the record number that the number of a slot is
+-- ---- a record number from the number in a slot
 record_sought : (c : Stepper) (line : CalculationLine Reference) (chain : Chained) (slot : ℕ) → (is : IsChained c.program line chain) → chain.sought ≡ sought.RecordNumber slot
     → IsSought c.program line is.file.key (sought.RecordNumber slot)
 record_sought c line chain slot is same = subst (λ (s : SoughtBy). IsSought c.program line is.file.key s) same is.seeks

@@ -1,4 +1,4 @@
--- The card at which a run stands, and the line at which its request was made.
+-- The card at which a job halts, and the line that made the request.
 use Rattle.std.proofs.Common.{◌≡◌, ℕ, ◌-◌, inl, inr, refl}
 use Rattle.std.specs.Prelude.{Option, Some, None, slice_get}
 use Rattle.s3_meaning.specs.Runs.{ask, replied}
@@ -34,7 +34,7 @@ unfolding rest ask replied
 head_there source c place None there = rw there tt
 head_there source c place (Some input) there = rw there (record { place = place; input = input; there = there; is_file = refl; is_number = refl; goes_on = λ answers. refl })
 
--- what holds nowhere and at this field holds where a field is shown
+-- a property of `Nowhere` and of this field holds for the field's place
 field_shown : (P : Stand → Type 0) (progress : Progress) (place : ℕ) → P Nowhere → ((file number : ℕ) → P (Field place file number)) → P (field_at progress place)
 field_shown P progress place none some = by progress.time
   where

@@ -1,4 +1,4 @@
--- The CHAIN at which a run stands, and what it seeks.
+-- The CHAIN at which a job halts, and the key or record number that it seeks.
 use Rattle.std.proofs.Common.{◌≡◌, ℕ, ◌<◌, List, true, false, arith, inl, inr, length, refl, ap, sym, subst, ◌∙◌, true≢false}
 use Rattle.std.specs.Prelude.{Option, Some, None, is_some, option_map, slice_get, unwrap_or}
 use Rattle.std.specs.Option.{option_and_then}
@@ -71,7 +71,7 @@ none_found p cards place are none = step (slice_get p.calculations.items place) 
     step None there = rw there refl
     step (Some line) there = absurd (past cards place (omega (arith, are.decoded.all, slice_get_within p.calculations.items place line there)) none)
 
--- ---- what it seeks
+-- ---- what the CHAIN seeks
 pub chains : (c : Stepper) (place : ℕ) (chain : Chained) → IsChainAt c.program place chain → ChainsAt c chain
 chains c place chain is = record { line = is.line; of_program = is.of_program; is = is.is }
 
@@ -87,6 +87,6 @@ seeks_there c place chain sought is seeks =
     ∙ (sym (ap (λ (of : Option FileLine). option_map (sought_in (own c) (held_by c) (named_line c.program is.line)) of) found)
     ∙ sym (ap (option_and_then (sought_by c)) is.there))
 
--- ---- its file
+-- ---- the file of the CHAIN
 pub file_there : (p : Program) (place : ℕ) (chain : Chained) → IsChainAt p place chain → Some chain.file ≡ option_and_then (λ (line : CalculationLine Reference). slot_named line.factor2) (chain_at p place)
 file_there p place chain is = sym (ap (option_and_then (λ (line : CalculationLine Reference). slot_named line.factor2)) is.there ∙ ap slot_named is.is.names)

@@ -35,7 +35,7 @@ starts old new switches date begins begins' goes = record {
   runs = ap (λ (p : Program). rest (source_named p) new) (sym goes.program) ∙ goes.runs ∙ begins_run old.program switches date old.state old.progress begins begins';
 }
 
--- ---- a run with the parts that it begins with
+-- ---- a run at its start
 pub begun_runs : (program : Program) (switches : ℕ) (date : List ℕ) (beginning : Beginning) (c : Stepper) → IsBegun program beginning c → BeginsRun program switches date beginning → IsRunning c
 begun_runs program switches date beginning c begun begins = record {
   overflow = begun.overflow ∙ ap (λ (p : Program). overflow_of p.files.items) (sym begun.program);
@@ -62,7 +62,7 @@ starts_begun program switches date beginning old new begun begins goes =
     progress : BeginsProgress old.program switches old.progress
     progress = rw (begun.program, begun.progress) begins.progress
 
--- a run of the same program that begins again
+-- a run of the same program that restarts
 pub restarts_running : (old : Stepper) (state : State) (progress : Progress) (switches : ℕ) (date : List ℕ) → IsRunning old → BeginsState old.program switches date state → BeginsProgress old.program switches progress
     → IsRunning (record old { state = state; progress = progress })
 restarts_running old state progress switches date running begins begins' = record {

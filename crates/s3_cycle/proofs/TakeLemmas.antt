@@ -1,4 +1,4 @@
--- The head of a file is taken, with all that is kept of it.
+-- Taking the head of a file, with everything kept about it.
 use Rattle.std.proofs.Common.{◌≡◌, ℕ, ◌<◌, length, get_or, List, [], Bool, true, ◌||◌, not, refl, sym, ◌∙◌, ap, subst}
 use Rattle.std.specs.Prelude.{Option, Some, is_some, unwrap_or, option_map, slice_get}
 use Rattle.std.specs.List.{All, list_any, list_all}
@@ -23,7 +23,7 @@ use Rattle.s3_cycle.specs.Inner.Selecting.{Takes}
 use Rattle.s3_cycle.specs.Inner.Rest.{fields_at, selected_of}
 use Rattle.s3_cycle.specs.Inner.Going.{IsHeadWithin, IsRunning}
 
--- the heads of the others stay
+-- the heads of other files stay
 pub heads_taken : (program : Program) (old new : Reading) (selected : Selected) → IsReading program old → IsReading program new → All (IsHeadWithin program) old.files.items
     → reading_in program new ≡ meaning.taken (reading_in program old) selected → All (IsHeadWithin program) new.files.items
 heads_taken program old new selected before sound heads same =

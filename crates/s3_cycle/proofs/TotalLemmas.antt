@@ -1,4 +1,4 @@
--- Total time, the lines at overflow, and detail time: sections from their beginning, and what follows them.
+-- Total time, overflow lines and detail time: sections from their start, and what follows them.
 use Rattle.std.proofs.Common.{◌≡◌, ◌||◌, ℕ, Bool, true, false, List, [], ◌∷◌, ◌++◌, Option, Some, None, if◌then◌else◌, ◌⊎◌, inl, inr, refl, sym, ap, ◌∙◌, subst}
 use Rattle.s3_lines.specs.declared.indicator.Indicator.{Indicator}
 use Rattle.s3_lines.specs.declared.indicator.Indicator.TheVariants.{LastRecord}
@@ -37,7 +37,7 @@ use Rattle.s3_cycle.proofs.WalkLemmas.{all_lines}
 abbrev pub at_time : Stepper → Time → Course → Stepper
 at_time c t course = record c { progress = record c.progress { time = t; course = course } }
 
--- ---- a section from its beginning
+-- ---- a section from its start
 pub record Begins (program : Program) (lines : List Calculation) (spot : Spot) (course : Course) : Type 0 where
   pub is : IsCourse program course
   pub here : course.here ≡ spot
@@ -60,7 +60,7 @@ at_totals program spot course begins = record {
   returns = begins.returns;
 }
 
--- where none of them can do anything, all are done
+-- if the totals guard doesn't hold, all total calculations are done
 pub totals_idle : (c : Stepper) → IsRunning c → IsAtTotals c.program c.progress.course → guard_holds c.state.values.indicators c.totals_guard ≡ false → IsOver c c
 unfolding environment
 totals_idle c running totals off =
@@ -97,8 +97,8 @@ record_totals old new selection spot course begins goes =
     goes_then old (at_time old (time.Totals selection) course) new _ _ refl
     (sym (ap (λ (run : Rest). run (held_by old)) (totals_begun old.program (totals_done (own old) old.program old.progress selection) spot course begins))) goes
 
--- ---- behind calculations
--- T lines are put out at the times of totals
+-- ---- after calculations
+-- T lines are written at total time
 pub total_lines : (p : Program) (progress : Progress) (t : Time) → IsOverflowTime p progress t → IsTotalTime p progress t
 total_lines p progress (time.Details selection) is = is
 total_lines p progress (time.Totals selection) is = is
@@ -121,7 +121,7 @@ totals_time p progress (time.Details selection) is (inr last) = details_last p p
 totals_time p progress (time.Totals selection) is which = is
 totals_time p progress time.Last is which = is
 
--- they follow total calculations
+-- T lines follow total calculations
 lines_after : (source : Source) (p : Program) (progress : Progress) (t : Time) → IsTotalTime p progress t → after_calculations source p progress t ≡ lines_then source p walk.Totals 0 (totals_end source p progress t)
 lines_after source p progress (time.Details selection) is = absurd is
 lines_after source p progress (time.Totals selection) is = refl
@@ -137,7 +137,7 @@ pub total_lines_follow : (old mid new : Stepper) → IsOver old mid → IsOverfl
 total_lines_follow old mid new over is goes =
     goes_then old mid new _ _ over.calculates.program over.runs (lines_follow mid new (total_lines mid.program mid.progress mid.progress.time is) goes)
 
--- ---- behind lines
+-- ---- after output lines
 pub passed_all : (old mid new : Stepper) (w : Walk) (next : ℕ) (meant : Source → Program → Progress → Rest) → mid ≡ old → PassesAll old w next
     → after_lines (own old) old.program old.progress w (held_by old) ≡ here old meant → GoesOn mid new (here mid meant)
     → GoesOn old new (here old (λ source program progress. lines_from source program progress w next))
@@ -170,7 +170,7 @@ goes_past old new selection off goes =
     goes_as old new _ _
     (ap (λ (b : Bool). (if b then ended false else overflow_lines (own old) (again (own old)) (record_moved (own old) old.program old.progress selection)) (held_by old)) off) goes
 
--- before a record
+-- the end of the job at the totals before a record
 pub total_ends : (old new : Stepper) (t : Time) → IsOverflowTime old.program old.progress t → (held_by old).on LastRecord ≡ true
     → GoesOn old new (here old (λ source program progress. ended false)) → GoesOn old new (here old (λ source program progress. totals_end source program progress t))
 total_ends old new (time.Details selection) is on goes = absurd is
@@ -219,7 +219,7 @@ pub overflow_passed : (old new : Stepper) (selection : Selection) → IsRunning 
     → GoesOn old new (here old (λ source program progress. overflow_lines source (again source) (record_moved source program progress selection)))
 overflow_passed old new selection running off goes = goes_as old new _ _ (overflow_when old selection false running off) goes
 
--- behind its lines the overflow indicator goes off
+-- after the overflow lines the overflow indicator goes off
 pub overflow_ended : (old mid turned new : Stepper) (selection : Selection) (next : ℕ) → IsRunning old → mid ≡ old → PassesAll old walk.Overflow next → old.progress.time ≡ time.Totals selection
     → Changes mid turned (λ source. turn_entry mid.overflow false) → GoesOn turned new (here turned (λ source program progress. record_moved source program progress selection))
     → GoesOn old new (here old (λ source program progress. lines_from source program progress walk.Overflow next))

@@ -1,4 +1,4 @@
--- Files are read in turn: from the answer for one of them to the files behind it.
+-- Files are read in turn: the answer for one file, then the files after it.
 use Rattle.std.proofs.Common.{◌≡◌, ℕ, ◌+◌, ◌<◌, ◌≤◌, length, set, List, [], ◌∷◌, Bool, true, false, not, ◌||◌, refl, sym, ◌∙◌, ap, subst, zero, suc, arith}
 use Rattle.std.specs.Prelude.{Option, Some, None, is_some, filter_map, find, if◌then◌else◌}
 use Rattle.std.specs.Option.{option_or}
@@ -36,7 +36,7 @@ use Rattle.s3_cycle.proofs.GoingLemmas.{goes_then, goes_as, goes_changed}
 abbrev pub with_reading : Stepper → Reading → Stepper
 with_reading c reading = record c { progress = record c.progress { reading = reading } }
 
--- what is meant of the inputs, where a file has changed
+-- a continuation of the inputs, after a file has changed
 pub by_reading : (source : Source) (program : Program) (old new : Progress) (place : ℕ) (change : meaning.InputFile → meaning.InputFile) (meant : List meaning.InputFile → (List meaning.InputFile → Rest) → Run)
     → reading_in program new.reading ≡ changed_at place change (reading_in program old.reading)
     → meant (inputs_in program new) (heads_read source program new) ≡ meant (set (inputs_in program old) place (change (input_at (inputs_in program old) place))) (heads_read source program old)
@@ -72,7 +72,7 @@ pub reads_next : (c new : Stepper) (from place : ℕ) → IsNextUnread (inputs_i
 reads_next c new from place next goes =
     goes_as c new _ _ (read_next (own c) (again (own c)) (inputs_in c.program c.progress) from place (heads_read (own c) c.program c.progress) (held_by c) next) goes
 
--- as many files are meant as there are
+-- the run and the semantics have equally many files
 pub all_read : (program : Program) (files : List InputFile) (from : ℕ) → AreRead (inputs_of program files) from (length files) → AreRead (inputs_of program files) from (length (inputs_of program files))
 all_read program files from read = subst (AreRead (inputs_of program files) from) (sym (length-map files _)) read
 
@@ -84,7 +84,7 @@ reads_none c new from within read goes =
     (read_none (own c) (again (own c)) (inputs_in c.program c.progress) from (heads_read (own c) c.program c.progress) (held_by c)
     (subst (λ (n : ℕ). from ≤ n) (sym (length-map c.progress.reading.files.items _)) within) (all_read c.program c.progress.reading.files.items from read)) goes
 
--- ---- no file is to be read, so none has a head
+-- ---- if no file is unread, none has a head
 none_unread : (inputs : List meaning.InputFile) → ((k : ℕ) → k < length inputs → meaning.is_unread (input_at inputs k) ≡ false) → list_any meaning.is_unread inputs ≡ false
 none_unread [] each = refl
 none_unread (input ∷ inputs) each =
@@ -166,7 +166,7 @@ goes_unsequenced old new reading place start bytes typed sequence same goes =
     ((again (own old)).read (input_at r.files place) (read_behind (own old) (again (own old)) r.files place
     (λ inputs. selected_or_last (own old) (again (own old)) (record { files = inputs; primary_key = r.primary_key }) (select (record { files = inputs; primary_key = r.primary_key }))))) (held_by old)) same)) goes
 
--- by whether the record is in sequence
+-- the result if the record is in sequence
 pub where_put : {A : Type 0} (b : Bool) (x y z : A) → b ≡ true → z ≡ (if b then x else y) → z ≡ x
 where_put b x y z is e = e ∙ ap (λ (b : Bool). if b then x else y) is
 

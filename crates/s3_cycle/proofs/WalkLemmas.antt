@@ -1,4 +1,4 @@
--- Lines of the O sheet that are put out together, from the first one on, are those lines of the source.
+-- The output lines of one walk, from its first line on, are the lines of the source with its kinds.
 use Rattle.std.proofs.Common.{◌≡◌, Bool, true, false, ◌&&◌, List, [], ◌∷◌, drop, filter, filter_map, if◌then◌else◌, refl, ap, ◌∙◌}
 use Rattle.std.proofs.Math.Path.{fun_ext}
 use Rattle.s3_lines.specs.declared.sheet.OutputKind.{OutputKind}
@@ -19,7 +19,7 @@ use Rattle.s3_operations.specs.Inner.Fits.{tables}
 use Rattle.s3_output.proofs.LawLemmas.{walk_lines}
 use Rattle.s3_cycle.specs.Inner.Rest.{starts_of, outputs_from, is_wanted, is_at_overflow, lines_then}
 
--- lines of other kinds are passed over
+-- lines of other kinds are skipped
 put_kept : (source : Source) (anew : Anew) (wanted : OutputKind → Bool) (at_overflow : Bool) (lines : List Output) (go : Rest)
     → lines_put source anew wanted at_overflow (filter (λ (line : Output). wanted line.kind) lines) go ≡ lines_put source anew wanted at_overflow lines go
 unfolding lines_put

@@ -1,4 +1,4 @@
--- The fields of a record end within it: no type of a valid program has a field past the records of its file.
+-- The fields of a record lie within it: no type of a valid program has a field after the end of its file's records.
 use Rattle.std.proofs.Common.{◌≡◌, ℕ, ◌≤◌, List, [], ◌∷◌, Bool, true, false, not, ◌&&◌, refl, sym, ◌∙◌, ap, subst, arith, zero, suc, length, drop}
 use Rattle.std.specs.Prelude.{Option, Some, None, map, find, slice_get, unwrap_or, option_map, nat_le}
 use Rattle.std.specs.List.{list_any, list_all}
@@ -117,7 +117,7 @@ group_within tables last (InputField field ∷ lines) within =
 abbrev type_fits : List FileLine → RecordType → Bool
 type_fits files kind = end_within (length_named files kind.file) kind.fields
 
--- of the conditions that are tried the fifth one: an OR line goes on with a group
+-- the fifth condition of the list, number 9, doesn't hold for an OR line: the line continues a group
 open_there : (marks : Marks) (at : InputStanding) (indicator : Indicator) (codes : List (Option RecordCode)) → is_clear (input_holds marks at (OrCodes indicator codes)) ≡ true → at.is_open ≡ true
 open_there marks at indicator codes clear = turned at.is_open (head_not (holds 9) (list_any holds (10 ∷ 11 ∷ 12 ∷ []))
     (rest_not (holds 8) (list_any holds (9 ∷ 10 ∷ 11 ∷ 12 ∷ [])) (rest_not (holds 7) (list_any holds (8 ∷ 9 ∷ 10 ∷ 11 ∷ 12 ∷ []))
@@ -176,7 +176,7 @@ found_fits {X} p q (y ∷ ys) x found all = step (p y) refl (and_parts (q y) (li
         (ap p (sym same) ∙ is, ap q (sym same) ∙ here)
     step false is here later found rest = later (rw is at found) rest
 
--- the fields of a record's type end within the records of its file
+-- the fields of a record's type lie within the file's records
 pub fields_within : (p : Program) (name : Name) (bytes : List ℕ) (kind : RecordType) (file : FileLine) → type_of (source_named p) name bytes ≡ Some kind → file_named (source_named p) name ≡ Some file
     → list_all (λ field. nat_le field.to file.record_length) kind.fields ≡ true
 unfolding named
@@ -186,7 +186,7 @@ fields_within p name bytes kind file is_kind is_file =
     let size : length_named p.files.items kind.file ≡ Some file.record_length = ap (length_named p.files.items) same ∙ ap (option_map (λ (f : FileLine). f.record_length)) is_file in
     ap (λ last. end_within last kind.fields) (sym size) ∙ found.1
 
--- the first of such fields, in a record of that length
+-- the first of these fields lies within a record of that length
 pub first_within : (p : Program) (field : FieldLine Reference) (fields : List (FieldLine Name)) (size : ℕ) (bytes : List ℕ) → length bytes ≡ size
     → list_all (λ field. nat_le field.to size) (named_field p field ∷ fields) ≡ true → field.to ≤ length bytes
 first_within p field fields size bytes is_size all = at_most field.to size (length bytes) (and_parts (nat_le field.to size) _ all).0 is_size
@@ -200,7 +200,7 @@ lines_at [] k line there = cc
 lines_at (l ∷ ls) zero line there = ap (λ x. x ∷ ls) (some_same l line there)
 lines_at (l ∷ ls) (suc k) line there = lines_at ls k line there
 
--- the fields from there on begin with that line's
+-- the fields from a place on begin with that line's field
 pub fields_at : (p : Program) (k : ℕ) (line : InputLine Reference) → slice_get p.inputs.items k ≡ Some line
     → group_fields (map (named_input (tables p)) (drop k p.inputs.items)) ≡ group_fields (named_input (tables p) line ∷ map (named_input (tables p)) (drop (suc k) p.inputs.items))
 fields_at p k line there = ap (λ lines. group_fields (map (named_input (tables p)) lines)) (lines_at p.inputs.items k line there)

@@ -1,4 +1,4 @@
--- What the contracts of a run and of a session don't reach: words of inner functions, of proofs and of other calls.
+-- Definitions that the contracts of a run and of a session don't need. Inner functions, proofs and other calls use them.
 pub mod Answers
 pub mod Calculating
 pub mod Chaining

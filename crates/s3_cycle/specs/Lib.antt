@@ -1,2 +1,2 @@
--- What a suspended run is: its requests, and what is left of it.
+-- A suspended run: its requests and its continuation.
 pub mod Inner

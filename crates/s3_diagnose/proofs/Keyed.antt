@@ -1,4 +1,4 @@
--- Match and control fields by their places: what the first of them says is what any of them says.
+-- Match and control fields by their places: an earlier field exists exactly if the first such field is earlier.
 use Rattle.std.proofs.Common.{◌≡◌, ℕ, List, [], ◌∷◌, ◌++◌, Bool, true, false, cond, refl, ◌∙◌, ap, arith, length, sym}
 use Rattle.std.specs.Prelude.{suc, ◌==◌, nat_lt, ◌&&◌, ◌||◌, Option, Some, None, is_some, is_none, map, flat_map, if◌then◌else◌}
 use Rattle.std.specs.List.{list_any}
@@ -18,7 +18,7 @@ use Rattle.s3_program.specs.declared.mark.TypeKey.{TypeKey}
 use Rattle.s3_program.specs.Matching.{same_level, same_type, same_group_mark, same_type_mark, levels_of, has_type, group_mark, type_mark, counts_in_some, marks_in_all, marks_in_some, marks_in_type, is_before}
 use Rattle.s3_diagnose.specs.Inner.Mismatched.{PlacedInput, inputs_from, group_above, type_key, has_level, is_in, is_of, gives, counts, meet, is_rival}
 
--- ---- the match and control fields, with their places: those of all types of their group, of some, of those of an indicator
+-- ---- match and control fields with their places: of all types of their group, of some, and of the types with an indicator
 abbrev pub is_among : List TypeKey → TypeKey → Bool
 is_among types kind = list_any (same_type kind) types
 
@@ -70,7 +70,7 @@ any_either p q r same (x ∷ xs) =
     either_of (p x) (q x) (list_any p xs) (list_any q xs)
     ∙ (ap (λ b. b || (list_any p xs || list_any q xs)) (same x) ∙ ap (λ b. r x || b) (any_either p q r same xs))
 
--- ---- a look-up among what one field gives, and then among the rest
+-- ---- a look-up in the marks of one field, then in the others
 looked_up : {M : Type 0} (p : M → Bool) (mark : Level → M) (place : ℕ) (b : Bool) (level : Level) → ((l : Level) → p (mark l) ≡ (b && same_level level l))
     → (levels : List Level) (rest : List (M × ℕ))
     → lookup p (map (λ l. (mark l, place)) levels ++ rest) ≡ cond (b && list_any (same_level level) levels) (Some place) (lookup p rest)
@@ -88,7 +88,7 @@ looked_up p mark place false level same (l ∷ levels) rest =
     ap (λ b. cond b (Some place) (lookup p (map (λ l. (mark l, place)) levels ++ rest))) (same l)
     ∙ looked_up p mark place false level same levels rest
 
--- a field of all types of the group, of some, or of those of an indicator alone
+-- a field of all types of the group, of some type, or only of the types with an indicator
 abbrev of_all : ℕ → Level → PlacedInput → Bool
 of_all group level placed = on placed.0
   where
@@ -160,7 +160,7 @@ type_split group place indicator level (Some g) (Some i) levels rest =
     ∙ ap (λ b. cond b (Some place) (lookup (same_type_mark (type_mark group indicator level)) rest))
     (and_group (group == g) (same_indicator indicator i) (list_any (same_level level) levels))
 
--- ---- a look-up among what all lines give
+-- ---- a look-up in the marks of all lines
 abbrev Splits : {M : Type 0} → (M → Bool) → (PlacedInput → List (M × ℕ)) → (PlacedInput → Bool) → Type 0
 Splits {M} p given has =
     (line : InputLine Name) (above : List (InputLine Name)) (rest : List (M × ℕ))
@@ -230,7 +230,7 @@ found_before p given has splits place above (line ∷ lines) =
     (list_any (above_of place has) (inputs_from (line ∷ above) lines)) refl (found_before p given has splits place (line ∷ above) lines)
     (λ late. too_late place has (line ∷ above) lines (later (length above) place late))
 
--- ---- which match fields a type has
+-- ---- the match fields of a type
 either_gives : (kind : TypeKey) (level : Level) (line : InputLine Name) (above : List (InputLine Name))
     → (of_all kind.group level (line, above) || of_type kind.group kind.indicator level (line, above)) ≡ gives level kind (line, above)
 either_gives kind level (Record file indicator codes) above = refl
@@ -258,7 +258,7 @@ has_match kind level lines =
     ∙ any_either (of_all kind.group level) (of_type kind.group kind.indicator level) (gives level kind)
     (λ placed. either_gives kind level placed.0 placed.1) (inputs_from [] lines))
 
--- ---- which field stands above one in a type
+-- ---- earlier fields of the same type
 same_counts : (types : List TypeKey) (group : ℕ) (i j : Indicator) → same_indicator i j ≡ true → counts types group (Some i) ≡ counts types group (Some j)
 same_counts types group i j same =
     any_alike (same_type (type_key i group)) (same_type (type_key j group))
@@ -305,7 +305,7 @@ either_rival types group place i level all (FieldOfRecord field) above =
     on true false relation x = refl
     on false b relation x = refl
 
--- as the look-ups say it
+-- the condition by look-ups
 abbrev pub is_given_before_by : List TypeKey → (group place : ℕ) → Option Indicator → Level → List (InputLine Name) → Bool
 is_given_before_by types group place None level lines =
     is_before place (lookup (same_group_mark (group_mark group level)) (flat_map (given_to_some (is_among types)) (inputs_from [] lines)))

@@ -1,4 +1,4 @@
--- Diagnostic 11 by the walk is the condition on the whole source.
+-- Diagnostic 11 as the walk over the lines finds it is the condition on the whole source.
 use Rattle.std.proofs.Common.{◌≡◌, ℕ, List, [], ◌∷◌, ◌++◌, Bool, true, false, cond, refl, ◌∙◌, ap, arith, length}
 use Rattle.std.specs.Prelude.{not, ◌&&◌, ◌||◌, Option, Some, None, map, filter, find, flat_map, filter_map, unwrap_or, if◌then◌else◌, option_map, option_to_list}
 use Rattle.std.specs.Bool.{beq}
@@ -39,7 +39,7 @@ use Rattle.s3_diagnose.proofs.Wholes.{standing_below, input_below, inputs_below,
 use Rattle.s3_diagnose.proofs.Misplacing.{record_open}
 use Rattle.s3_diagnose.proofs.Keyed.{is_among, given_to_all, given_to_some, given_to_type, has_match, given_before}
 
--- ---- what the look-ups say, of all the lines
+-- ---- look-ups in all the lines
 abbrev stood : Meanings → List (InputLine Name) → InputStanding
 stood meanings above = record {
   place = length above;
@@ -64,7 +64,7 @@ whole_marks meanings lines =
     marks_by (map (meant_input meanings) lines) (types_of all) (flat_map given_to_all all)
     (flat_map (given_to_some (is_among (types_of all))) all) (flat_map given_to_type all)
 
--- ---- where an I line stands
+-- ---- the place of an Input line
 place_below : (meanings : Meanings) (above : List (InputLine Name)) → (input_below meanings above).place ≡ length above
 place_below meanings [] = refl
 place_below meanings (Record file indicator codes ∷ above) = let h : (input_below meanings above).place ≡ length above = place_below meanings above in omega (arith, h)

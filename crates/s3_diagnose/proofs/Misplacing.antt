@@ -1,4 +1,4 @@
--- Diagnostic 9 by the walk is the condition on the whole source.
+-- Diagnostic 9 as the walk over the lines finds it is the condition on the whole source.
 use Rattle.std.proofs.Common.{◌≡◌, ℕ, List, [], ◌∷◌, Bool, true, false, cond, refl, sym, ◌∙◌, ap, arith}
 use Rattle.std.specs.Prelude.{◌==◌, nat_lt, nat_le, not, ◌&&◌, ◌||◌, Option, Some, None, is_some, is_none, map, filter, filter_map}
 use Rattle.std.specs.List.{list_any}
@@ -30,7 +30,7 @@ use Rattle.s3_diagnose.specs.Inner.Misplaced.{NineIsForLinesWithoutPlace, is_rec
 use Rattle.s3_diagnose.proofs.Told.{stands}
 use Rattle.s3_diagnose.proofs.Wholes.{standing_below, input_below, calculation_below, output_below, inputs_below, calculations_below, outputs_below, level_below, subroutine_below, section_below, passed, met, whole, spot_of}
 
--- ---- the I and O sheets
+-- ---- Input and Output specifications
 pub record_open : (meanings : Meanings) (above : List (InputLine Name)) → (input_below meanings above).is_open ≡ follows_record above
 record_open meanings [] = refl
 record_open meanings (Record file indicator codes ∷ above) = refl
@@ -73,7 +73,7 @@ output_same meanings above (AndCard conditions) = ap not (card_open meanings abo
 output_same meanings above (OrCard conditions) = ap not (card_open meanings above)
 output_same meanings above (FieldCard field) = ap not (card_above meanings above)
 
--- ---- the C sheet: the order of its parts
+-- ---- Calculation specifications: the order of their parts
 total_part : (part : ℕ) → nat_lt 0 (cond (nat_le 1 part) part 1) ≡ true
 total_part part = grind (arith, nat_tests)
 
@@ -190,7 +190,7 @@ lost_below above line =
     (ap (λ section. is_division_of section (division_on (calculation_below above) line.time)) (section_below (line ∷ above))
     ∙ division_below (section_of_last (line ∷ above)) line.time above)
 
--- ---- a C line
+-- ---- a calculation line
 five : (u a a' b b' c d e e' f f' : Bool) → a ≡ a' → b ≡ b' → e ≡ e' → f ≡ f'
     → (not u && (a || b || c || (d && e) || f)) ≡ (not u && (a' || b' || c || (d && e') || f'))
 five u a a' b b' c d e e' f f' ha hb he hf =

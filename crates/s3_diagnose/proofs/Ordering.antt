@@ -1,4 +1,4 @@
--- Diagnostics stand by card and then number.
+-- Diagnostics are ordered by card, then by number.
 use Rattle.std.proofs.Common.{◌≡◌, ℕ, ◌<◌, ◌≤◌, List, [], ◌∷◌, ◌++◌, Bool, true, false, cond, refl, sym, arith, subst, lt-ltb, lit<}
 use Rattle.std.specs.Prelude.{IsTrue, ◌==◌, nat_lt, ◌&&◌, ◌||◌, map, filter}
 use Rattle.std.specs.List.{AllByRecursion}
@@ -136,7 +136,7 @@ lines_in_order known at (line ∷ lines) cards =
     (line_in_order line.card holds numbers numbers_ascend)
     (lines_in_order known (behind at (meant_line known.meanings line.sheet)) lines cards.1)
 
--- ---- a diagnostic is put where it belongs
+-- ---- a diagnostic is inserted at its place
 all_filtered : (P : Diagnostic → Type 0) (p : Diagnostic → Bool) (xs : List Diagnostic) → AllByRecursion P xs → AllByRecursion P (filter p xs)
 all_filtered P p [] all = tt
 all_filtered P p (x ∷ xs) all = all_kept P (p x) x (filter p xs) all.0 (all_filtered P p xs all.1)

@@ -1,4 +1,4 @@
--- Two lists round a diagnostic, as they are put together.
+-- Inserting a diagnostic between two lists.
 use Rattle.std.proofs.Common.{◌≡◌, List, [], ◌∷◌, ◌++◌, ◌∙◌, ap, append_assoc}
 use Rattle.s3_lines.specs.declared.diagnostic.Diagnostic.{Diagnostic}
 

@@ -1,4 +1,4 @@
--- Diagnostic 10 by the walk is the condition on the whole source.
+-- Diagnostic 10 as the walk over the lines finds it is the condition on the whole source.
 use Rattle.std.proofs.Common.{◌≡◌, ℕ, List, [], ◌∷◌, Bool, true, false, cond, refl, ◌∙◌, ap}
 use Rattle.std.specs.Prelude.{◌==◌, not, ◌||◌, Option, Some, None, map, filter, filter_map, option_map}
 use Rattle.std.specs.List.{cons_option}
@@ -36,7 +36,7 @@ or_false : (b : Bool) → b ≡ (b || false)
 or_false true = refl
 or_false false = refl
 
--- ---- what the names of tags and subroutines mean
+-- ---- the meanings of the names of tags and subroutines
 abbrev tag_place : Placed → TagPlace
 tag_place placed = record { place = place_of placed; section = section_of placed }
 
@@ -161,7 +161,7 @@ forbidden_found lines one =
     ap (λ calls. is_forbidden calls one)
     (calls_found (meanings_of lines) (calculations_of lines) (subroutine_meant lines) [] (filter_map calculation_line lines))
 
--- ---- a C line
+-- ---- a calculation line
 elsewhere : (placed : Placed) (section : ℕ) (found : Option Placed) → section ≡ section_of placed
     → is_tag_elsewhere section (tag_meaning found) ≡ is_elsewhere (section_of placed) found
 elsewhere placed section None h = refl

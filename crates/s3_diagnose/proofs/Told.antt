@@ -1,4 +1,4 @@
--- What the walk tells stands among all diagnostics of a source: 12 on the RUN card takes nothing away.
+-- Each diagnostic of the walk is among all diagnostics of a source: 12 on the RUN card removes none.
 use Rattle.std.proofs.Common.{◌≡◌, ℕ, List, [], ◌∷◌, ◌++◌, Bool, true, false, cond, refl, ◌∙◌, ap, arith, sym}
 use Rattle.std.specs.Prelude.{◌==◌, nat_lt, ◌&&◌, ◌||◌, map, filter}
 use Rattle.std.specs.List.{list_any}
@@ -26,7 +26,7 @@ appended p (x ∷ xs) ys = ap (λ l. cond (p x) (x ∷ l) l) (appended p xs ys) 
     kept true x us vs = refl
     kept false x us vs = refl
 
--- a card that has the number among those of which a test holds
+-- a card has the number among the elements for which a test holds
 kept_any : (card number : ℕ) (b : Bool) (x : Diagnostic) (xs : List Diagnostic)
     → has_number card number (cond b (x ∷ xs) xs) ≡ (((x.number == number) && (b && is_on card x)) || has_number card number xs)
 kept_any card number true x xs = own (x.number == number) x xs
@@ -100,7 +100,7 @@ unfolding compile_diagnostics
 told_as_walked run_card card number small lines =
     completes run_card card number small (has_one_primary lines) (diagnostics_from (known_of lines) first_standing lines)
 
--- ---- the cards of lines of which a condition holds
+-- ---- the cards of lines for which a condition holds
 cards_of : (card number : ℕ) (holds : Spot → Bool) (some : List Spot)
     → list_any (is_on card) (map (λ (spot : Spot). on_card spot.line.card number) (filter holds some))
     ≡ list_any (λ (spot : Spot). (spot.line.card == card) && holds spot) some

@@ -1,4 +1,4 @@
--- Walks over lines: what is known of the line at a place, and of the standing behind it.
+-- Walks over lines: facts about the line at a place, and about the place after it.
 use Rattle.std.proofs.Common.{suc, zero, ◌≡◌, ℕ, ◌+◌, ◌-◌, take, length-drop, ◌<◌, ◌≤◌, List, [], ◌∷◌, ◌++◌, Bool, true, false, cond, refl, sym, ◌∙◌, ap, arith, subst, length, drop, get_or, append_assoc}
 use Rattle.std.specs.Prelude.{IsTrue, ◌&&◌, Option, Some, None}
 use Rattle.std.proofs.lemmas.List.{take_all}

@@ -1,4 +1,4 @@
--- The standing that the walk carries to a line, by the lines above it.
+-- The place that the walk computes for a line, from the lines before it.
 use Rattle.std.proofs.Common.{◌≡◌, ℕ, ◌+◌, List, [], ◌∷◌, ◌++◌, Bool, true, false, cond, refl, ◌∙◌, ap, arith, length}
 use Rattle.std.specs.Prelude.{◌==◌, Option, Some, None, is_some, unwrap_or, map, filter, filter_map}
 use Rattle.s3_cards.specs.declared.name.Name.{Name}
@@ -26,7 +26,7 @@ use Rattle.s3_diagnose.specs.Lookups.{Known}
 use Rattle.s3_diagnose.specs.Diagnostics.{found_on, diagnostics_from}
 use Rattle.s3_diagnose.specs.Inner.Whole.{Spot, spots_from, those_of, level_above, level_of, open_subroutine, section_at_level, section_of_last}
 
--- ---- standings by the lines above, the nearest first
+-- ---- places by the lines before, nearest first
 abbrev pub standing_below : Meanings → List Line → Standing
 standing_below meanings [] = first_standing
 standing_below meanings (line ∷ above) = behind (standing_below meanings above) (meant_line meanings line.sheet)
@@ -86,7 +86,7 @@ pub outputs_below : (meanings : Meanings) (above : List Line) → (standing_belo
 outputs_below meanings [] = refl
 outputs_below meanings (line ∷ above) = outputs_step meanings above line.card line.sheet (outputs_below meanings above)
 
--- ---- what the lines above make of a C line
+-- ---- the place of a calculation line by the lines before it
 time_by_group : (group : Option CalculationTime) (time above : CalculationTime) → unwrap_or group And ≡ above → time_on group time ≡ cond (goes_on time) above time
 time_by_group group Detail above h = refl
 time_by_group group (Total indicator) above h = refl
@@ -153,7 +153,7 @@ section_below (line ∷ above) =
     ∙ section_step (calculation_below above) (length above) (section_of_last above) (open_subroutine above) (level_of above line) line.operation
     (place_below above) (subroutine_below above) (section_below above)
 
--- ---- those of a number among the diagnostics of a line, and of all lines
+-- ---- the diagnostics with a number, of a line and of all lines
 abbrev on_card : ℕ → ℕ → Diagnostic
 on_card card number = record { card = card; number = number }
 
@@ -186,7 +186,7 @@ shown number false spot some = refl
 abbrev pub spot_of : List Line → Line → List Line → Spot
 spot_of above line below = record { above = above; line = line; below = below }
 
--- if a line has a number where the condition holds, so do all lines
+-- if each line gets a number exactly when the condition holds, so do all lines together
 pub whole : (number : ℕ) (known : Known) (holds : Spot → Bool)
     → ((above : List Line) (line : Line) (below : List Line)
     → those_of number (found_on known (standing_below known.meanings above) below line.card (meant_line known.meanings line.sheet) numbers)

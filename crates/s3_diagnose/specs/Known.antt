@@ -1,4 +1,4 @@
--- Lines with what they name, and where they stand.
+-- The lines of a source with their places, and the meanings of their names.
 use Rattle.s3_cards.specs.declared.name.Name.{Name}
 use Rattle.s3_lines.specs.declared.sheet.InputLine.{InputLine}
 use Rattle.s3_lines.specs.declared.sheet.CalculationLine.{CalculationLine}
@@ -15,7 +15,7 @@ use Rattle.s3_diagnose.specs.declared.standing.MeantLine.{MeantLine}
 use Rattle.s3_diagnose.specs.declared.standing.MeantLine.TheVariants as meant
 use Rattle.s3_diagnose.specs.declared.standing.Standing.{Standing}
 
--- ---- what names mean, by what each is the name of
+-- ---- the meaning of a name, by the kind of name
 abbrev pub Meanings : Type 0
 Meanings = Kind → Name → Meaning
 
@@ -36,7 +36,7 @@ meant_line meanings (sheet.Input line) = meant.Input (meant_input meanings line)
 meant_line meanings (sheet.Calculation line) = meant.Calculation (meant_calculation meanings line)
 meant_line meanings (sheet.Output line) = meant.Output (meant_output meanings line)
 
--- ---- standings
+-- ---- places
 abbrev pub first_standing : Standing
 first_standing = record { files = first_file; inputs = first_input; calculations = first_calculation; outputs = first_output }
 

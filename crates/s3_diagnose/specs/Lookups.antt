@@ -1,4 +1,4 @@
--- What lines define: look-ups that are functions of all the lines, where the first definition of a name stands.
+-- The definitions of a source: look-up functions over all its lines, in which the first definition of a name counts.
 use Rattle.std.specs.Prelude.{ℕ, Bool, List, [], ◌∷◌, ◌++◌, Option, Some, None, map, filter_map}
 use Rattle.s3_cards.specs.declared.name.Name.{Name}
 use Rattle.s3_lines.specs.declared.sheet.InputLine.{InputLine}
@@ -23,7 +23,7 @@ use Rattle.s3_program.specs.Matching.{Marks, marks_of}
 use Rattle.s3_program.specs.Conditions.{first_file_of, forbidden_among}
 use Rattle.s3_diagnose.specs.Known.{Meanings, meant_input, meant_calculation}
 
--- ---- fields: of the I sheet, and results of an operation with a length
+-- ---- fields: input fields, and results of operations with a length
 abbrev pub input_given : InputLine Name → Option (Name × Shape)
 input_given (FieldOfRecord field) = Some (field.name, shape_of_field field)
 input_given _ = None
@@ -38,7 +38,7 @@ result_given line = on line.operation line.result line.definition
 abbrev pub fields_given : List Line → List (Name × Shape)
 fields_given lines = filter_map input_given (filter_map input_line lines) ++ filter_map result_given (filter_map calculation_line lines)
 
--- ---- tags and subroutines, with their places among the C lines
+-- ---- tags and subroutines, with their places among the calculation lines
 abbrev pub name_given : Option (Factor Name) → Option Name
 name_given (Some (Named name)) = Some name
 name_given _ = None
@@ -70,7 +70,7 @@ abbrev pub subroutines_from : CalculationStanding → List (CalculationLine Name
 subroutines_from at [] = []
 subroutines_from at (line ∷ lines) = with_entry (subroutine_given at line) (subroutines_from (behind_calculation at line) lines)
 
--- ---- all that lines define
+-- ---- all definitions
 unfoldable pub tables_given : List Line → Tables
 tables_given lines = record {
   files = map file_entry (filter_map file_line lines);
@@ -79,12 +79,12 @@ tables_given lines = record {
   subroutines = subroutines_from first_calculation (filter_map calculation_line lines);
 }
 
--- what a condition may ask of all the lines
+-- what conditions look up in the whole source
 pub record Known : Type 0 where
   pub meanings : Meanings
-  -- the place of the first F line of a name
+  -- the place of the first file of a name
   pub first_file : Name → Option ℕ
-  -- of match and control fields
+  -- the match fields and control fields
   pub marks : Marks
   -- whether a call is forbidden
   pub forbidden : Call → Bool

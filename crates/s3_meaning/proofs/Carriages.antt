@@ -1,9 +1,9 @@
--- Where the carriage stands.
+-- Moves of the carriage.
 use Rattle.std.proofs.Common.{◌≡◌, ℕ, ◌+◌, ◌-◌, ◌*◌, ◌<◌, ◌≤◌, nat_lt, Bool, true, false, ◌||◌, if◌then◌else◌, Some, refl, ap, ◌∙◌, arith}
 use Rattle.std.proofs.lemmas.Bool.{ltb-true, ltb-false, lt-ltb}
 use Rattle.s3_meaning.specs.Carriage.{Carriage, next_page, passes, spaced, skipped}
 
--- so many lines on, where that is past line 66 or not
+-- advances by n lines, by whether this passes line 66
 abbrev on_by : Bool → ℕ → Carriage → Carriage
 on_by past n c =
     if past then record { page = next_page c.page; line = c.line + n - 66; overflow = c.overflow || passes c.line (c.line + n) }

@@ -1,4 +1,4 @@
--- The runs don't depend on their bounds: what can begin anew is what its definition would be without one.
+-- Runs don't depend on the bounds of restarts: `again` satisfies its defining equations without a bound.
 use Rattle.std.proofs.Common.{◌≡◌, ℕ, zero, suc, ◌==◌, ◌<◌, ◌≤◌, Bool, true, false, ◌&&◌, ◌||◌, if◌then◌else◌, ℤ, List, [], ◌∷◌, Option, Some, None, length, unsigned_abs, refl, sym, true≢false, arith}
 use Rattle.std.specs.List.{list_any}
 use Rattle.s3_lines.specs.Files.{is_printer}
@@ -29,14 +29,14 @@ use Rattle.s3_meaning.specs.Output.{is_exception, is_heading_or_detail, is_total
 use Rattle.s3_meaning.specs.Calculating.{has_tag, number_in, first_indicator, calculation_holds, divided, not_found, chained_to, on_chain, chained, performed, calculated}
 use Rattle.s3_meaning.specs.Cycle.{halts_shown, headings, cleared, headed, typed, counted_read, on_read, file_read, files_read, totals, last_time, total_time, has_overflowed, overflow_lines, detail_time, record_time, selected_or_last, reading_time, one_cycle, renewed, anew_within, again}
 
--- two rests give the same run for answers that are at most so many
+-- two continuations give the same run for at most `most` answers
 pub record Agree (most : ℕ) (go go' : Rest) : Type 0 where
   pub at : (e : Environment) (answers : List Answer) → length answers ≤ most → go e answers ≡ go' e answers
 
 pub fewer : {most less : ℕ} {go go' : Rest} → less ≤ most → Agree most go go' → Agree less go go'
 fewer h same = record { at = λ e answers few. same.at e answers (omega arith) }
 
--- two ways to begin anew give the same run for answers that are fewer than so many, where the rests do
+-- two sets of restart points give the same run for fewer than `most` answers, if their continuations do
 pub record AgreeAnew (most : ℕ) (a a' : Anew) : Type 0 where
   pub jump : (section lines : List Calculation) (go go' : Rest) (e : Environment) (answers : List Answer) → length answers < most → Agree (length answers) go go' → a.jump section lines go e answers ≡ a'.jump section lines go' e answers
   pub read : (input : InputFile) (go go' : InputFile → Rest) (e : Environment) (answers : List Answer) → length answers < most → ((input' : InputFile) → Agree (length answers) (go input') (go' input')) → a.read input go e answers ≡ a'.read input go' e answers
@@ -76,7 +76,7 @@ module _ (most : ℕ) (a a' : Anew) (same : AgreeAnew most a a') where
   replied-agree go go' Done e answers few agree = refl
   replied-agree go go' (Refused code) e answers few agree = refl
 
-  -- what follows a halt comes after an answer
+  -- the continuation of a halt follows an answer
   halted-later : (code : HaltCode) (go go' : Rest) → ((e : Environment) (answers : List Answer) → length answers < most → go e answers ≡ go' e answers) → Agree most (halted a code go) (halted a' code go')
   unfolding halted
   halted-later code go go' agree = record {
@@ -240,7 +240,7 @@ module _ (most : ℕ) (a a' : Anew) (same : AgreeAnew most a a') where
       (record { at = λ e answers few. (halts_shown-agree _ go go' agree).at _ answers few })
 
   -- ---- step 3
-  -- what is read anew comes after an answer
+  -- the continuation of reading a file again follows an answer
   read_anew-agree : (code : HaltCode) (input : InputFile) (go go' : InputFile → Rest) → ((input' : InputFile) → Agree most (go input') (go' input')) → Agree most (halted a code (a.read input go)) (halted a' code (a'.read input go'))
   read_anew-agree code input go go' agree = halted-later code _ _ (λ e answers few. same.read input go go' e answers few (λ input'. fewer (omega arith) (agree input')))
 
@@ -319,7 +319,7 @@ module _ (most : ℕ) (a a' : Anew) (same : AgreeAnew most a a') where
     }))).at _ answers few;
   }
 
-  -- where the cycles agree whose files have one to be read
+  -- the processing of a selected record agrees if the cycles agree for readings with an unread file
   selected_or_last-agree : (source : Source) (reading : Reading) → ((next : Reading) → list_any is_unread next.files ≡ true → Agree most (a.cycle next) (a'.cycle next)) → Agree most (selected_or_last source a reading (select reading)) (selected_or_last source a' reading (select reading))
   unfolding selected_or_last
   selected_or_last-agree source reading cycles = by_choice (select reading) refl
@@ -345,7 +345,7 @@ module _ (most : ℕ) (a a' : Anew) (same : AgreeAnew most a a') where
         at = λ e answers few. choice-agree (e.on LastRecord) _ _ _ _ e answers ((last_time-agree source).at e answers few) (agree.at e answers few);
       }))
 
--- a file to be read takes an answer first
+-- an unread file consumes an answer first
 unread-agree : (most : ℕ) (b rest : Bool) (x x' y y' : Rest) → (b || rest) ≡ true → Agree most x x' → (rest ≡ true → Agree most y y') → Agree most (λ e. (if b then x else y) e) (λ e. (if b then x' else y') e)
 unread-agree most true rest x x' y y' h agree other = agree
 unread-agree most false rest x x' y y' h agree other = other h
@@ -393,7 +393,7 @@ anew_within-agree (suc n) (suc m) source most h h' = record {
       (last_time-agree (length answers) _ _ (anew_within-agree n m source (length answers) (omega arith) (omega arith)) source).at e answers (omega arith);
 }
 
--- a cycle with a file to be read
+-- a cycle with an unread file
 cycle_within-agree : (n m : ℕ) (source : Source) (most : ℕ) (reading : Reading) → list_any is_unread reading.files ≡ true → most < n → most < m → Agree most ((anew_within n source).cycle reading) ((anew_within m source).cycle reading)
 unfolding anew_within
 cycle_within-agree zero m source most reading unread h h' = absurd (omega arith)
@@ -403,7 +403,7 @@ cycle_within-agree (suc n) (suc m) source most reading unread h h' =
     one_cycle-agree most _ _ same source reading
     (reading_time-later most _ _ same source reading unread (λ less g next unread'. cycle_within-agree n m source less next unread' (omega arith) (omega arith)))
 
--- what can begin anew, with enough beginnings
+-- `again` agrees with enough bounded restarts
 again-agree : (n : ℕ) (source : Source) (most : ℕ) → most ≤ n → AgreeAnew most (anew_within n source) (again source)
 unfolding again
 again-agree n source most h = record {
@@ -442,7 +442,7 @@ again-cycle source reading e answers =
     (one_cycle-agree (length answers) _ _ same source reading
     (reading_time-agree (length answers) _ _ same source reading (λ next unread. again_cycle-agree (suc (length answers)) source (length answers) next unread (omega arith)))).at e answers (omega arith)
 
--- what can begin anew is what its definition makes of itself: no bound is left
+-- `again` satisfies its defining equation without a bound
 pub again-renewed : (source : Source) → again source ≡ renewed source (again source)
 again-renewed source = λ i. record {
   jump = λ section lines go e answers. again-jump source section lines go e answers i;

@@ -11,12 +11,12 @@ by_test false at_true at_false = at_false refl
 not_both : {A : Type 0} (b : Bool) → b ≡ true → b ≡ false → A
 not_both b t f = absurd (true≢false (sym t ∙ f))
 
--- no key is below itself
+-- no key is less than itself
 below-self : (a : List ℕ) → is_below a a ≡ false
 below-self [] = refl
 below-self (a ∷ as') = or_from (nat_lt a a) (a == a && is_below as' as') (le-ltb a a (omega arith)) (and_right (a == a) (is_below as' as') (below-self as'))
 
--- of two keys at most one is below the other
+-- of two keys at most one is less than the other
 below-once : (a b : List ℕ) → is_below a b ≡ true → is_below b a ≡ false
 below-once [] [] h = refl
 below-once [] (b ∷ bs) h = refl
@@ -39,7 +39,7 @@ below-once (a ∷ as') (b ∷ bs) h = by_test (nat_lt a b)
     second true y h f = not_both true refl f
     second false y h f = h
 
--- a key that isn't below one that isn't below another isn't below that one
+-- not being less is transitive
 below-along : (a b c : List ℕ) → is_below a b ≡ false → is_below b c ≡ false → is_below a c ≡ false
 below-along [] [] c h g = g
 below-along [] (b ∷ bs) c h g = not_both true refl h
@@ -82,7 +82,7 @@ less-self (Some a) = below-self a
 abbrev NotBelow : Selected → Selected → Type 0
 NotBelow selected head = is_less (key_of head) (key_of selected) ≡ false
 
--- none of these has a lower key
+-- no head has a lower key than this one
 abbrev IsLeast : List Selected → Selected → Type 0
 IsLeast heads selected = All (NotBelow selected) heads
 
@@ -95,7 +95,7 @@ not_none x e = absurd (apart e)
     apart : Some x ≡ None → ⊥
     apart e = cc
 
--- where nothing is selected there is no head
+-- if no head is the least, there is no head
 none-left : (heads : List Selected) (selected : Selected) → least heads ≡ None → IsLeast heads selected
 none-left [] selected e = All-nil (NotBelow selected)
 none-left (head ∷ heads) selected e = not_none (lesser head (least heads)) e

@@ -1,4 +1,4 @@
--- After a record was selected, its file is to be read.
+-- After a record is selected, its file is unread.
 use Rattle.std.proofs.Common.{◌≡◌, ℕ, Bool, true, false, not, ◌||◌, if◌then◌else◌, cond, List, [], ◌∷◌, ◌++◌, map, filter, filter_map, find, Option, Some, None, is_some, option_map, refl, sym, subst, true≢false}
 use Rattle.std.specs.Option.{option_or}
 use Rattle.std.specs.List.{list_any, cons_option}
@@ -63,7 +63,7 @@ every_least P (x ∷ xs) h = lower (least xs) (every_least P xs h.1)
     lower None g = h.0
     lower (Some y) g = chosen (is_less (key_of y) (key_of x)) y g
 
--- the selected record's file is one of these
+-- a file of this name is among these
 IsIn : List InputFile → Name → Type 0
 IsIn inputs name = list_any (λ input. same_name input.file.name name) inputs ≡ true
 
@@ -90,7 +90,7 @@ every_selectable all (input ∷ inputs) h = more (head_of input) (filter_map sel
     more None xs g = g
     more (Some head) xs g = (h.0, g)
 
--- a record that was selected has one of the files
+-- the file of the selected record is among these
 HasFile : List InputFile → Selected → Type 0
 HasFile inputs selected = IsIn inputs selected.file.name
 
@@ -130,7 +130,7 @@ in_files reading =
     (at_end reading.files reading.primary_key heads (all_files reading.files))
     (before_end reading.files heads (all_files reading.files))
 
--- a file whose head was taken is to be read
+-- a file whose head was taken is unread
 vacated_unread : (name : Name) (inputs : List InputFile) → IsIn inputs name → list_any is_unread (map (vacated name) inputs) ≡ true
 unfolding IsIn
 vacated_unread name [] h = h

@@ -1,4 +1,4 @@
--- Worked rows, as a run's requests after each answer.
+-- Worked examples: the requests of a run after each answer.
 use Rattle.std.proofs.Common.{◌≡◌, pos, negsuc, List, [], ◌∷◌, Some, None, true, false, refl}
 use Rattle.s3_decimal.specs.Exact.{stored}
 use Rattle.s3_lines.specs.declared.indicator.Indicator.TheVariants.{General, Matching, FirstPage, Overflow}
@@ -27,12 +27,12 @@ use Rattle.s3_meaning.specs.Cycle.{halts_shown, headings, cleared, headed, typed
 use Rattle.s3_meaning.specs.Source.{source_of}
 use Rattle.s3_meaning.specs.Inner.Samples.{named, padded_to}
 
--- the request after each of the answers
+-- the requests of a run: the first, and the one after each answer
 asked : Run → List Answer → List Request
 asked run [] = run [] ∷ []
 asked run (answer ∷ answers) = run [] ∷ asked (λ later. run (answer ∷ later)) answers
 
--- 60 cards under a heading that prints by 1P or by overflow
+-- 60 cards under a heading that prints at 1P or at overflow
 lines_overflow : List Line
 lines_overflow =
     (record { card = 1; sheet = (Header (Some (named (211 ∷ 201 ∷ 226 ∷ 227 ∷ [])))) })
@@ -52,7 +52,7 @@ row_overflow : asked (Req (source_of lines_overflow) 0 (240 ∷ 240 ∷ 240 ∷ 
 unfolding lines_overflow asked ask ended to_totals replied halted number_moved field_moved fields_moved printed stored_or_halted file_line_put line_put lines_put divided not_found chained_to on_chain chained performed calculated halts_shown headings cleared headed typed on_read file_read files_read totals last_time total_time overflow_lines detail_time record_time selected_or_last reading_time one_cycle anew_within again stored
 row_overflow = refl
 
--- primary keys 10 20 20 30, secondary 20 25 30
+-- primary keys 10, 20, 20, 30; secondary keys 20, 25, 30
 lines_matching : List Line
 lines_matching =
     (record { card = 1; sheet = (Header (Some (named (212 ∷ 193 ∷ 227 ∷ 195 ∷ 200 ∷ [])))) })
@@ -76,7 +76,7 @@ row_matching : asked (Req (source_of lines_matching) 0 (240 ∷ 240 ∷ 240 ∷ 
 unfolding lines_matching asked ask ended to_totals replied halted number_moved field_moved fields_moved printed stored_or_halted file_line_put line_put lines_put divided not_found chained_to on_chain chained performed calculated halts_shown headings cleared headed typed on_read file_read files_read totals last_time total_time overflow_lines detail_time record_time selected_or_last reading_time one_cycle anew_within again stored
 row_matching = refl
 
--- 99999 and 1 into 5 digits, half adjust, DIV and MVR
+-- 99999 and 1 in 5 digits, half adjust, DIV and MVR
 lines_numbers : List Line
 lines_numbers =
     (record { card = 1; sheet = (Header (Some (named (213 ∷ 228 ∷ 212 ∷ [])))) })

@@ -1,4 +1,4 @@
--- What a job holds between two lines: its fields and indicators by their names, and the facts of the cycle.
+-- The environment: fields and indicators by name, and the state of the cycle between two lines.
 use Rattle.std.specs.Prelude.{ℕ, ◌+◌, ◌*◌, ◌-◌, ◌/◌, ◌%◌, ◌^◌, ◌==◌, Bool, true, false, not, ◌&&◌, ℤ, pos, List, replicate, slice_index, Option, None, if◌then◌else◌}
 use Rattle.std.specs.List.{list_any, list_all}
 use Rattle.s3_decimal.specs.Exact.{Fraction, exact}
@@ -13,24 +13,24 @@ use Rattle.s3_meaning.specs.Source.{Source, length_of}
 use Rattle.s3_meaning.specs.declared.current.Current.{Current}
 
 pub record Environment : Type 0 where
-  -- the values of numeric and of alphanumeric fields
+  -- the values of numeric fields and of alphanumeric fields
   pub numbers : Name → ℤ
   pub texts : Name → List ℕ
   -- the indicators that are on
   pub on : Indicator → Bool
-  -- what the last DIV leaves for MVR
+  -- the remainder of the last DIV, for MVR
   pub remainder : Fraction
   -- each file's current record
   pub current : Name → Option Current
-  -- the control field held for each level
+  -- the control field saved for each level
   pub held : ℕ → Option (List ℕ)
-  -- total time is no longer passed over
+  -- total time is no longer skipped
   pub totals_due : Bool
-  -- the carriage
+  -- the carriage: page and line
   pub page : ℕ
   pub line : ℕ
 
--- ---- changes
+-- ---- updates
 abbrev pub put_number : Name → ℤ → Environment → Environment
 put_number name value e = record e { numbers = λ other. if same_name other name then value else e.numbers other }
 
@@ -40,7 +40,7 @@ put_text name text e = record e { texts = λ other. if same_name other name then
 abbrev pub turn : Indicator → Bool → Environment → Environment
 turn indicator to e = record e { on = λ other. if same_indicator other indicator then to else e.on other }
 
--- indicators with what each is to show; one that is named twice is on where one of its causes holds
+-- sets indicators to the given values; an indicator that is listed twice is on if one of its values is on
 abbrev pub show : List (Option Indicator × Bool) → Environment → Environment
 show marks e =
     record e {
@@ -54,11 +54,11 @@ abbrev pub is_level : Indicator → Bool
 is_level (Level n) = is_between 1 9 n
 is_level _ = false
 
--- L1 to L9 go on or off
+-- turns L1 to L9 on or off
 abbrev pub turn_levels : Bool → Environment → Environment
 turn_levels to e = record e { on = λ other. if is_level other then to else e.on other }
 
--- LR and L1 to L9 go on
+-- turns LR and L1 to L9 on
 abbrev pub with_last_record : Environment → Environment
 with_last_record e = turn LastRecord true (turn_levels true e)
 
@@ -78,23 +78,23 @@ holds e condition = if condition.negated then not (e.on condition.indicator) els
 abbrev pub all_hold : Environment → List Condition → Bool
 all_hold e conditions = list_all (holds e) conditions
 
--- ---- the beginning
+-- ---- initial state
 -- the bit of a switch: U1 is the highest of eight
 abbrev pub switch_on : ℕ → ℕ → Bool
 switch_on switches n = switches / 2 ^ (8 - n) % 2 == 1
 
--- L0 and 1P are on, and the switches as they are set
+-- L0 and 1P are on; the switches are as the job sets them
 abbrev pub on_at_first : ℕ → Indicator → Bool
 on_at_first switches (Level n) = n == 0
 on_at_first switches FirstPage = true
 on_at_first switches (Switch n) = switch_on switches n
 on_at_first switches _ = false
 
--- the number that two of the digits of the date write
+-- the number that two adjacent digits of the date give
 abbrev pub date_part : List ℕ → ℕ → ℕ
 date_part date at = slice_index date at % 16 * 10 + slice_index date (at + 1) % 16
 
--- the date is six EBCDIC digits, mmddyy
+-- UDATE, UMONTH, UDAY and UYEAR from the date, which is six EBCDIC digits, mmddyy
 abbrev pub numbers_at_first : List ℕ → Name → ℤ
 numbers_at_first date name =
     if same_name name udate then pos (date_part date 0 * 10000 + date_part date 2 * 100 + date_part date 4)

@@ -1,4 +1,4 @@
--- Names and indicators of the sheets, and those entries of a list that aren't blank.
+-- Equality of names and of indicators, and the entries of a list that aren't blank.
 use Rattle.std.specs.Prelude.{List, Option, filter_map}
 pub use Rattle.s3_lines.specs.Indicators.{same_indicator, is_indicator}
 pub use Rattle.s3_lines.specs.Reserved.{page, udate, umonth, uday, uyear, rpgobj}

@@ -1,4 +1,4 @@
--- Output lines: when one holds, what it puts out, and the request that it makes.
+-- Output lines: when a line is written, what it contains, and its request.
 use Rattle.std.specs.Prelude.{ℕ, ◌+◌, ◌-◌, ◌/◌, ◌==◌, Bool, true, false, not, ◌&&◌, ℤ, pos, ◌+ℤ◌, unsigned_abs, List, [], ◌∷◌, ◌++◌, map, length, take, drop, replicate, Option, Some, None, is_some, unwrap_or, if◌then◌else◌}
 use Rattle.std.specs.List.{list_any}
 use Rattle.s3_lines.specs.Files.{is_printer}
@@ -28,11 +28,11 @@ use Rattle.s3_meaning.specs.Environment.{Environment, put_number, put_text, turn
 use Rattle.s3_meaning.specs.Carriage.{Carriage, to_print, after_print}
 use Rattle.s3_meaning.specs.Runs.{Rest, Anew, ask, halted}
 
--- ---- when a line holds
+-- ---- when a line is written
 abbrev pub is_plainly : Indicator → Condition → Bool
 is_plainly indicator condition = same_indicator condition.indicator indicator && not condition.negated
 
--- the group names the overflow indicator without N
+-- the group has the overflow indicator without N
 abbrev pub names_overflow : Source → List Condition → Bool
 names_overflow source group = on (overflow_of source.files)
   where
@@ -40,12 +40,12 @@ names_overflow source group = on (overflow_of source.files)
     on (Some indicator) = list_any (is_plainly indicator) group
     on None = false
 
--- by a group that names it at overflow time, and elsewhere by one that doesn't
+-- At overflow time a group that names the overflow indicator must hold, at other times a group that doesn't name it.
 abbrev pub line_holds : Source → (at_overflow : Bool) → Environment → Output → Bool
 line_holds source true e line = list_any (λ group. names_overflow source group && all_hold e group) line.groups
 line_holds source false e line = list_any (λ group. not (names_overflow source group) && all_hold e group) line.groups
 
--- a file whose condition is off is passed over
+-- a file whose condition is off is skipped
 abbrev pub is_served : Environment → FileLine → Bool
 is_served e file = on file.condition
   where
@@ -66,11 +66,11 @@ abbrev pub is_exception : OutputKind → Bool
 is_exception Exception = true
 is_exception _ = false
 
--- ---- what a field card puts out
+-- ---- the content of a field
 abbrev pub edited : EditCode → ℕ → ℕ → ℤ → List ℕ
 edited code digits decimals value = pictured code decimals (is_negative value) (unsigned_abs value) (unwrap_or (width_of code digits decimals) 0)
 
--- zoned without an edit code, but PAGE under Z
+-- without an edit code a number is zoned; PAGE is edited with Z
 abbrev pub number_bytes : Source → Name → OutputForm → ℤ → List ℕ
 number_bytes source name Packed value = packed_bytes (is_negative value) (digits_of source name / 2 + 1) (unsigned_abs value)
 number_bytes source name (Edited code) value = edited code (digits_of source name) (decimals_of source name) value
@@ -82,7 +82,7 @@ abbrev pub field_content : Source → FieldOutput Name → Environment → List 
 field_content source field e =
     if is_numeric source field.name then number_bytes source field.name field.form (e.numbers field.name) else e.texts field.name
 
--- each putting out of PAGE first adds 1, with 0 after 9999
+-- PAGE adds 1 before each time it is written; 0 follows 9999
 abbrev pub counted : Name → Environment → Environment
 counted name e =
     let number : ℤ = e.numbers page in
@@ -94,13 +94,13 @@ blanked source field e =
     if not field.blank_after then e
     else (if is_numeric source field.name then put_number field.name (pos 0) e else put_text field.name (replicate (length_of source field.name) 0x40) e)
 
--- ---- the record that a line puts out
--- what is put at each position, and the environment afterwards
+-- ---- the record that a line writes
+-- the byte written at each position, if any, and the environment afterwards
 pub record Composed : Type 0 where
   pub positions : List (Option ℕ)
   pub after : Environment
 
--- a content laid over a record, up to its end position
+-- writes a content into a record so that it ends at the To position
 abbrev pub laid : (end : ℕ) → List ℕ → List (Option ℕ) → List (Option ℕ)
 laid end content positions =
     take (end - length content) positions ++ map (λ code. Some code) content ++ drop end positions
@@ -111,13 +111,13 @@ put_out source (Field field) end c =
     let before : Environment = counted field.name c.after in
     record { positions = laid end (field_content source field before) c.positions; after = blanked source field before }
 
--- later fields lie over earlier ones
+-- a later field replaces an earlier one
 abbrev pub composed : Source → List (OutputField Name) → Composed → Composed
 composed source [] c = c
 composed source (field ∷ fields) c =
     composed source fields (if all_hold c.after (entries field.conditions) then put_out source field.content field.end c else c)
 
--- where nothing is put, a new record is blank
+-- in a new record, positions that no field writes are blank
 abbrev pub filled : List (Option ℕ) → List ℕ
 filled positions = map (λ position. unwrap_or position 0x40) positions
 
@@ -140,12 +140,12 @@ printed source line text go e =
     let place : Carriage = to_print line.spacing (carriage e) in
     ask (Print place.page place.line text) (λ answer. go (put_carriage source (after_print line.spacing place) e))
 
--- a refused record is passed over by reply 0
+-- if the record is refused, the job halts; reply 0 skips the record
 unfoldable pub stored_or_halted : Anew → Rest → Answer → Rest
 stored_or_halted anew go (Refused code) e = halted anew code go e
 stored_or_halted anew go _ e = go e
 
--- update for U and the direct load, else append, or add by key
+-- an update for an update file or direct load; otherwise an append, or with ADD in a keyed file an add by key
 abbrev pub disk_request : FileLine → Output → List (Option ℕ) → Environment → Request
 disk_request file line positions e =
     if is_updated file && not line.is_addition then Update file.name (e.current file.name) positions
@@ -162,7 +162,7 @@ unfoldable pub line_put : Source → Anew → Output → Option FileLine → Res
 line_put source anew line None go e = go e
 line_put source anew line (Some file) go e = (if is_served e file then file_line_put source anew line file go else go) e
 
--- the lines of these kinds that hold, in O sheet order
+-- writes those lines of these kinds that hold, in card order
 unfoldable pub lines_put : Source → Anew → (OutputKind → Bool) → (at_overflow : Bool) → List Output → Rest → Rest
 lines_put source anew wanted at_overflow [] go e = go e
 lines_put source anew wanted at_overflow (line ∷ lines) go e =

@@ -1,4 +1,4 @@
--- The lines of the O sheet: each with its groups of conditions and its fields.
+-- Output specifications: each line with its groups of conditions and its fields.
 use Rattle.std.specs.Prelude.{Bool, List, [], ◌∷◌, ◌++◌, unwrap_or}
 use Rattle.s3_cards.specs.declared.name.Name.{Name}
 use Rattle.s3_lines.specs.declared.indicator.Condition.{Condition}
@@ -11,7 +11,7 @@ use Rattle.s3_lines.specs.declared.sheet.OutputLine.TheVariants.{Line, And, Or, 
 use Rattle.s3_meaning.specs.Names.{entries}
 use Rattle.s3_cards.specs.Names.{no_name}
 
--- it holds where one of its groups of conditions does
+-- a line is written if one of its groups of conditions holds
 pub record Output : Type 0 where
   pub file : Name
   pub kind : OutputKind
@@ -20,13 +20,13 @@ pub record Output : Type 0 where
   pub groups : List (List Condition)
   pub fields : List (OutputField Name)
 
--- a group of conditions, as AND lines go on with it, and the OR groups after it
+-- the groups of conditions: AND lines continue a group, and each OR line begins another
 abbrev pub groups_from : List Condition → List (OutputLine Name) → List (List Condition)
 groups_from group (And conditions ∷ lines) = groups_from (group ++ entries conditions) lines
 groups_from group (Or conditions ∷ lines) = group ∷ groups_from (entries conditions) lines
 groups_from group _ = group ∷ []
 
--- the fields down to the next line card
+-- the fields up to the next line card
 abbrev pub fields_from : List (OutputLine Name) → List (OutputField Name)
 fields_from [] = []
 fields_from (Line card ∷ lines) = []
@@ -45,7 +45,7 @@ output_from file card lines =
       fields = fields_from lines;
     }
 
--- the output lines of these cards; one without a name takes the file of the line before
+-- the output lines of these cards; a line without a file name writes to the file of the previous line
 abbrev pub outputs_from : Name → List (OutputLine Name) → List Output
 outputs_from last [] = []
 outputs_from last (Line card ∷ lines) = output_from (unwrap_or card.file last) card lines ∷ outputs_from (unwrap_or card.file last) lines

@@ -1,4 +1,4 @@
--- The record types of the I sheet: each with all its codes, and the fields of its group.
+-- Record types from the Input specifications: each with all its codes, and the fields of its group.
 use Rattle.std.specs.Prelude.{List, [], ◌∷◌, ◌++◌, Option}
 use Rattle.s3_cards.specs.declared.name.Name.{Name}
 use Rattle.s3_lines.specs.declared.indicator.Indicator.{Indicator}
@@ -15,12 +15,12 @@ pub record RecordType : Type 0 where
   pub codes : List RecordCode
   pub fields : List (FieldLine Name)
 
--- the codes of the AND lines next below
+-- the codes of the AND lines that follow
 abbrev pub further_codes : List (InputLine Name) → List RecordCode
 further_codes (And codes ∷ lines) = entries codes ++ further_codes lines
 further_codes _ = []
 
--- the fields down to the next record line
+-- the fields up to the next record line
 abbrev pub group_fields : List (InputLine Name) → List (FieldLine Name)
 group_fields [] = []
 group_fields (Record file indicator codes ∷ lines) = []
@@ -28,12 +28,12 @@ group_fields (And codes ∷ lines) = group_fields lines
 group_fields (Or indicator codes ∷ lines) = group_fields lines
 group_fields (Field field ∷ lines) = field ∷ group_fields lines
 
--- a record type from its line and the lines below
+-- a record type from its line and the lines after it
 abbrev pub type_from : Name → Indicator → List (Option RecordCode) → List (InputLine Name) → RecordType
 type_from file indicator codes lines =
     record { file = file; indicator = indicator; codes = entries codes ++ further_codes lines; fields = group_fields lines }
 
--- the record types of these lines, where OR goes on with a file
+-- the record types of these lines; an OR line adds a type of the same file
 abbrev pub types_from : Name → List (InputLine Name) → List RecordType
 types_from file [] = []
 types_from file (Record next indicator codes ∷ lines) = type_from next indicator codes lines ∷ types_from next lines

@@ -1,4 +1,4 @@
--- Types of records, selection, matching records, sequence, and control breaks.
+-- Record types, record selection, matching records, sequence, and control breaks.
 use Rattle.std.specs.Prelude.{ℕ, ◌-◌, ◌/◌, ◌%◌, ◌==◌, nat_lt, nat_eq, Bool, true, false, not, ◌&&◌, ◌||◌, List, [], ◌∷◌, ◌++◌, map, slice_index, slice_range, find, filter, filter_map, flat_map, Option, Some, None, is_some, unwrap_or, option_map, if◌then◌else◌}
 use Rattle.std.specs.Option.{option_or}
 use Rattle.std.specs.List.{list_any, list_all}
@@ -21,11 +21,11 @@ use Rattle.s3_meaning.specs.Source.{Source, is_designated, own_fields}
 use Rattle.s3_meaning.specs.Environment.{Environment}
 
 -- ---- the type of a record
--- the zone of a code's character
+-- the zone of a code's character: C for &, D for -, F for a blank, otherwise the high half of its byte
 abbrev pub zone_of : ℕ → ℕ
 zone_of character = if character == 0x50 then 0xc else (if character == 0x60 then 0xd else (if character == 0x40 then 0xf else character / 16))
 
--- the zones that a record's byte has
+-- whether a byte has this zone: as its high half, or as the zone of its character
 abbrev pub has_zone : ℕ → ℕ → Bool
 has_zone byte zone = byte / 16 == zone || zone_of byte == zone
 
@@ -39,16 +39,16 @@ code_holds bytes code =
     let same : Bool = part_holds code.part code.character (slice_index bytes (code.position - 1)) in
     if code.negated then not same else same
 
--- the first type of the file all of whose codes hold
+-- the first type of the file whose codes all hold
 abbrev pub type_of : Source → Name → List ℕ → Option RecordType
 type_of source file bytes = find (λ kind. same_name kind.file file && list_all (code_holds bytes) kind.codes) source.types
 
--- ---- what match and control fields compare
+-- ---- how match fields and control fields compare
 -- the bytes of a field
 abbrev pub field_bytes : FieldLine Name → List ℕ → List ℕ
 field_bytes field bytes = slice_range bytes (field.from - 1) field.to
 
--- by bytes if alphanumeric, by digits without sign if numeric
+-- a text compares by its bytes, a number by its digits without sign
 abbrev pub compared : FieldForm → List ℕ → List ℕ
 compared Alphanumeric bytes = bytes
 compared (Zoned decimals) bytes = zoned_digits bytes
@@ -62,14 +62,14 @@ abbrev pub is_at : ℕ → Option ℕ → Bool
 is_at n (Some m) = n == m
 is_at n None = false
 
--- the levels, the highest first
+-- the levels, highest first
 abbrev pub levels : List ℕ
 levels = 9 ∷ 8 ∷ 7 ∷ 6 ∷ 5 ∷ 4 ∷ 3 ∷ 2 ∷ 1 ∷ []
 
 abbrev pub match_field : RecordType → ℕ → Option (FieldLine Name)
 match_field kind n = find (λ field. is_at n field.match_level) (own_fields kind)
 
--- the key of a record: its match fields, M9 first; none without match fields
+-- the key of a record: its match fields, M9 first; none if it has no match fields
 abbrev pub match_key : RecordType → List ℕ → Option (List ℕ)
 match_key kind bytes =
     if list_any (λ field. is_some field.match_level) (own_fields kind)
@@ -86,8 +86,8 @@ abbrev pub same_key : Option (List ℕ) → Option (List ℕ) → Bool
 same_key (Some a) (Some b) = pointwise nat_eq a b
 same_key _ _ = false
 
--- ---- the lists not yet read
--- the record at the head of a file, the n-th that was read, with its type
+-- ---- input files
+-- the record at the head of a file: its number in order of reading, its bytes and its type
 pub record Head : Type 0 where
   pub number : ℕ
   pub bytes : List ℕ
@@ -98,15 +98,15 @@ pub data Standing : Type 0 where
   Stands : Head → Standing
   Ended : Standing
 
--- a primary or secondary file; how many of its records were read; the key of its last head that had match fields and
--- wasn't passed over
+-- A primary or secondary file, with how many of its records were read. `last_key` is the key of its last head that had match fields and
+-- wasn't skipped.
 pub record InputFile : Type 0 where
   pub file : FileLine
   pub standing : Standing
   pub reads : ℕ
   pub last_key : Option (List ℕ)
 
--- the primary and secondary files in F order, and the key of the last selected primary record with match fields
+-- the primary and secondary files in the order of their cards, and the key of the last selected primary record with match fields
 pub record Reading : Type 0 where
   pub files : List InputFile
   pub primary_key : Option (List ℕ)
@@ -143,7 +143,7 @@ abbrev pub is_less : Option (List ℕ) → Option (List ℕ) → Bool
 is_less (Some a) (Some b) = is_below a b
 is_less _ _ = false
 
--- the first of those with the least key
+-- the first of the records with the least key
 abbrev pub lesser : Selected → Option Selected → Selected
 lesser selected None = selected
 lesser selected (Some other) = if is_less (key_of other) (key_of selected) then other else selected
@@ -152,41 +152,41 @@ abbrev pub least : List Selected → Option Selected
 least [] = None
 least (selected ∷ others) = Some (lesser selected (least others))
 
--- the primary stands first
+-- primary heads come before secondary heads
 abbrev pub primary_first : List Selected → List Selected
 primary_first heads = filter (λ selected. is_designated Primary selected.file) heads ++ filter (λ selected. is_designated Secondary selected.file) heads
 
--- the files with E, or all if none has it, have no head
+-- the files with E have no head; if no file has E, all files have none
 abbrev pub has_met_end : List InputFile → Bool
 has_met_end inputs =
     let ending : List InputFile = filter (λ input. input.file.ends_job) inputs in
     list_all (λ input. not (is_some (head_of input))) (if list_any (λ input. input.file.ends_job) inputs then ending else inputs)
 
--- at the end, secondary heads with the last primary key are still taken, where no primary head is left
+-- after the end, secondary heads with the last primary key are still selected, if no primary head is left
 abbrev pub select_at_end : List Selected → Option (List ℕ) → Option Selected
 select_at_end heads primary_key =
     if list_any (λ selected. is_designated Primary selected.file) heads then None
     else least (filter (λ selected. same_key (key_of selected) primary_key) heads)
 
--- the first head without match fields, else the least key
+-- the first head without match fields, else the head with the least key
 abbrev pub select : Reading → Option Selected
 select reading =
     let heads : List Selected = filter_map selectable reading.files in
     if has_met_end reading.files then select_at_end heads reading.primary_key
     else option_or (find (λ selected. not (is_some (key_of selected))) heads) (least (primary_first heads))
 
--- MR: for a primary whose key a secondary head has, and for a secondary with the last primary key
+-- MR: a primary record matches if a secondary head has its key, a secondary record if it has the last primary key
 abbrev pub is_matched : Reading → Selected → Bool
 is_matched reading selected =
     if is_designated Primary selected.file
     then list_any (λ other. is_designated Secondary other.file && same_key (key_of other) (key_of selected)) (filter_map selectable reading.files)
     else same_key (key_of selected) reading.primary_key
 
--- a file without the head that was taken
+-- a file after its head was selected
 abbrev pub vacated : Name → InputFile → InputFile
 vacated name input = if same_name input.file.name name then record input { standing = Unread } else input
 
--- the selected record is taken from the head of its file
+-- the state of input after a record is selected
 abbrev pub taken : Reading → Selected → Reading
 taken reading selected =
     record {
@@ -195,7 +195,7 @@ taken reading selected =
     }
 
 -- ---- sequence
--- a key is not lower than the last one of its file
+-- a key isn't lower than the last key of its file
 abbrev pub in_sequence : Option (List ℕ) → Option (List ℕ) → Bool
 in_sequence key last = not (is_less key last)
 
@@ -207,11 +207,11 @@ control_field kind n = find (λ field. is_at n field.control_level) (own_fields 
 abbrev pub control_value : RecordType → List ℕ → ℕ → Option (List ℕ)
 control_value kind bytes n = option_map (compared_field bytes) (control_field kind n)
 
--- the type names the level, and its field differs from the one held; a level that holds nothing yet differs
+-- A level breaks if the type names it, and its control field differs from the saved one or none is saved.
 abbrev pub breaks_at : Environment → Head → ℕ → Bool
 breaks_at e head n = let value : Option (List ℕ) = control_value head.kind head.bytes n in is_some value && not (same_key value (e.held n))
 
--- the greatest level that breaks, 0 if none
+-- the greatest level that breaks; 0 if none does
 abbrev pub break_level : Environment → Head → ℕ
 break_level e head = unwrap_or (find (breaks_at e head) levels) 0
 
@@ -219,7 +219,7 @@ abbrev pub is_level_to : ℕ → Indicator → Bool
 is_level_to n (Level m) = nat_lt 0 m && not (nat_lt n m)
 is_level_to n _ = false
 
--- L1 up to the break's level go on, and the control fields are held
+-- L1 up to the break's level go on, and the control fields are saved
 abbrev pub broken : Head → Environment → Environment
 broken head e =
     record e {

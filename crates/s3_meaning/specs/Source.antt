@@ -1,4 +1,4 @@
--- A source: what its sheets say, put together.
+-- A source: the specifications of all its sheets.
 use Rattle.std.specs.Prelude.{ℕ, ◌+◌, ◌-◌, Bool, true, false, not, ◌||◌, List, [], ◌∷◌, ◌++◌, Option, Some, None, is_some, unwrap_or, filter, filter_map, find, if◌then◌else◌}
 use Rattle.std.specs.Option.{option_or, option_and_then}
 use Rattle.std.specs.List.{list_any}
@@ -68,7 +68,7 @@ output_line line = on line.sheet
 abbrev pub width : FieldLine Name → ℕ
 width field = field.to + 1 - field.from
 
--- what the form and the width of a field in a record make of it
+-- the shape of a field with this form and width in a record
 abbrev pub field_shape : FieldForm → ℕ → Shape
 field_shape form bytes = shape_of_positions form bytes
 
@@ -90,7 +90,7 @@ abbrev pub shape_in : List (Name × Shape) → Name → Shape
 shape_in [] name = Alphanumeric 0
 shape_in (shape ∷ shapes) name = if same_name name shape.0 then shape.1 else shape_in shapes name
 
--- a field's shape is that of its first definition
+-- a field has the shape of its first definition
 abbrev pub shape_of : Source → Name → Shape
 shape_of source name = shape_in source.shapes name
 
@@ -122,7 +122,7 @@ is_numeric source name = on (shape_of source name)
     on (Alphanumeric length) = false
     on (Numeric digits decimals) = true
 
--- ---- the whole
+-- ---- the whole source
 abbrev pub source_from : List FileLine → List (InputLine Name) → List (CalculationLine Name) → List (OutputLine Name) → Source
 source_from files inputs calculations outputs = record {
   files = files;
@@ -136,7 +136,7 @@ abbrev pub source_of : List Line → Source
 source_of lines =
     source_from (filter_map file_line lines) (filter_map input_line lines) (filter_map calculation_line lines) (filter_map output_line lines)
 
--- the name in an H line
+-- the name in a Control specification (H)
 abbrev pub header_name : Line → Option Name
 header_name line = on line.sheet
   where
@@ -144,7 +144,7 @@ header_name line = on line.sheet
     on (Header name) = name
     on _ = None
 
--- the program's name: that of the first H line that bears one, or RPGOBJ
+-- the program's name: the name in the first Control specification that has one, else RPGOBJ
 abbrev pub program_name : List Line → Name
 program_name lines = unwrap_or (option_and_then header_name (find (λ line. is_some (header_name line)) lines)) rpgobj
 
@@ -171,7 +171,7 @@ body source name = body_in name source.calculations
 abbrev pub is_input : FileLine → Bool
 is_input file = is_designated Primary file || is_designated Secondary file
 
--- a line without ADD for it is an update
+-- whether a line without ADD updates a record of this file
 abbrev pub is_updated : FileLine → Bool
 is_updated file = on file.usage
   where
@@ -189,7 +189,7 @@ overflow_of [] = None
 overflow_of (file ∷ files) = option_or file.overflow (overflow_of files)
 
 -- ---- record types
--- an entry in 63-64 makes a field one of the types with that indicator alone
+-- a field with a field record relation (63-64) belongs only to the type with that indicator
 abbrev pub is_field_of : RecordType → FieldLine Name → Bool
 is_field_of kind field = not (is_some field.relation) || is_indicator kind.indicator field.relation
 
@@ -199,6 +199,6 @@ own_fields kind = filter (is_field_of kind) kind.fields
 abbrev pub has_control_fields : RecordType → Bool
 has_control_fields kind = list_any (λ field. is_some field.control_level) (own_fields kind)
 
--- a program with control fields has a control level on some field
+-- whether a field of the program has a control level
 abbrev pub has_levels : Source → Bool
 has_levels source = list_any (λ kind. list_any (λ field. is_some field.control_level) kind.fields) source.types

@@ -1,4 +1,4 @@
--- On which cards the faults of a statement are.
+-- The cards on which the errors of a statement are.
 use Rattle.std.proofs.Common.{ℕ, ◌+◌, ◌<◌, ◌≤◌, List, [], ◌∷◌, ◌++◌, Bool, true, false, cond, arith, length, drop, zero, suc}
 use Rattle.std.specs.Prelude.{Option, Some, None, find}
 use Rattle.std.specs.List.{flat_map, after_first, position_or_len}
@@ -17,7 +17,7 @@ use Rattle.s3_ocl.specs.Statements.{Statement, pieces_in, pieces_from, pieces_of
 use Rattle.s3_ocl.specs.Contents.{files_of, gives}
 use Rattle.s3_ocl.specs.Faults.{fault_if, entry_faults, piece_faults, twice_on, again_faults, file_parameters, is_ill_formed, lacks_load, is_again, verb_faults, statement_faults, faults_behind}
 
--- P holds of the card of each mark
+-- P holds for the card of each error
 abbrev pub Each : (ℕ → Type 0) → List Mark → Type 0
 Each P [] = Unit {0}
 Each P (mark ∷ marks) = P mark.card × Each P marks
@@ -102,7 +102,7 @@ each_verb P before statement (Some verb) p e =
     (each_if P _ _ _ p))
     (each_if P _ _ _ p)
 
--- the faults of a statement are on its cards
+-- the errors of a statement are on its cards
 pub each_statement : (P : ℕ → Type 0) (before : List Statement) (number : ℕ) (card : List ℕ) (cards : List (List ℕ))
     → ((k : ℕ) → number ≤ k → k < number + (statement_at number card cards).cards → P k) → Each P (statement_faults before (statement_at number card cards))
 unfolding statement_at statement_faults
@@ -110,7 +110,7 @@ each_statement P before number card cards p =
     each_verb P before (statement_at number card cards) (verb_of (first_word card)) (p number (omega arith) (omega arith))
     (each_known P (verb_of (first_word card)) number (texts_of card cards) p)
 
--- those of the statements from a card on are on later cards
+-- the errors of the statements from a card on are on that card or later ones
 pub each_later : (P : ℕ → Type 0) (turns number : ℕ) (cards : List (List ℕ)) (before : List Statement) → ((k : ℕ) → number ≤ k → P k)
     → Each P (faults_behind before (statements_within turns number cards))
 unfolding statements_within faults_behind

@@ -1,4 +1,4 @@
--- Lemmas on first faults.
+-- Lemmas about first errors.
 use Rattle.std.proofs.Common.{◌≡◌, ℕ, ◌+◌, ◌*◌, ◌<◌, List, [], ◌∷◌, ◌++◌, true, false, cond, refl, sym, ◌∙◌, ap, inl, inr, arith, length, take, get_or, lit<, ltb-true, lt-ltb}
 use Rattle.std.proofs.lemmas.List.{take_more, flat_map_more}
 use Rattle.std.specs.Prelude.{Option, Some, None, ◌==◌, nat_lt}
@@ -21,7 +21,7 @@ small_number Value = lit< tt
 small_number NoRun = lit< tt
 small_number Twice = lit< tt
 
--- a fault's card and number as one number
+-- the card and number of an error as one number
 weight : Mark → ℕ
 weight mark = 8 * mark.card + fault_number mark.fault
 
@@ -80,7 +80,7 @@ pub no_fault_yet : {X : Type 0} (f : X → List Mark) (xs : List X) → None ≡
 unfolding first_fault
 no_fault_yet f xs = refl
 
--- the first fault of one more
+-- the first error after one more element
 pub fault_more : {X : Type 0} (f : X → List Mark) (xs : List X) (i : ℕ) (d : X) (fault next new : Option Mark) → i < length xs
     → fault ≡ first_fault (flat_map f (take i xs)) → next ≡ first_fault (f (get_or xs i d)) → new ≡ earlier fault next
     → new ≡ first_fault (flat_map f (take (i + 1) xs))

@@ -7,7 +7,7 @@ use Rattle.s3_cards.specs.Names.{same_name}
 use Rattle.s3_ocl.specs.declared.contents.FileStatement.{FileStatement}
 use Rattle.s3_ocl.specs.Faults.{is_taken}
 
--- the names that are taken behind one more file
+-- the names in use after one more file
 pub file_more : (files : List FileStatement) (file : FileStatement) (old new : Name → Bool)
     → ((name : Name) → old name ≡ is_taken files (Some name))
     → ((name : Name) → new name ≡ cond (same_name file.name name) true (old name))

@@ -1,4 +1,4 @@
--- Lemmas on jobs.
+-- Lemmas about jobs.
 use Rattle.std.proofs.Common.{◌≡◌, ℕ, ◌+◌, ◌<◌, ◌≤◌, List, [], ◌∷◌, ◌++◌, Bool, true, false, cond, refl, sym, ◌∙◌, ap, subst, inl, inr, arith, length, drop, zero, suc, get_or, append_assoc, length-drop, lt-ltb, le-ltb}
 use Rattle.std.specs.Prelude.{Option, Some, None, IfSome, Result, Ok, Err, ◌==◌, ◌||◌, nat_lt, slice_get}
 use Rattle.std.specs.List.{cons_option}
@@ -26,7 +26,7 @@ use Rattle.s3_ocl.proofs.FaultLemmas.{earlier_assoc, first_fault-append}
 use Rattle.s3_ocl.proofs.PieceLemmas.{at_card, past}
 use Rattle.s3_ocl.proofs.BoundLemmas.{Each, each-append, each_statement, each_later}
 
--- P holds of the card of a mark, if there is one
+-- P holds for the card of the error, if there is one
 abbrev pub On : (ℕ → Type 0) → Option Mark → Type 0
 On P None = Unit {0}
 On P (Some mark) = P mark.card
@@ -39,7 +39,7 @@ on_earlier P a (Some b) p q = go (is_before b a)
     go true = q
     go false = p
 
--- a first fault is on one of the faults' cards
+-- a property of all errors' cards holds for the first error's card
 pub first_on : (P : ℕ → Type 0) (marks : List Mark) → Each P marks → On P (first_fault marks)
 unfolding first_fault
 first_on P [] each = tt
@@ -48,7 +48,7 @@ first_on P (mark ∷ marks) each = on_earlier P mark (first_fault marks) each.0 
 later_behind : (c d m n : ℕ) → d < c → cond (c == d) (nat_lt m n) (nat_lt c d) ≡ false
 later_behind c d m n less = grind (arith, nat_tests)
 
--- faults on later cards do not come first
+-- errors on later cards don't come first
 none_before : (mark : Mark) (marks : List Mark) → Each (λ k. mark.card < k) marks → earlier (Some mark) (first_fault marks) ≡ Some mark
 unfolding first_fault
 none_before mark [] each = refl
@@ -57,7 +57,7 @@ none_before mark (x ∷ marks) each =
     let both : earlier (Some mark) (Some x) ≡ Some mark = rw behind refl in
     sym (earlier_assoc (Some mark) (Some x) (first_fault marks)) ∙ (ap (λ m. earlier m (first_fault marks)) both ∙ none_before mark marks each.1)
 
--- without a first fault there is none
+-- if there is no first error, there is no error
 pub no_faults : (marks : List Mark) → first_fault marks ≡ None → marks ≡ []
 unfolding first_fault
 no_faults [] h = refl
@@ -79,7 +79,7 @@ pub statement_cards : (number : ℕ) (card : List ℕ) (cards : List (List ℕ))
 unfolding statement_at
 statement_cards number card cards = omega arith
 
--- the fault of a statement, or of the deck's end behind it, is on a card of the deck
+-- the error of a statement, or of the end of the deck after it, is on a card of the deck
 pub mark_within : (cards : List (List ℕ)) (before : List Statement) (statement : Statement) (place : ℕ) (mark : Mark) (last result : Option Mark)
     → statement ≡ statement_at (place + 1) (get_or cards place []) (drop (place + 1) cards) → place + statement.cards ≤ length cards
     → first_fault (statement_faults before statement) ≡ Some mark → last ≡ last_fault cards statement.verb (place + statement.cards)
@@ -122,7 +122,7 @@ drop_add zero m xs = let e : 0 + m ≡ m = omega arith in rw e refl
 drop_add (suc n) m [] = drop_all m [] (omega arith) ∙ sym (drop_all (suc n + m) [] (omega arith))
 drop_add (suc n) m (x ∷ xs) = let e : suc n + m ≡ suc (n + m) = omega arith in rw e (drop_add n m xs)
 
--- the statements from a place on
+-- the statement that begins at a place
 abbrev here : List (List ℕ) → ℕ → List ℕ → Statement
 here cards place card = statement_at (place + 1) card (drop (place + 1) cards)
 
@@ -149,7 +149,7 @@ unfolding statements_within
 no_statement cards place None at h = ap (λ (xs : List (List ℕ)). statements_within (length xs) (place + 1) xs) (drop_all place cards (past cards place at)) ∙ refl
 no_statement cards place (Some card) at h = ap (λ (xs : List (List ℕ)). statements_within (length xs) (place + 1) xs) (at_card cards place card at) ∙ rw h refl
 
--- no statement stands at a place where no card is one
+-- if the card at a place isn't a statement, no statement begins there
 no_statements : (cards : List (List ℕ)) (place : ℕ) → holds_at is_statement (slice_get cards place) ≡ false → heading_at cards place ≡ []
 no_statements cards place h = no_statement cards place (slice_get cards place) refl h
 
@@ -190,7 +190,7 @@ has-append : (verb : Verb) (xs : List Statement) (y : Statement) → has verb (x
 has-append verb xs y =
     list_any-append (λ statement. is_verb verb statement.verb) xs (y ∷ []) ∙ ap (λ b. has verb xs || b) (or_no (is_verb verb y.verb))
 
--- what the statements say with one more
+-- the contents after one more statement
 contents-append : (xs : List Statement) (y : Statement) → contents_of (xs ++ y ∷ []) ≡ contents_with (contents_of xs) y
 contents-append xs y i = record {
   program = first_in-append (λ s. name_in Program s.pieces) xs y i;
@@ -202,7 +202,7 @@ contents-append xs y i = record {
   is_switched = has-append Switch xs y i;
 }
 
--- what has been read of the job that begins at a place
+-- the statements read so far of the job that begins at a place
 pub record JobSoFar (cards : List (List ℕ)) (start place : ℕ) (contents : Contents) : Type 0 where
   pub passed : List Statement
   pub split : heading_at cards start ≡ passed ++ heading_at cards place
@@ -239,7 +239,7 @@ job_stopped cards start place contents mark faulty so_far none is gives =
     so_far.split ∙ (ap (λ (xs : List Statement). so_far.passed ++ xs) (no_statements cards place none) ∙ append-nil so_far.passed) in
     ap (job_of cards start) whole ∙ (rw (so_far.faultless, so_far.reached, so_far.no_run, gives, is) refl)
 
--- a statement that was read at a place
+-- a statement read at a place
 pub record IsRead (cards : List (List ℕ)) (place : ℕ) (statement : Statement) : Type 0 where
   pub card : List ℕ
   pub is : statement ≡ here cards place card
@@ -312,7 +312,7 @@ stop_on : (P : ℕ → Type 0) (cards : List (List ℕ)) (end : ℕ) (o : Option
 stop_on P cards end None p q = p refl
 stop_on P cards end (Some card) p q = q card refl
 
--- the card at which a job stops is one of the deck
+-- the card at which a job stops is in the deck
 pub stop_within : (cards : List (List ℕ)) (place : ℕ) (mark : Mark) → mark ≡ stop_fault cards place (slice_get cards place) → mark.card ≤ length cards
 stop_within cards place mark is =
     subst (λ (x : Mark). x.card ≤ length cards) (sym is)
@@ -326,7 +326,7 @@ each_stop P cards heading end p q = go (has Run heading) (slice_get cards end)
     go false None = (p, tt)
     go false (Some card) = (q, tt)
 
--- behind a statement with a fault only the deck's end can come before that fault
+-- after a statement in error, only the end of the deck can give an earlier error
 later_faults : (cards : List (List ℕ)) (start place : ℕ) (passed : List Statement) (s : Statement) (mark : Mark) (run : Bool) → is_verb Run s.verb ≡ run
     → start + cards_of passed ≡ place → has Run passed ≡ false → mark.card < place + 1 + s.cards → place + s.cards ≤ length cards
     → earlier (Some mark) (first_fault (faults_behind (passed ++ s ∷ []) (cond run [] (heading_at cards (place + s.cards)))
@@ -358,7 +358,7 @@ later_faults cards start place passed s mark false is reached no_run on within =
       ∙ (rw (no_end, end, none, test) refl))
 ]
 
--- the first fault of a job at whose statement there is one
+-- the first error of a job is this statement's
 first_of : (cards : List (List ℕ)) (start place : ℕ) (contents : Contents) (statement : Statement) (mark : Mark) (so_far : JobSoFar cards start place contents) (read : IsRead cards place statement)
     → place + statement.cards ≤ length cards → first_fault (statement_faults so_far.passed statement) ≡ Some mark
     → first_fault (faults_behind [] (heading_at cards start) ++ stop_faults cards (heading_at cards start) (start + cards_of (heading_at cards start)))

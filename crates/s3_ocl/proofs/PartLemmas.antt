@@ -1,4 +1,4 @@
--- Lemmas on texts between commas.
+-- Lemmas about texts between commas.
 use Rattle.std.proofs.Common.{◌≡◌, ℕ, ◌+◌, ◌<◌, ◌≤◌, ◌≢◌, List, [], ◌∷◌, sym, ◌∙◌, ap, subst, arith, length, take, drop}
 use Rattle.std.specs.List.{before_first, slice_split, position_or_len}
 use Rattle.std.proofs.lemmas.List.{take_all}

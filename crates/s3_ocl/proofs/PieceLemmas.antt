@@ -1,4 +1,4 @@
--- Lemmas on the parameters of statements.
+-- Lemmas about the parameters of statements.
 use Rattle.std.proofs.Common.{◌≡◌, ℕ, ◌+◌, ◌-◌, ◌<◌, ◌≤◌, List, [], ◌∷◌, ◌++◌, Bool, true, false, refl, sym, ◌∙◌, ap, subst, arith, length, drop, append_assoc, length-append, suc, inl, inr, add-one}
 use Rattle.std.specs.Prelude.{Option, Some, None, ◌&&◌, slice_get, unwrap_or}
 use Rattle.std.proofs.lemmas.Option.{slice_get_within, slice_get_cases, get_or_from_slice_get}
@@ -13,13 +13,13 @@ use Rattle.s3_ocl.specs.Parameters.{verb_of, goes_on, parts_of}
 use Rattle.s3_ocl.specs.Statements.{piece_of, texts_behind, pieces_in, pieces_from, pieces_of, statement_at}
 use Rattle.s3_ocl.specs.Inner.Steps.{pieces_more}
 
--- a text without parameters adds none
+-- an empty text adds no parameters
 pub no_parts : (verb : Verb) (number : ℕ) (pieces : List Piece) (text : List ℕ) → length text ≡ 0 → pieces ++ pieces_in verb number (length pieces) (parts_of text) ≡ pieces
 unfolding pieces_in
 no_parts verb number pieces [] e = append-nil pieces
 no_parts verb number pieces (x ∷ text) e = absurd (omega arith)
 
--- with these parameters, what is left of a text gives all of them
+-- these parameters, with those of the remaining text, are all parameters
 abbrev pub Leaves : Verb → ℕ → List Piece → List Piece → List ℕ → Type 0
 Leaves verb number all pieces left = all ≡ pieces ++ pieces_in verb number (length pieces) (slice_split is_comma left)
 
@@ -51,7 +51,7 @@ unfolding texts_behind
 not_open text [] h = refl
 not_open text (card ∷ left) h = rw h refl
 
--- where a statement's text does not end with a comma, it does not go on
+-- a statement whose text doesn't end with a comma isn't continued
 pub text_ends : (text : List ℕ) (cards : List (List ℕ)) (place : ℕ) → goes_on text ≡ false → texts_behind text (drop place cards) ≡ []
 text_ends text cards place h = not_open text (drop place cards) h
 
@@ -61,7 +61,7 @@ past cards place h = elim (slice_get_cases cards place).1 [
   | inr beyond ↦ beyond.0
 ]
 
--- nor does it behind the last card
+-- a statement isn't continued after the last card
 pub cards_end : (text : List ℕ) (cards : List (List ℕ)) (place : ℕ) → slice_get cards place ≡ None → texts_behind text (drop place cards) ≡ []
 unfolding texts_behind
 cards_end text cards place h = rw (drop_all place cards (past cards place h)) refl
@@ -74,7 +74,7 @@ and_no : (b : Bool) → (b && false) ≡ false
 and_no true = refl
 and_no false = refl
 
--- nor at another card
+-- a statement isn't continued by a card that isn't a continuation
 pub other_card : (text : List ℕ) (cards : List (List ℕ)) (place : ℕ) (card : List ℕ) → slice_get cards place ≡ Some card → is_continuation card ≡ false
     → texts_behind text (drop place cards) ≡ []
 unfolding texts_behind
@@ -86,12 +86,12 @@ pub text_goes_on : (text next : List ℕ) (cards : List (List ℕ)) (place : ℕ
 unfolding texts_behind
 text_goes_on text next cards place card goes h continues is = rw (at_card cards place card h, goes, continues, is) refl
 
--- the parameters of the texts that are left, behind these
+-- the parameters of the remaining texts, after these
 abbrev pub pieces_left : Option Verb → ℕ → List Piece → List (List ℕ) → List Piece
 pieces_left None number pieces texts = []
 pieces_left (Some verb) number pieces texts = pieces_from verb number (length pieces) texts
 
--- what has been read of the statement at a place: the cards up to another place, the last of which has this text
+-- the cards read so far of the statement at a place; `text` is the text of the last one
 pub record CardsSoFar (verb : Option Verb) (cards : List (List ℕ)) (place end : ℕ) (first text : List ℕ) (pieces : List Piece) : Type 0 where
   pub passed : List (List ℕ)
   pub split : first ∷ texts_behind first (drop (place + 1) cards) ≡ passed ++ texts_behind text (drop end cards)
@@ -106,7 +106,7 @@ unfolding pieces_in
 length-pieces_in verb number place [] = refl
 length-pieces_in verb number place (part ∷ parts) = ap suc (length-pieces_in verb number (place + 1) parts)
 
--- one more text of those that are left
+-- one more of the remaining texts is read
 read_more : (verb : Option Verb) (number : ℕ) (pieces new : List Piece) (text : List ℕ) (texts : List (List ℕ))
     → new ≡ pieces ++ pieces_more verb number pieces text → pieces ++ pieces_left verb number pieces (text ∷ texts) ≡ new ++ pieces_left verb (number + 1) new texts
 unfolding pieces_from

@@ -1,4 +1,4 @@
--- What FILE and DATE statements say is in range.
+-- The values of FILE and DATE statements are in range.
 use Rattle.std.proofs.Common.{◌≡◌, ℕ, ◌+◌, ◌-◌, ◌^◌, ◌<◌, ◌≤◌, List, [], ◌∷◌, ◌++◌, Bool, true, false, cond, refl, ◌∙◌, ap, subst, arith, length, take, drop, replicate, zero, suc, eqb-true, lit<, lit≤}
 use Rattle.std.specs.Prelude.{Option, Some, None, Result, Ok, Err, ◌==◌, ◌&&◌, not, find, nat_le, slice_index, unwrap_or, option_and_then, IfOk, if◌then◌else◌}
 use Rattle.std.specs.List.{list_all, prefix_len, position_or_len, cons_option}
@@ -87,7 +87,7 @@ padded text h =
     ap (λ (n : ℕ). is_word (take n (text ++ blanks)) && list_all is_blank (drop n (text ++ blanks))) end
     ∙ (rw (take-append_seam text blanks, drop-append_seam text blanks, h) (all_blanks (8 - length text)))
 
--- what a value of a parameter is known to be
+-- the range of a name
 abbrev is_sound_name : Value → Bool
 is_sound_name (Named name) = is_padded_name name
 is_sound_name (Count n) = true
@@ -155,7 +155,7 @@ date_sound text value h = by (length text == 6) ((length text == 8) && (slice_in
     by false true e = dated_by (without_slashes text) value e
     by false false e = cc
 
--- the same by a parameter's place among them: FileName, Label, Records, Tracks and Date
+-- the range of a value by the number of its parameter: FileName, Label, Records, Tracks and Date
 abbrev is_sound_ranked : ℕ → Value → Bool
 is_sound_ranked n value =
     if n == 2 then is_sound_name value
@@ -379,7 +379,7 @@ sound_dates (suc turns) number (card ∷ cards) =
     go true true more = first_date (date_in (statement_at number card cards).pieces) None here refl
     go true false more = first_date (date_in (statement_at number card cards).pieces) _ here more
 
--- the date of a job without faults
+-- the date of a job without errors is in range
 dated_job : (cards : List (List ℕ)) (place : ℕ) (job : Job) → job_at cards place ≡ Ok job → is_sound_date job.date ≡ true
 unfolding job_at
 dated_job cards place job h = go _ h
@@ -390,13 +390,13 @@ dated_job cards place job h = go _ h
         subst (λ (j : Job). is_sound_date j.date ≡ true) same (sound_dates (length (drop place cards)) (place + 1) (drop place cards))
     go (Some mark) e = cc
 
--- and so that of a job that a call gave
+-- the date of a job that a call returned is in range
 pub dated_result : (cards : List (List ℕ)) (place : ℕ) (result : Result Job OclFault) → Gives result (job_at cards place)
     → IfOk result (λ job. is_sound_date job.date ≡ true)
 dated_result cards place (Ok job) gives = dated_job cards place job gives
 dated_result cards place (Err fault) gives = tt
 
--- the files of a job without faults
+-- the files of a job without errors are in range
 sound_job : (cards : List (List ℕ)) (place : ℕ) (job : Job) → job_at cards place ≡ Ok job → list_all is_sound_file job.files ≡ true
 unfolding job_at
 sound_job cards place job h = go _ h
@@ -407,7 +407,7 @@ sound_job cards place job h = go _ h
         subst (λ (j : Job). list_all is_sound_file j.files ≡ true) same (sound_files (length (drop place cards)) (place + 1) (drop place cards))
     go (Some mark) e = cc
 
--- and so those of a job that a call gave
+-- the files of a job that a call returned are in range
 pub sound_result : (cards : List (List ℕ)) (place : ℕ) (result : Result Job OclFault) → Gives result (job_at cards place)
     → IfOk result (λ job. list_all is_sound_file job.files ≡ true)
 sound_result cards place (Ok job) gives = sound_job cards place job gives

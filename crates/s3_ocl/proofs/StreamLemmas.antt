@@ -1,4 +1,4 @@
--- Lemmas on job streams.
+-- Lemmas about job streams.
 use Rattle.std.proofs.Common.{◌≡◌, ℕ, ◌+◌, ◌<◌, ◌≤◌, List, [], ◌∷◌, ◌++◌, Bool, true, false, cond, refl, sym, ap, subst, inl, inr, arith, length, drop, zero, suc, lt-ltb, le-ltb, length-append}
 use Rattle.std.proofs.lemmas.List.Sums.{sum_by-cons}
 use Rattle.std.specs.Prelude.{Option, Some, None, Result, slice_get}
@@ -27,7 +27,7 @@ after_job cards place = go (next_place closes_job cards place) (holds_at is_job_
     go close true reached = omega arith
     go close false reached = reached
 
--- the faults of the job that begins at a place are on cards behind it
+-- the errors of the job that begins at a place are on later cards
 faults_on : (cards : List (List ℕ)) (place : ℕ) → place < length cards
     → On (λ k. place < k) (first_fault (faults_behind [] (heading_at cards place) ++ stop_faults cards (heading_at cards place) (place + cards_of (heading_at cards place))))
 faults_on cards place within =
@@ -36,7 +36,7 @@ faults_on cards place within =
     (each_later (λ k. place < k) (length (drop place cards)) (place + 1) (drop place cards) [] (λ k low. omega arith))
     (each_stop (λ k. place < k) cards (heading_at cards place) (place + cards_of (heading_at cards place)) within (omega arith)))
 
--- a job without a fault has a RUN
+-- a job without an error has a RUN
 has_run : (cards : List (List ℕ)) (heading : List Statement) (end : ℕ) → first_fault (faults_behind [] heading ++ stop_faults cards heading end) ≡ None → has Run heading ≡ true
 has_run cards heading end h = go (has Run heading) refl (no_faults (faults_behind [] heading ++ stop_faults cards heading end) h)
   where
@@ -64,7 +64,7 @@ some_cards (suc turns) number (card ∷ cards) h = go (is_statement card) h
         )
     go false h = cc
 
--- a job ends behind the place where it begins
+-- a job ends after the place where it begins
 pub after_place : (cards : List (List ℕ)) (place : ℕ) → place < length cards → place < place_after (job_at cards place)
 unfolding job_at
 after_place cards place within = go _ refl (faults_on cards place within)
@@ -91,11 +91,11 @@ stream_within (suc turns) cards from enough = elim (cases_lt (next_job cards fro
       (sym (le-ltb (next_job cards from) (length cards) past)) (ends from past)
 ]
 
--- the jobs from a place on are a stream
+-- the jobs from a place on satisfy the relation
 pub stream_from : (cards : List (List ℕ)) (from : ℕ) → Stream cards from (jobs_from cards from)
 stream_from cards from = stream_within (length cards) cards from (omega arith)
 
--- and there is no other
+-- no other list of jobs satisfies the relation
 pub only_stream : (cards : List (List ℕ)) (from : ℕ) (xs ys : List (Result Job FaultyJob)) → Stream cards from xs → Stream cards from ys → xs ≡ ys
 only_stream cards _ _ _ (ends from h) (ends _ g) = refl
 only_stream cards _ _ _ (ends from h) (next _ jobs g more) = absurd (omega arith)
@@ -106,11 +106,11 @@ only_stream cards _ _ _ (next from jobs h more) (next _ others g rest) =
 pub one_stream : OneStream
 one_stream cards from = (stream_from cards from, λ jobs s. only_stream cards from jobs (jobs_from cards from) s (stream_from cards from))
 
--- where no job begins there are none
+-- if no further job begins, there are no jobs
 pub jobs_from-none : (cards : List (List ℕ)) (from : ℕ) → length cards ≤ next_job cards from → jobs_from cards from ≡ []
 jobs_from-none cards from past = only_stream cards from (jobs_from cards from) [] (stream_from cards from) (ends from past)
 
--- else there is the next one, and the jobs behind it
+-- if a further job begins, the jobs are that job and those after it
 pub jobs_from-next : (cards : List (List ℕ)) (from : ℕ) → next_job cards from < length cards
     → jobs_from cards from ≡ job_at cards (next_job cards from) ∷ jobs_from cards (place_after (job_at cards (next_job cards from)))
 jobs_from-next cards from less =

@@ -1,4 +1,4 @@
--- Lemmas on switches.
+-- Lemmas about switches.
 use Rattle.std.proofs.Common.{◌≡◌, ℕ, ◌+◌, ◌-◌, ◌<◌, List, [], ◌∷◌, ◌++◌, refl, sym, ◌∙◌, ap, arith, length, take, replicate, append_assoc, suc, get_or, set}
 use Rattle.std.specs.Prelude.{map}
 use Rattle.std.proofs.lemmas.List.{take_all, length-map, map-append, append-nil, take_more, set-append_right, length-take-le}

@@ -1,4 +1,4 @@
--- What the statements of a job say together.
+-- The contents of a job's statements.
 use Rattle.std.specs.Prelude.{ℕ, ◌==◌, List, [], ◌∷◌, Bool, false, Option, Some, None, unwrap_or, find}
 use Rattle.std.specs.List.{list_any, filter_map}
 use Rattle.std.specs.Option.{option_map, option_or}
@@ -20,7 +20,7 @@ use Rattle.s3_ocl.specs.declared.contents.FileSize.TheVariants.{Records, Tracks}
 use Rattle.s3_ocl.specs.declared.contents.FileStatement.{FileStatement}
 use Rattle.s3_ocl.specs.Statements.{Statement, is_verb}
 
--- each parameter's place among them
+-- the number of each parameter
 abbrev pub rank : Parameter → ℕ
 rank parameter.Program = 0
 rank parameter.Unit = 1
@@ -33,7 +33,7 @@ rank parameter.Retain = 7
 rank parameter.Date = 8
 rank parameter.Switches = 9
 
--- the parameter that stands at an entry, if one does
+-- the parameter of an entry, if it has one
 abbrev pub stands_at : Entry → Option Parameter
 stands_at Empty = None
 stands_at Unknown = None
@@ -46,7 +46,7 @@ abbrev pub is_parameter : Parameter → Option Parameter → Bool
 is_parameter parameter None = false
 is_parameter parameter (Some other) = rank other == rank parameter
 
--- whether a piece gives this parameter
+-- whether a piece is for this parameter
 abbrev pub gives : Parameter → Piece → Bool
 gives parameter piece = is_parameter parameter (stands_at piece.entry)
 
@@ -61,7 +61,7 @@ right_value (Missing parameter) = None
 right_value (Wrong parameter) = None
 right_value (Right parameter value) = Some value
 
--- the value of a parameter, as it is first given
+-- the first value given for a parameter
 abbrev pub value_in : Parameter → List Piece → Option Value
 value_in parameter pieces = option_and_then (λ piece. right_value piece.entry) (find (gives parameter) pieces)
 
@@ -85,7 +85,7 @@ abbrev pub set : Value → Option (List Switch)
 set (Set switches) = Some switches
 set value = None
 
--- the name that a parameter gives, and so on
+-- the name, date, count and so on that a parameter gives
 abbrev pub name_in : Parameter → List Piece → Option Name
 name_in parameter pieces = option_and_then named (value_in parameter pieces)
 
@@ -101,12 +101,12 @@ date_in pieces = option_and_then dated (value_in parameter.Date pieces)
 abbrev pub switches_in : List Piece → Option (List Switch)
 switches_in pieces = option_and_then set (value_in parameter.Switches pieces)
 
--- RECORDS gives the number of records, TRACKS that of tracks; with neither it is one track
+-- the number of records if RECORDS is given, else the number of tracks; one track without RECORDS and TRACKS
 abbrev pub size_of : Option ℕ → Option ℕ → FileSize
 size_of (Some records) tracks = Records records
 size_of None tracks = Tracks (unwrap_or tracks 1)
 
--- what a FILE statement says of a file of this name
+-- the file that a FILE statement describes under this name
 abbrev pub file_with : List Piece → Name → FileStatement
 file_with pieces name = record {
   name = name;
@@ -123,12 +123,12 @@ file_of pieces = option_map (file_with pieces) (name_in parameter.FileName piece
 abbrev pub files_of : List Statement → List FileStatement
 files_of statements = filter_map (λ statement. file_of statement.pieces) statements
 
--- what the first statement says that says it
+-- the value of the first statement that gives one
 unfoldable pub first_in : {X : Type 0} → (Statement → Option X) → List Statement → Option X
 first_in f [] = None
 first_in f (statement ∷ statements) = option_or (f statement) (first_in f statements)
 
--- the program that LOAD names, the date that DATE gives, and what SWITCH does with each switch
+-- the program that LOAD names, the date that DATE gives, and the settings of switches that SWITCH gives
 abbrev pub program_of : List Statement → Option Name
 program_of statements = first_in (λ statement. name_in parameter.Program statement.pieces) statements
 
@@ -138,6 +138,6 @@ date_of statements = first_in (λ statement. date_in statement.pieces) statement
 abbrev pub switches_of : List Statement → Option (List Switch)
 switches_of statements = first_in (λ statement. switches_in statement.pieces) statements
 
--- whether one of them is this statement
+-- whether one of the statements has this verb
 abbrev pub has : Verb → List Statement → Bool
 has verb statements = list_any (λ statement. is_verb verb statement.verb) statements

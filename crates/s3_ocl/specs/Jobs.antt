@@ -15,9 +15,9 @@ use Rattle.s3_ocl.specs.Statements.{Statement, statements}
 use Rattle.s3_ocl.specs.Contents.{date_of, files_of, has, program_of, switches_of}
 use Rattle.s3_ocl.specs.Faults.{faults_behind, first_fault}
 
--- a job without faults: the program that it names, its files, its date if it gives one, what it does with each switch,
--- the places of its data, from the first up to the last but without it, and the place behind the job; the RUN card is
--- the one before the data
+-- A job without errors: its program, its files, its date if it has one, and its switch settings.
+-- Its data are the cards from place `data_from` up to, but not including, `data_to`. `after` is the place after the job.
+-- The RUN card is just before the data.
 pub record Job : Type 0 where
   pub program : Name
   pub files : List FileStatement
@@ -27,21 +27,21 @@ pub record Job : Type 0 where
   pub data_to : ℕ
   pub after : ℕ
 
--- a job for the compiler: its data are a source
+-- a job for the compiler; its data are a source
 abbrev pub is_compile : Job → Bool
 is_compile job = same_name job.program (record { codes = COMPILER })
 
--- how many cards statements have
+-- the number of cards of these statements
 abbrev pub cards_of : List Statement → ℕ
 cards_of heading = sum_by (λ statement. statement.cards) heading
 
--- whether a test holds of the card at a place, and not behind the last card
+-- whether a test holds for the card at a place; false after the last card
 abbrev pub holds_at : (List ℕ → Bool) → Option (List ℕ) → Bool
 holds_at test None = false
 holds_at test (Some card) = test card
 
--- what is wrong with a job whose statements end at a place without RUN: at the deck's end the last card has the fault,
--- else the card that is no statement
+-- The error of a job whose statements end at a place without RUN. At the end of the deck it is on the last card, else on the card that
+-- isn't a statement.
 abbrev pub stop_fault : List (List ℕ) → ℕ → Option (List ℕ) → Mark
 stop_fault cards end None = record { card = length cards; fault = NoRun }
 stop_fault cards end (Some card) = record { card = end + 1; fault = if is_separator card then NoRun else NotOcl }
@@ -49,12 +49,11 @@ stop_fault cards end (Some card) = record { card = end + 1; fault = if is_separa
 abbrev pub stop_faults : List (List ℕ) → List Statement → ℕ → List Mark
 stop_faults cards heading end = if has Run heading then [] else stop_fault cards end (slice_get cards end) ∷ []
 
--- the place behind a faulty job: behind the first `/&` from the card at fault on, or the deck's end
+-- the place after a job in error: after the first `/&` from the card in error on, or the end of the deck
 abbrev pub faulty_end : List (List ℕ) → ℕ → ℕ
 faulty_end cards number = min (next_place is_job_end cards (number - 1) + 1) (length cards)
 
--- the place behind a job whose data end at a place: behind its `/&`, or before a statement that follows its `/*`, or the
--- deck's end
+-- The place after a job whose data end at a place: after its `/&`, before the statement that follows its `/*`, or the end of the deck.
 abbrev pub job_end : List (List ℕ) → ℕ → ℕ
 job_end cards place =
     let close : ℕ = next_place closes_job cards place in
@@ -72,7 +71,7 @@ job_with cards heading end = record {
   after = job_end cards (next_place is_separator cards end);
 }
 
--- a job is faulty where its statements have a fault, and then has the first of them
+-- a job is in error if its statements have an error; the first error is reported
 abbrev pub job_or_fault : List (List ℕ) → List Statement → ℕ → Option Mark → Result Job FaultyJob
 job_or_fault cards heading end None = Ok (job_with cards heading end)
 job_or_fault cards heading end (Some mark) = Err (record { fault = mark.fault; card = mark.card; after = faulty_end cards mark.card })
@@ -88,11 +87,11 @@ job_at cards place =
     let end : ℕ = place + cards_of heading in
     job_or_fault cards heading end (first_fault (faults_behind [] heading ++ stop_faults cards heading end))
 
--- the place behind a job
+-- the place after a job
 abbrev pub place_after : Result Job FaultyJob → ℕ
 place_after (Ok job) = job.after
 place_after (Err faulty) = faulty.after
 
--- the place of the next job from a place on, or that behind the last card
+-- the place of the next job, from a place on; the number of cards if there is none
 abbrev pub next_job : List (List ℕ) → ℕ → ℕ
 next_job cards from = next_place begins_job cards from

@@ -1,4 +1,4 @@
--- What a parameter of a statement says.
+-- The parameters of a statement.
 use Rattle.std.specs.Prelude.{ℕ, ◌+◌, ◌-◌, ◌==◌, List, [], Bool, Option, Some, None, length, take, drop, slice_index, if◌then◌else◌}
 use Rattle.std.specs.List.{position_or_len, slice_split}
 use Rattle.s3_ocl.specs.declared.parameters.Verb.{Verb}
@@ -13,7 +13,7 @@ use Rattle.s3_ocl.specs.Values as value
 use Rattle.s3_ocl.specs.Words.{reads}
 use Rattle.s3_ocl.specs.declared.words.TheConstants.{LOAD, FILE, DATE, SWITCH, RUN, NAME, UNIT, PACK, LABEL, RECORDS, TRACKS, RETAIN}
 
--- the statement that a keyword names
+-- the statement of a keyword
 abbrev pub verb_of : List ℕ → Option Verb
 verb_of keyword =
     if reads keyword LOAD then Some verb.Load
@@ -23,7 +23,7 @@ verb_of keyword =
     else if reads keyword RUN then Some verb.Run
     else None
 
--- the parameter of a FILE statement that a word names
+-- the parameter of a FILE statement with this keyword
 abbrev pub parameter_of : List ℕ → Option Parameter
 parameter_of key =
     if reads key NAME then Some parameter.FileName
@@ -35,7 +35,7 @@ parameter_of key =
     else if reads key RETAIN then Some parameter.Retain
     else None
 
--- the value that a text gives a parameter, if it can have it
+-- the value of a parameter as text; none if the parameter can't have it
 abbrev pub value_of : Parameter → List ℕ → Option Value
 value_of parameter.Program text = value.name_value 6 text
 value_of parameter.Unit text = value.unit_value text
@@ -60,13 +60,13 @@ abbrev pub given_key : Option Parameter → List ℕ → Entry
 given_key None text = Unknown
 given_key (Some parameter) text = given parameter text
 
--- a parameter of a FILE statement: its word, a hyphen and its value
+-- a parameter of a FILE statement: its keyword, a hyphen and its value
 abbrev pub keyed : List ℕ → Entry
 keyed text =
     let end : ℕ = position_or_len is_hyphen text in
     if end == length text then Unknown else given_key (parameter_of (take end text)) (drop (end + 1) text)
 
--- what stands at a place of a statement's parameters, from 0
+-- the parameter at a place of a statement, counted from 0
 abbrev pub entry_at : Verb → ℕ → List ℕ → Entry
 entry_at verb.Load place text =
     if place == 0 then given parameter.Program text else if place == 1 then given parameter.Unit text else Surplus
@@ -75,15 +75,15 @@ entry_at verb.Date place text = if place == 0 then given parameter.Date text els
 entry_at verb.Switch place text = if place == 0 then given parameter.Switches text else Surplus
 entry_at verb.Run place text = Surplus
 
--- nothing between two commas is a missing value
+-- an empty text between two commas is a missing value
 abbrev pub entry_of : Verb → ℕ → List ℕ → Entry
 entry_of verb place text = if length text == 0 then Empty else entry_at verb place text
 
--- a text that ends with a comma goes on at the next card
+-- a text that ends with a comma continues on the next card
 abbrev pub goes_on : List ℕ → Bool
 goes_on text = is_comma (slice_index text (length text - 1))
 
--- a text without the comma at its end, if it has one
+-- a text without its final comma, if it has one
 abbrev pub without_comma : List ℕ → List ℕ
 without_comma text = if goes_on text then take (length text - 1) text else text
 

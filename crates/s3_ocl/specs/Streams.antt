@@ -3,7 +3,7 @@ use Rattle.std.specs.Prelude.{ℕ, zero, suc, List, [], ◌∷◌, Result, lengt
 use Rattle.s3_ocl.specs.declared.faults.FaultyJob.{FaultyJob}
 use Rattle.s3_ocl.specs.Jobs.{Job, job_at, next_job, place_after}
 
--- at most so many jobs as turns, from a place on
+-- the jobs from a place on, at most `turns` of them
 unfoldable pub jobs_within : ℕ → List (List ℕ) → ℕ → List (Result Job FaultyJob)
 jobs_within zero cards from = []
 jobs_within (suc turns) cards from =

@@ -1,4 +1,4 @@
--- The words of the statements.
+-- The keywords of statements.
 use Rattle.std.specs.Prelude.{ℕ, List, Bool, nat_eq}
 use Rattle.std.specs.Cmp.Lexicographic.{pointwise}
 

@@ -1,4 +1,4 @@
--- The values at the start of another job of the same program: the constants stay, and the texts of fields lie before theirs.
+-- The values at the start of another job of the same program. The constants stay; the texts of fields come before them.
 use Rattle.std.proofs.Common.{◌≡◌, ℕ, ◌+◌, ◌-◌, ◌<◌, ◌≤◌, List, [], ◌∷◌, ◌++◌, map, take, drop, length, refl, sym, ◌∙◌, ap, subst, arith, get_or, Vec}
 use Rattle.std.specs.Prelude.{ℤ, pos, Some, None, sum, replicate, slice_get, slice_range, unwrap_or}
 use Rattle.std.proofs.lemmas.List.{take-append-drop, take-append-le, drop-append-le, drop_all, drop-drop, drop-map, take-map, take_all, length-append, length-drop, length-take-le, length-map, length-replicate, replicate-append-replicate}
@@ -30,7 +30,7 @@ sum_cons n ns = sum_by-cons (λ x. x) n ns
 some_same : {X : Type 0} (x y : X) → Some x ≡ Some y → x ≡ y
 some_same x y h = ap (λ o. unwrap_or o x) h
 
--- ---- spans one behind the other
+-- ---- spans one after another
 spans_behind : (at : ℕ) (ns ms : List ℕ) → drop (length ns) (spans_from at (ns ++ ms)) ≡ spans_from (at + sum ns) ms
 spans_behind at [] ms = ap (λ n. spans_from n ms) (omega arith)
 spans_behind at (n ∷ ns) ms = spans_behind (at + n) ns ms ∙ ap (λ k. spans_from k ms) (omega (arith, sum_cons n ns))
@@ -49,7 +49,7 @@ sum_before : (ns ms : List ℕ) → sum ns ≤ sum (ns ++ ms)
 sum_before [] ms = omega arith
 sum_before (n ∷ ns) ms = omega (arith, sum_cons n ns, sum_cons n (ns ++ ms), sum_before ns ms)
 
--- ---- the texts on an area whose first bytes are blank
+-- ---- the texts in an area whose first bytes are blank
 blank_range : (x : ℕ) (rest : List ℕ) (end from to : ℕ) → from ≤ to → to ≤ end → slice_range (replicate end x ++ rest) from to ≡ replicate (to - from) x
 blank_range x rest end from to some below =
     let whole : replicate end x ≡ replicate from x ++ (replicate (to - from) x ++ replicate (end - to) x) =
@@ -81,7 +81,7 @@ kept_on : (front bytes : List ℕ) (end at : ℕ) (ms : List ℕ) → length fro
 kept_on front bytes end at [] size past = refl
 kept_on front bytes end at (m ∷ ms) size past = λ i. kept_range front bytes end at (at + m) size past i ∷ kept_on front bytes end (at + m) ms size (omega (arith, past)) i
 
--- ---- the texts of a program that begins again
+-- ---- the texts of a program that restarts
 texts_split : {X Y : Type 0} (f : X → Y) (n : ℕ) (xs : List X) → map f xs ≡ map f (take n xs) ++ map f (drop n xs)
 texts_split f n xs = sym (take-append-drop n (map f xs)) ∙ (λ i. take-map f n xs i ++ drop-map f n xs i)
 
@@ -138,7 +138,7 @@ again_texts p old new end has is literals made =
     (ap (λ ss. texts_on ss bytes) (spans_before 0 ns ms) ∙ (blank_on (drop end old.bytes) end 0 ns (omega (arith, is)) ∙ blank_fields p)) i
     ++ (ap (λ ss. texts_on ss bytes) behind ∙ (kept_on front old.bytes end (0 + sum ns) ms (length-replicate end BLANK) (omega (arith, is)) ∙ constant_texts)) i)))
 
--- ---- the values of a program that begins again
+-- ---- the values of a program that restarts
 some_constants : (p : Program) → 0 < length (constants p)
 some_constants p = omega arith
 
@@ -183,7 +183,7 @@ first_again p switches old s sound numbers forms texts area on division =
       division = division;
     }
 
--- the same, after the first numbers and texts were cleared
+-- the program restarts after the first numbers and texts are cleared
 pub cleared_first : (p : Program) (switches : ℕ) (old zeroed blanked s : Values) (count : ℕ) → IsSound p old → count ≡ length p.fields.items
     → zeroed.numbers.items ≡ replicate count (pos 0) ++ drop count old.numbers.items → zeroed.forms.items ≡ old.forms.items → zeroed.texts ≡ old.texts
     → blanked ≡ record zeroed { texts = blanked.texts }

@@ -74,7 +74,7 @@ zeros_all fields k zeros of past before =
     let all : take k fields ≡ fields = take_all k fields past in
     record { numbers = before.numbers ∙ ap (λ (fs : List (Defined Shape)). replicate (length fs) (pos 0)) all; forms = before.forms ∙ ap (map (λ (f : Defined Shape). form_in_shape f.meaning)) all }
 
--- a zero in each field, and one behind them
+-- the numbers of all fields, and the number after them, are zero
 zero_at : (n k : ℕ) (rest : List ℤ) → k ≤ n → number_at (replicate n (pos 0) ++ pos 0 ∷ rest) k ≡ pos 0
 zero_at zero zero rest within = refl
 zero_at zero (suc k) rest within = absurd (omega (arith, within))
@@ -120,7 +120,7 @@ fields_in_range p = all p.fields.items (kept (parts_of p) p.valid).shaped
         let parts = and_parts (is_shaped (source_named p) (entry_of f)) (list_all (is_shaped (source_named p)) (map entry_of fs)) h in
         rw ((and_parts (shape_in_range f.meaning) _ parts.0).0, all fs parts.1) refl
 
--- ---- the fields that the language has itself
+-- ---- the reserved fields
 key_at : (keys names : List Name) (n k : ℕ) (name : Name) → pointwise same_name (take n keys) names ≡ true → slice_get names k ≡ Some name → slice_get keys k ≡ Some name
 key_at keys [] n k name same there = cc
 key_at [] (m ∷ ms) zero k name same there = absurd (true≢false (sym same))
@@ -178,7 +178,7 @@ slot_most table name =
     let within : place table name ≤ length (keys_of table) = prefix_len-le-length _ (keys_of table) in
     omega (arith, within, slot_is table name, length-map table (λ (e : Name × Shape). e.0))
 
--- one that isn't there has the slot behind the last
+-- a missing name has the slot after the last
 missing : (table : List (Name × Shape)) (name : Name) → found_in table name ≡ None → slot_in table name ≡ length table
 missing table name none = elim (cases_lt (slot_in table name) (length table)) [
   | inl below ↦
@@ -189,7 +189,7 @@ missing table name none = elim (cases_lt (slot_in table name) (length table)) [
 ]
 
 -- ---- the whole
--- the values before the date is put
+-- the values before the date is set
 pub record AreFirst (p : Program) (switches : ℕ) (s : Values) (zeros : List ℤ) (of : List Form) : Type 0 where
   pub zero : IsZeros p.fields.items zeros of
   pub numbers : s.numbers.items ≡ zeros ++ map (λ (constant : Constant). constant.number) (constants p)
@@ -275,7 +275,7 @@ length_by : (source : Source) (name : Name) (shape : Shape) → shape_of source 
 length_by source name (Alphanumeric size) h = rw h refl
 length_by source name (Numeric digits decimals) h = rw h refl
 
--- a name without a slot has no length
+-- a name without a slot has no text
 blank_sizes : (p : Program) → length (blank_texts p.fields.items) ≡ length (tables p).fields
 blank_sizes p = length-map p.fields.items (λ (f : Defined Shape). replicate (length_of f.meaning) BLANK) ∙ sym (length-map p.fields.items entry_of)
 
@@ -297,7 +297,7 @@ blank_found p name rest (Some shape) found =
 blank_held : (p : Program) (name : Name) (rest : List (List ℕ)) → text_at (blank_texts p.fields.items ++ [] ∷ rest) (slot_in (tables p).fields name) ≡ replicate (length_in_source (source_named p) name) BLANK
 blank_held p name rest = blank_found p name rest (found_in (tables p).fields name) refl
 
--- values of a job that has begun, by name
+-- the values of a started job, by name
 pub begun : (p : Program) (switches : ℕ) (date : List ℕ) (s new : Values) (zeros : List ℤ) (of : List Form) → AreFirst p switches s zeros of → Changes p s new (λ source. with_date date) → Begins p switches date new
 unfolding held
 begun p switches date s new zeros of first change = record {

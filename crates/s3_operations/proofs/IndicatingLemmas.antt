@@ -1,4 +1,4 @@
--- Indicators that the cycle turns by itself.
+-- Indicators that the cycle itself turns on or off.
 use Rattle.std.proofs.Common.{◌≡◌, ℕ, ◌+◌, List, [], ◌∷◌, Bool, true, false, not, ◌&&◌, ◌||◌, refl, ◌∙◌, ap, arith}
 use Rattle.std.specs.Prelude.{map, if◌then◌else◌}
 use Rattle.std.specs.List.{list_all}
@@ -30,7 +30,7 @@ use Rattle.s3_operations.specs.Inner.Indicators.{on_in, is_settable, is_settable
 use Rattle.s3_operations.specs.Inner.Indicating.{type_indicator}
 use Rattle.s3_operations.proofs.ValueLemmas.{sound_carried}
 
--- indicators alone change
+-- only indicators change
 pub turned_by : (f : (Indicator → Bool) → Indicator → Bool) (p : Program) (old new : Values) → IsSound p old → new.numbers.items ≡ old.numbers.items → new.forms.items ≡ old.forms.items → new.texts ≡ old.texts → new.division ≡ old.division
     → ((other : Indicator) → on_in new.indicators other ≡ f (on_in old.indicators) other) → Changes p old new (λ source e. record e { on = f e.on })
 unfolding held
@@ -44,7 +44,7 @@ turned_by f p old new sound numbers forms texts division turned = record {
   };
 }
 
--- what values hold of an indicator
+-- the state of an indicator in the environment
 pub held_on : (p : Program) (s : Values) (rest : Environment) (indicator : Indicator) → (held p s rest).on indicator ≡ on_in s.indicators indicator
 unfolding held
 held_on p s rest indicator = refl

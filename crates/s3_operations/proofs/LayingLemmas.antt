@@ -1,4 +1,4 @@
--- Bytes laid over others of the same text by their two ends.
+-- Copying bytes within a text by their two ends.
 use Rattle.std.proofs.Common.{◌≡◌, ℕ, ◌+◌, ◌-◌, ◌≤◌, List, ◌++◌, length, take, drop, ap, subst, sym, ◌∙◌, arith}
 use Rattle.std.specs.Prelude.{slice_range}
 use Rattle.std.specs.List.{copy_within}
@@ -28,7 +28,7 @@ ends_within bytes part first last n from end to some within room few is_first is
     let long : to + k - to ≡ k = omega arith in
     ap (λ m. put_mid to m bytes part) long ∙ (λ i. take to bytes ++ (is i ++ drop-drop k to bytes i)) ∙ sym (append_assoc (take to bytes) text (drop (to + k) bytes))
 
--- where the target ends there
+-- copying by two ends, with the end of the target given
 pub ends_till : (bytes part first last : List ℕ) (n from end to till : ℕ) → till ≡ to + (end - from) → from ≤ end → end ≤ length bytes → till ≤ length bytes → n ≤ end - from
     → first ≡ take n (drop from bytes) → last ≡ take n (drop (end - n) bytes)
     → ((text : List ℕ) → length text ≡ length (slice_range bytes to till) → first ≡ take n text → last ≡ drop (length text - n) text → part ≡ text)

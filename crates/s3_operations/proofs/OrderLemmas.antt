@@ -13,7 +13,7 @@ blanks_at zero i = refl
 blanks_at (suc n) zero = refl
 blanks_at (suc n) (suc i) = blanks_at n i
 
--- with blanks behind it a text has the same codes
+-- a text padded with blanks has the same codes
 code_in : (text : List ℕ) (n i : ℕ) → get_or (text ++ replicate n 0x40) i 0x40 ≡ get_or text i 0x40
 code_in [] n i = blanks_at n i
 code_in (c ∷ cs) n zero = refl
@@ -33,7 +33,7 @@ one_padded a b i within =
     one_code (padded (length b) a) (padded (length a) b) i (omega (arith, padded_length a (length b), within)) (omega (arith, padded_length b (length a), within))
     ∙ (λ j. ordering_then (nat_cmp (code_in a (length b - length a) i j) (code_in b (length a - length b) i j)) (slice_cmp nat_cmp (drop (i + 1) (padded (length b) a)) (drop (i + 1) (padded (length a) b))))
 
--- two texts that are equal as far as a place
+-- two texts with equal codes up to a place, that place included
 pub order_more : (a b : List ℕ) (i : ℕ) (order whole : Ordering) → i < max (length a) (length b) → order ≡ nat_cmp (get_or a i 0x40) (get_or b i 0x40) → is_ne order ≡ false
     → slice_cmp nat_cmp (drop i (padded (length b) a)) (drop i (padded (length a) b)) ≡ whole
     → slice_cmp nat_cmp (drop (i + 1) (padded (length b) a)) (drop (i + 1) (padded (length a) b)) ≡ whole
@@ -45,7 +45,7 @@ order_more a b i order whole within is same before =
     equal Equal same = refl
     equal Greater same = absurd (true≢false same)
 
--- and differ there
+-- two texts that differ at a place
 pub order_found : (a b : List ℕ) (i : ℕ) (order whole : Ordering) → i < max (length a) (length b) → order ≡ nat_cmp (get_or a i 0x40) (get_or b i 0x40) → is_ne order ≡ true
     → slice_cmp nat_cmp (drop i (padded (length b) a)) (drop i (padded (length a) b)) ≡ whole → order ≡ whole
 order_found a b i order whole within is differs before =

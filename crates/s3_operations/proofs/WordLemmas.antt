@@ -1,4 +1,4 @@
--- Texts are ordered as the numbers that their codes make, and as their two ends are.
+-- Texts are ordered like the numbers of their codes, and like their two ends.
 use Rattle.std.proofs.Common.{◌≡◌, ℕ, zero, suc, ◌+◌, ◌-◌, ◌*◌, ◌^◌, ◌<◌, ◌≤◌, List, [], ◌∷◌, ◌++◌, length, take, drop, get_or, replicate, true, false, refl, sym, ◌∙◌, ap, arith, subst, mul_comm, zero-mul, pow-suc, min, ◌⊎◌, inl, inr, ⊎_elim, true≢false, take-append-drop, append-nil}
 use Rattle.std.specs.declared.cmp.Ordering.{Ordering}
 use Rattle.std.specs.declared.cmp.Ordering.TheVariants.{Less, Equal, Greater}
@@ -41,7 +41,7 @@ number_order (x ∷ xs) (y ∷ ys) same small_a small_b =
     ∙ two_digits x y (256 ^ length xs) (number_of xs) (number_of ys) (number_below xs (λ i. small_a (suc i))) (subst (λ k. number_of ys < 256 ^ k) (sym long) (number_below ys (λ i. small_b (suc i))))
     ∙ ap (ordering_then (nat_cmp x y)) (number_order xs ys long (λ i. small_a (suc i)) (λ i. small_b (suc i)))
 
--- zeros before it don't change a number
+-- leading zeros don't change a number
 zeros_before : (n : ℕ) (codes : List ℕ) → number_of (replicate n 0 ++ codes) ≡ number_of codes
 zeros_before zero codes = refl
 zeros_before (suc n) codes = omega (arith, zero-mul (256 ^ length (replicate {A = ℕ} n 0 ++ codes))) ∙ zeros_before n codes
@@ -64,7 +64,7 @@ widened_number n codes bs few long is =
     ∙ eight (replicate (8 - n) 0 ++ codes) (length-append (replicate (8 - n) 0) codes ∙ omega (arith, few, long, length-replicate {A = ℕ} (8 - n) 0))
     ∙ zeros_before (8 - n) codes
 
--- of two texts, their first n codes, and then all but the first k
+-- texts are ordered by their first n codes, then by the codes after the first k
 pub by_ends : (k n : ℕ) (a b : List ℕ) → k ≤ n → ordering_then (slice_cmp nat_cmp (take n a) (take n b)) (slice_cmp nat_cmp (drop k a) (drop k b)) ≡ slice_cmp nat_cmp a b
 by_ends zero n a b reach = whole n a b
   where
@@ -106,12 +106,12 @@ equal Less same = absurd (true≢false same)
 equal Equal same = refl
 equal Greater same = absurd (true≢false same)
 
--- two texts whose first codes differ
+-- the order of two texts whose first codes differ
 pub ends_found : (n : ℕ) (a b : List ℕ) (order : Ordering) → order ≡ slice_cmp nat_cmp (take n a) (take n b) → is_ne order ≡ true → order ≡ slice_cmp nat_cmp a b
 ends_found n a b order is differs =
     decided order (slice_cmp nat_cmp a b) differs ∙ ap (λ o. ordering_then o (slice_cmp nat_cmp a b)) is ∙ by_ends 0 n a b (omega arith)
 
--- and two whose first codes are the same
+-- the order of two texts whose first codes are equal
 pub ends_rest : (k n : ℕ) (a b : List ℕ) (order : Ordering) → k ≤ n → order ≡ slice_cmp nat_cmp (take n a) (take n b) → is_ne order ≡ false → slice_cmp nat_cmp (drop k a) (drop k b) ≡ slice_cmp nat_cmp a b
 ends_rest k n a b order reach is same =
     ap (λ o. ordering_then o (slice_cmp nat_cmp (drop k a) (drop k b))) (sym (equal order same) ∙ is) ∙ by_ends k n a b reach
@@ -148,7 +148,7 @@ pub first_codes : (n p q : ℕ) (a b : List ℕ) (order : Ordering) → n ≤ le
 first_codes n p q a b order in_a in_b small_a small_b p_is q_is is =
     is ∙ (λ i. nat_cmp (p_is i) (q_is i)) ∙ number_order (take n a) (take n b) (length-take-le n a in_a ∙ sym (length-take-le n b in_b)) (small_take n a small_a) (small_take n b small_b)
 
--- the codes of two texts, and then what is behind them
+-- the order of two texts split at the same place
 appended : (u v w z : List ℕ) → length u ≡ length v → slice_cmp nat_cmp (u ++ w) (v ++ z) ≡ ordering_then (slice_cmp nat_cmp u v) (slice_cmp nat_cmp w z)
 appended [] [] w z same = refl
 appended [] (y ∷ ys) w z same = absurd (omega (arith, same))
@@ -160,14 +160,14 @@ appended (x ∷ xs) (y ∷ ys) w z same = ap (ordering_then (nat_cmp x y)) (appe
     chained Equal p q = refl
     chained Greater p q = refl
 
--- a text that is at least as long as the other one is padded with nothing
+-- padding doesn't change a text that is at least as long
 unpadded : (a : List ℕ) (n : ℕ) → n ≤ length a → padded n a ≡ a
 unpadded a n within = ap (λ k. a ++ replicate k 0x40) none ∙ append-nil a
   where
     none : n - length a ≡ 0
     none = omega (arith, within)
 
--- so texts as long as each other are compared as they are
+-- texts of the same length are compared without padding
 pub as_they_are : (a b : List ℕ) (order : Ordering) → length a ≡ length b → order ≡ slice_cmp nat_cmp a b → order ≡ text_order a b
 as_they_are a b order same is = is ∙ (λ i. slice_cmp nat_cmp (sym (unpadded a (length b) (omega (arith, same))) i) (sym (unpadded b (length a) (omega (arith, same))) i))
 
@@ -219,7 +219,7 @@ right_ends a b n order rest is more order_is same rest_is =
     ap ordering_reverse (rest_is ∙ ap (λ text. slice_cmp nat_cmp (replicate (length text) 0x40) text) (behind n a)) ∙ sym (IsTotalOrder.antisymm nat_list_cmp_total (drop n a) (replicate (length (drop n a)) 0x40))
     ∙ ap (λ o. ordering_then o (slice_cmp nat_cmp (drop n a) (replicate (length (drop n a)) 0x40))) (sym (equal order same) ∙ order_is) ∙ sym (right_shorter a b n is (omega (arith, is, more)))
 
--- blanks and the rest of a text
+-- blanks compared with a long text, by its first codes
 pub blanks_found : (text : List ℕ) (order : Ordering) → 16 < length text → order ≡ slice_cmp nat_cmp (take 8 (replicate 16 0x40)) (take 8 text) → is_ne order ≡ true → order ≡ slice_cmp nat_cmp (replicate (length text) 0x40) text
 blanks_found text order long is differs = ends_found 8 (replicate (length text) 0x40) text order (is ∙ ap (λ l. slice_cmp nat_cmp l (take 8 text)) (sym (take-replicate 8 (length text) 0x40 (omega (arith, long))))) differs
 

@@ -1,4 +1,4 @@
--- Forms that have a style of an amount.
+-- Output forms with the style of an amount.
 use Rattle.std.proofs.Common.{◌≡◌, ℕ, ◌≤◌, refl, arith, sym, ap, Bool, true, false, if◌then◌else◌, Option, Some, None}
 use Rattle.std.specs.Prelude.{is_some, nat_le, unwrap_or}
 use Rattle.std.proofs.lemmas.Bool.{true≢false}
@@ -16,7 +16,7 @@ some_known (Some w) n some is = ap (λ k. Some k) (sym is)
 few_decimals : (decimals : ℕ) → nat_le decimals 6 ≡ true → decimals ≤ 6
 few_decimals decimals t = grind (arith, nat_tests, t)
 
--- a form that has a style of an amount
+-- a form with the style of an amount
 pub amount_known : (form : OutputForm) (decimals : ℕ) (style : Amount) → Some style ≡ amount_of form decimals → (form ≡ put.Edited (Edited style)) × (decimals ≤ 6)
 amount_known put.Plain decimals style h = absurd (true≢false (ap (λ o. is_some o) h))
 amount_known put.Packed decimals style h = absurd (true≢false (ap (λ o. is_some o) h))

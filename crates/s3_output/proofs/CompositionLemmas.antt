@@ -1,4 +1,4 @@
--- The positions of a record, where a content is laid over it.
+-- The positions of a record after a content is written into it.
 use Rattle.std.proofs.Common.{◌≡◌, ℕ, ◌+◌, ◌-◌, ◌<◌, ◌≤◌, List, [], ◌∷◌, ◌++◌, Bool, true, false, zero, suc, length, take, drop, map, refl, sym, ◌∙◌, ap, subst, arith}
 use Rattle.std.specs.Prelude.{Option, Some, None, is_some, unwrap_or, replicate, slice_get}
 use Rattle.std.proofs.lemmas.List.{map-append, length-map, length-append, length-drop, length-take-le, take-take, take-map, drop-map, drop-take, length-replicate}
@@ -42,7 +42,7 @@ length_on [] (code ∷ codes) same = absurd (omega (arith, same))
 length_on (put ∷ puts) [] same = absurd (omega (arith, same))
 length_on (put ∷ puts) (code ∷ codes) same = ap (λ n. suc n) (length_on puts codes (omega (arith, same)))
 
--- ---- a content laid over the record
+-- ---- a content written into the record
 take_past : {X : Type 0} (xs ys : List X) (n : ℕ) → take (length xs + n) (xs ++ ys) ≡ xs ++ take n ys
 take_past [] ys n = let e : 0 + n ≡ n = omega arith in ap (λ k. take k ys) e
 take_past (x ∷ xs) ys n = let e : suc (length xs) + n ≡ suc (length xs + n) = omega arith in ap (λ k. take k (x ∷ xs ++ ys)) e ∙ ap (λ zs. x ∷ zs) (take_past xs ys n)
@@ -119,7 +119,7 @@ filled_laid end content codes positions are =
     ∙ (λ i. (filled_split (take left positions) B ∙ (λ j. (sym (take-map or_blank left positions) ∙ ap (take left) are) j ++ filled_some content j)) i
     ++ (sym (drop-map or_blank end positions) ∙ ap (drop end) are) i)
 
--- ---- codes that are told of no positions
+-- ---- codes when the written positions aren't known
 some_take : (n : ℕ) (codes : List ℕ) → take n (map (λ code. Some code) codes) ≡ map (λ code. Some code) (take n codes)
 some_take n codes = take-map (λ code. Some code) n codes
 
@@ -153,7 +153,7 @@ lay_view n told puts puts' codes codes' content end count counts same begins end
     ap (take n) (laid_in told puts puts' codes codes' content end count counts same begins (omega (arith, ends, within)) codes_are puts_are)
     ∙ take_laid n end content (positions_in told puts codes) (subst (λ k. k ≤ end) counts begins) ends (subst (λ k. n ≤ k) (sym (length_in told puts codes same)) within)
 
--- the codes of a content that is laid over them
+-- a content written into the first n codes
 laid_take : (n end : ℕ) (content codes : List ℕ) → length content ≤ end → end ≤ n → n ≤ length codes
     → take n (take (end - length content) codes ++ content ++ drop end codes) ≡ take (end - length content) (take n codes) ++ content ++ drop end (take n codes)
 laid_take n end content codes begins ends within =
@@ -175,7 +175,7 @@ lay_filled n told puts puts' codes codes' content end count counts same begins e
 pub view_length : (n : ℕ) (told : Bool) (puts : List Bool) (codes : List ℕ) → length puts ≡ length codes → n ≤ length codes → length (take n (positions_in told puts codes)) ≡ n
 view_length n told puts codes same within = length-take-le n (positions_in told puts codes) (subst (λ k. n ≤ k) (sym (length_in told puts codes same)) within)
 
--- ---- a record begins
+-- ---- the start of a record
 pub clear_view : (n : ℕ) (told : Bool) (puts : List Bool) (codes : List ℕ) → take n codes ≡ replicate n BLANK → (told ≡ true → take n puts ≡ replicate n false) → take n (positions_in told puts codes) ≡ replicate n (first_position told)
 clear_view n true puts codes blanks unput = sym (take_on n puts codes) ∙ ((λ i. positions_on (unput refl i) (blanks i)) ∙ blank_on n)
 clear_view n false puts codes blanks unput = some_take n codes ∙ (ap (map (λ code. Some code)) blanks ∙ some_blank n)
@@ -188,7 +188,7 @@ filled_first (suc n) false = ap (λ ds. BLANK ∷ ds) (filled_first n false)
 pub clear_filled : (n : ℕ) (told : Bool) (puts : List Bool) (codes : List ℕ) → take n codes ≡ replicate n BLANK → (told ≡ true → take n puts ≡ replicate n false) → filled (take n (positions_in told puts codes)) ≡ take n codes
 clear_filled n told puts codes blanks unput = ap filled (clear_view n told puts codes blanks unput) ∙ (filled_first n told ∙ sym blanks)
 
--- an end position within a record of the array
+-- the end position lies within the record and the array
 pub record EndsWithin (n end : ℕ) (puts : List Bool) (codes : List ℕ) : Type 0 where
   pub same : length puts ≡ length codes
   pub within : end ≤ n
@@ -203,7 +203,7 @@ ends_within n end told puts codes now code_size put_size few view ends =
     let inside : end ≤ n = subst (λ k. end ≤ k) (ap length (sym view) ∙ view_length n told puts codes same whole) ends in
     record { same = same; within = inside; whole = whole; inside = omega (arith, inside, whole) }
 
--- a content is laid over the record in its place
+-- a content is written at its place in the record
 pub record IsLaid (n end : ℕ) (told : Bool) (puts : List Bool) (codes content : List ℕ) (now : List (Option ℕ)) : Type 0 where
   pub composed : IsComposed n told puts codes
   pub view : take n (positions_in told puts codes) ≡ laid end content now
@@ -231,7 +231,7 @@ is_laid n end count told puts puts_now puts' codes codes_now codes' content now 
       size = ap length is ∙ length_laid end content now (subst (λ k. k ≤ end) counts begins) ends;
     }
 
--- ---- marks
+-- ---- marks of written positions
 is_put : (puts : List Bool) (codes : List ℕ) → length puts ≡ length codes → map is_some (positions_on puts codes) ≡ puts
 is_put [] codes same = refl
 is_put (put ∷ puts) [] same = absurd (omega (arith, same))
@@ -242,7 +242,7 @@ all_put : (codes : List ℕ) → map is_some (map (λ code. Some code) codes) �
 all_put [] = refl
 all_put (code ∷ codes) = ap (λ marks. true ∷ marks) (all_put codes)
 
--- where it is told what is put
+-- the marks when the written positions are known
 pub marks_told : (n : ℕ) (told : Bool) (puts : List Bool) (codes : List ℕ) (now : List (Option ℕ)) → length codes ≡ 1024 → length puts ≡ 1024 → take n (positions_in told puts codes) ≡ now
     → told ≡ true → take n puts ≡ map is_some now
 marks_told n told puts codes now code_size put_size view is =
@@ -250,7 +250,7 @@ marks_told n told puts codes now code_size put_size view is =
     ∙ (take-map is_some n (positions_on puts codes)
     ∙ ap (map is_some) (ap (λ b. take n (positions_in b puts codes)) (sym is) ∙ view))
 
--- and where it isn't
+-- the marks when the written positions aren't known
 pub marks_untold : (n : ℕ) (told : Bool) (puts : List Bool) (codes : List ℕ) (now : List (Option ℕ)) → length codes ≡ 1024 → take n (positions_in told puts codes) ≡ now
     → told ≡ false → take n (replicate 1024 true) ≡ map is_some now
 marks_untold n told puts codes now code_size view is =

@@ -1,4 +1,4 @@
--- Lines that are composed over records which are filled alike.
+-- Composing a line over two records that are equal once unwritten positions are filled with blanks.
 use Rattle.std.proofs.Common.{◌≡◌, ℕ, ◌++◌, ◌-◌, Bool, true, false, List, [], ◌∷◌, length, take, drop, refl, sym, ◌∙◌, ap}
 use Rattle.std.specs.Prelude.{Option, None, replicate, if◌then◌else◌}
 use Rattle.s3_cards.specs.declared.name.Name.{Name}
@@ -42,6 +42,6 @@ pub composed_alike : (source : Source) (fields : List (OutputField Name)) (one t
 composed_alike source [] one two alike = alike
 composed_alike source (field ∷ fields) one two alike = composed_alike source fields _ _ (field_alike source field one two alike)
 
--- a record in which nothing is put, and one of blanks
+-- an empty record and a record of blanks
 pub begins_alike : (n : ℕ) (e : Environment) → Alike (record { positions = replicate n None; after = e }) (record { positions = replicate n (first_position false); after = e })
 begins_alike n e = record { filled = filled_first n true ∙ sym (filled_first n false); after = refl }

@@ -1,4 +1,4 @@
--- What a card of the O sheet of a valid program brings.
+-- Facts about the output cards of a valid program.
 use Rattle.std.proofs.Common.{◌≡◌, ℕ, ◌<◌, List, [], ◌∷◌, Bool, true, false, not, ◌||◌, length, get_or, refl, sym, ◌∙◌, ap, zero, suc}
 use Rattle.std.specs.Prelude.{Some, slice_get, unwrap_or, option_map}
 use Rattle.std.specs.List.{list_any}
@@ -36,7 +36,7 @@ rest_not : (a b : Bool) → not (a || b) ≡ true → not b ≡ true
 rest_not true b h = absurd (true≢false (sym h))
 rest_not false b h = h
 
--- of the conditions that are tried the fourth one
+-- the fourth condition of the list, number 8, doesn't hold
 no_misfit : (holds : ℕ → Bool) → is_clear holds ≡ true → holds 8 ≡ false
 no_misfit holds clear =
     head_not (holds 8) (list_any holds (9 ∷ 10 ∷ 11 ∷ 12 ∷ []))
@@ -48,7 +48,7 @@ fits_at at (l ∷ ls) zero line clear there =
     ap output_unfit (sym (some_same l line there)) ∙ no_misfit (output_holds at l) (and_parts _ _ clear).0
 fits_at at (l ∷ ls) (suc k) line clear there = fits_at (behind_output at l) ls k line (and_parts _ _ clear).1 there
 
--- of the card at a place: its entries are in range and of their kinds, and its field fits
+-- facts about the card at a place: its entries are in range and of the right kinds, and its field fits
 pub record Brings (p : Program) (card : OutputLine Reference) : Type 0 where
   pub ranged : output_in_range (meant_output (tables p) card) ≡ true
   pub kinds : output_passes is_of (meant_output (tables p) card) ≡ true

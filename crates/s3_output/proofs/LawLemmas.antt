@@ -86,7 +86,7 @@ file_there p start line file line_is there =
     ap (file_named (source_named p)) (line_named p start _ line line_is ∙ named_file)
     ∙ (files_of p file.name ∙ found_named p.files.items start.file file k.files_distinct there)
 
--- ---- lines that are put out together
+-- ---- lines of one walk
 line_kind : (p : Program) (start : OutputStart) (line : Output) → IsStart p start → IsLineAt p start line → line.kind ≡ start.kind
 line_kind p start line is line_is =
     let s : StartsAt p start = starts_at p start is in

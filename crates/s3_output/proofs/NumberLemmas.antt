@@ -1,4 +1,4 @@
--- How long a number is put out, and that it fits in front of its end.
+-- The width of a written number, and that it fits before its end position.
 use Rattle.std.proofs.Common.{◌≡◌, ℕ, zero, suc, ◌+◌, ◌/◌, ◌≤◌, List, Bool, true, false, length, take, refl, sym, ◌∙◌, ap, subst, arith}
 use Rattle.std.specs.Prelude.{ℤ, unsigned_abs, Option, Some, None, unwrap_or, nat_le}
 use Rattle.std.proofs.lemmas.Bool.{true≢false}
@@ -16,7 +16,7 @@ use Rattle.s3_output.specs.declared.numbers.NumberForm.{NumberForm}
 use Rattle.s3_output.specs.Inner.Contents.{edited_width, number_put, number_width}
 use Rattle.s3_output.specs.Inner.Numbers.{FitsNumber, number_of}
 
--- ---- how long a number is put out
+-- ---- the width of a written number
 length_zoned : (b : Bool) (n v : ℕ) → length (zoned_bytes b n v) ≡ n
 length_zoned b zero v = refl
 length_zoned b (suc n) v = ap (λ k. suc k) (length_zoned b n v)

@@ -1,4 +1,4 @@
--- Where the lines of a program start, and how long their records are.
+-- The places at which a program's lines start, and the lengths of their records.
 use Rattle.std.proofs.Common.{◌≡◌, ℕ, ◌+◌, ◌<◌, ◌≤◌, List, [], ◌∷◌, true, length, map, drop, refl, sym, ◌∙◌, ap, subst, arith, zero, suc}
 use Rattle.std.specs.Prelude.{Option, Some, None, slice_get, unwrap_or, option_map, nat_le}
 use Rattle.std.specs.List.{list_all}
@@ -68,7 +68,7 @@ length_few p start size is = step (slice_get p.files.items start.file) refl is
         let all5 = and_parts _ _ all4.0 in
         subst (λ n. n ≤ 1024) (some_same file.record_length size h) (bounds file.device file.record_length (and_parts _ _ all5.0).1)
 
--- ---- where a line starts
+-- ---- the start of a line
 file_meant : (p : Program) (k : ℕ) → record_length (meaning_at (tables p) (slot.File k)) ≡ length_at p k
 unfolding length_at
 file_meant p k =
@@ -101,7 +101,7 @@ length_behind p last card size same kinds = by card.file refl kinds
     by (Some (slot.Tag k)) is h = absurd (no_tag (item_in (tables p).tags k) h)
     by (Some (slot.Subroutine k)) is h = absurd (no_subroutine (item_in (tables p).subroutines k) h)
 
--- a line among these ones: its card, the cards behind it, and the record in which its fields end
+-- a line among these: its card, the cards after it, and the record that its fields lie in
 record StartsIn (p : Program) (place : ℕ) (lines : List (OutputLine Reference)) (start : OutputStart) : Type 0 where
   skip : ℕ
   card : OutputCard Reference

@@ -1,4 +1,4 @@
--- The depth of calls: where no call is a ninth one, a chain of calls has at most eight.
+-- The depth of calls: if no call is a ninth nested one, calls are nested at most eight deep.
 use Rattle.std.proofs.Common.{◌≡◌, ℕ, ◌<◌, ◌≤◌, List, [], ◌∷◌, Bool, true, false, ◌||◌, refl, sym, ◌∙◌, ap, arith, zero, suc, ◌+◌, ◌-◌, inl, inr}
 use Rattle.std.specs.Prelude.{nat_lt}
 use Rattle.std.proofs.lemmas.Bool.Decides.{nat_tests}
@@ -17,7 +17,7 @@ any_more {X} p q so (x ∷ xs) any = step (p x) (q x) (so x) any (any_more p q s
     step false true here any later = refl
     step false false here any later = later any
 
--- without its first call it is a chain, too
+-- nested calls without the first are nested calls too
 pub shorter : (calls : List Call) (n : ℕ) (to : _) → ends_chain calls (suc n) to ≡ true → ends_chain calls n to ≡ true
 shorter calls zero to chain = refl
 shorter calls (suc n) to chain =
@@ -29,7 +29,7 @@ down calls (suc m) k to chain =
     let e : suc m + k ≡ suc (m + k) = omega arith in
     down calls m k to (shorter calls (m + k) to (ap (λ n. ends_chain calls n to) (sym e) ∙ chain))
 
--- so where a ninth call would be forbidden, fewer than eight stand before it
+-- if no eight nested calls end in a subroutine, nested calls that end there are fewer than eight
 pub room_left : (calls : List Call) (n : ℕ) (to : _) → ends_chain calls 8 to ≡ false → ends_chain calls n to ≡ true → n < 8
 room_left calls n to most chain = elim (cases_Bool (nat_lt n 8)) [
   | inl below ↦ grind (arith, nat_tests, below)

@@ -1,4 +1,4 @@
--- Tables of first entries: a look-up finds what it finds among all entries, and no name stands twice.
+-- Tables of first entries: a look-up finds the same as in all entries, and no name occurs twice.
 use Rattle.std.proofs.Common.{◌≡◌, ℕ, ◌+◌, ◌<◌, ◌++◌, length, take, get_or, List, [], ◌∷◌, Bool, true, false, cond, ◌||◌, refl, sym, ◌∙◌, ap, append_assoc, arith, ◌==◌, ◌⊎◌, inl, inr}
 use Rattle.std.specs.Prelude.{Option, Some, None, is_some, not, unwrap_or, filter_map}
 use Rattle.std.specs.Option.{option_or, option_to_list}
@@ -63,18 +63,18 @@ all_found name table (entry ∷ entries) =
     ∙ (option_or_assoc (lookup (same_name name) table) (lookup (same_name name) (entry ∷ [])) (lookup (same_name name) entries)
     ∙ ap (option_or (lookup (same_name name) table)) (sym (found_in_both (same_name name) (entry ∷ []) entries))))
 
--- a name has what its first entry gives it
+-- a name has its first entry's value
 pub first_found : {X : Type 0} (name : Name) (entries : List (Name × X)) → lookup (same_name name) (firsts entries) ≡ lookup (same_name name) entries
 first_found name entries = all_found name [] entries
 
--- ---- no name stands twice
+-- ---- no name occurs twice
 turned : (a b : Name) → same_name a b ≡ false → same_name b a ≡ false
 turned a b apart = elim (cases_Bool (same_name b a)) [
   | inl same ↦ absurd (true≢false (sym (ap (λ (n : Name). same_name n b) (sym (same_name-equal b a same)) ∙ same_name-self b) ∙ apart))
   | inr other ↦ other
 ]
 
--- a name that is none of these and not the last
+-- a name that is none of these and isn't the last one
 unlike : {X : Type 0} (name : Name) (entry : Name × X) → same_name name entry.0 ≡ false → (xs : List (Name × X)) → not (list_any (same_name name) (keys_of xs)) ≡ true
     → not (list_any (same_name name) (keys_of (xs ++ entry ∷ []))) ≡ true
 unlike name entry apart [] none = rw apart refl
@@ -129,7 +129,7 @@ one_more {X} old new f lines k line within before more =
     last_of (Some entry) = refl
 
 -- ---- shapes
--- what a look-up of shapes finds
+-- the result of a look-up of shapes
 shape_found : (shapes : List (Name × Shape)) (name : Name) (shape : Shape) → lookup (same_name name) shapes ≡ Some shape → shape_in shapes name ≡ shape
 shape_found [] name shape there = cc
 shape_found (s ∷ shapes) name shape there = step (same_name name s.0) there (shape_found shapes name shape)
@@ -139,7 +139,7 @@ shape_found (s ∷ shapes) name shape there = step (same_name name s.0) there (s
     step true there later = ap (λ o. unwrap_or o shape) there
     step false there later = later there
 
--- a name that none of these has isn't that of the one among them
+-- a name that none of these entries has differs from the entry's name
 apart_from : {X : Type 0} (name : Name) (xs ys : List (Name × X)) (entry : Name × X) → not (list_any (same_name name) (keys_of (xs ++ entry ∷ ys))) ≡ true → same_name name entry.0 ≡ false
 apart_from name [] ys entry none = first (same_name name entry.0) (list_any (same_name name) (keys_of ys)) none
   where
@@ -152,7 +152,7 @@ apart_from name (x ∷ xs) ys entry none = apart_from name xs ys entry (second (
     second true b none = absurd (true≢false (sym none))
     second false b none = none
 
--- an entry of a table without a name twice is what a look-up of its name finds
+-- in a table without repeated names, the look-up of an entry's name finds the entry
 own_found : {X : Type 0} (before table : List (Name × X)) (entry : Name × X) → are_distinct (keys_of (before ++ entry ∷ table)) ≡ true
     → lookup (same_name entry.0) (before ++ entry ∷ table) ≡ Some entry.1
 own_found [] table entry distinct = rw (same_name-self entry.0) refl
@@ -167,7 +167,7 @@ same_self : (shape : Shape) → same_shape shape shape ≡ true
 same_self (Alphanumeric n) = same_number n
 same_self (Numeric n d) = both (n == n) (d == d) (same_number n) (same_number d)
 
--- each entry of these has the shape that the first of all entries gives its name
+-- each entry of the table has the shape that the first of all entries gives its name
 shaped_by : (entries before table : List (Name × Shape)) → before ++ table ≡ firsts entries → list_all (λ field. same_shape (shape_in entries field.0) field.1) table ≡ true
 shaped_by entries before [] whole = refl
 shaped_by entries before (field ∷ table) whole =
@@ -180,7 +180,7 @@ shaped_by entries before (field ∷ table) whole =
 pub first_shapes : (entries : List (Name × Shape)) → list_all (λ field. same_shape (shape_in entries field.0) field.1) (firsts entries) ≡ true
 first_shapes entries = shaped_by entries [] (firsts entries) refl
 
--- the reserved fields stay the first ones
+-- the reserved fields stay first
 kept_first : (table entries : List (Name × Shape)) → (more : List (Name × Shape)) × (all_noted table entries ≡ table ++ more)
 unfolding all_noted
 kept_first table [] = ([], sym (append-nil table))
@@ -198,7 +198,7 @@ reserved_first entries =
     let whole : firsts (reserved_shapes ++ entries) ≡ reserved_shapes ++ kept.0 = noted_behind [] reserved_shapes entries ∙ kept.1 in
     ap begin_reserved whole
 
--- ---- where no name stands twice, each entry is its name's first
+-- ---- if no name occurs twice, each entry is its name's first
 new_behind : {X : Type 0} (xs ys : List (Name × X)) (entry : Name × X) → are_distinct (keys_of (xs ++ entry ∷ ys)) ≡ true → is_some (lookup (same_name entry.0) xs) ≡ false
 new_behind [] ys entry distinct = refl
 new_behind (x ∷ xs) ys entry distinct =

@@ -1,4 +1,4 @@
--- Lines with slots: their meanings are those of the lines with names, and so are their names.
+-- Lines with slots have the meanings and the names of the lines with names.
 use Rattle.std.proofs.Common.{◌≡◌, List, [], ◌∷◌, Bool, true, refl, ◌∙◌, ap}
 use Rattle.std.specs.Prelude.{Option, Some, None, map, filter_map, option_map, is_some}
 use Rattle.std.specs.List.{list_all, cons_option}
@@ -73,7 +73,7 @@ entry_back : (tables : Tables) (k : Kind) (entry : Option Name) → entry_passes
 entry_back tables k None defined = refl
 entry_back tables k (Some name) defined = ap (λ n. Some n) (back tables k name defined)
 
--- ---- lines: their meanings
+-- ---- the meanings of lines
 pub input_meant : (tables : Tables) (line : InputLine Name) → meant_input tables (slotted_input tables line) ≡ known_input tables line
 input_meant tables (Record file indicator codes) = ap (λ m. Record m indicator codes) (meant tables kind.File file)
 input_meant tables (And codes) = refl
@@ -119,7 +119,7 @@ output_meant tables (AndCard conditions) = refl
 output_meant tables (OrCard conditions) = refl
 output_meant tables (FieldCard field) = λ i. FieldCard (record { conditions = field.conditions; content = content_meant tables field.content i; «end» = field.end })
 
--- ---- lines: their names
+-- ---- the names of lines
 pub input_back : (tables : Tables) (line : InputLine Name) → input_passes (λ kind meaning. is_defined meaning) (known_input tables line) ≡ true → named_input tables (slotted_input tables line) ≡ line
 input_back tables (Record file indicator codes) defined = ap (λ n. Record n indicator codes) (back tables kind.File file defined)
 input_back tables (And codes) defined = refl

@@ -1,4 +1,4 @@
--- Each file of a program has a name, so that the blank name finds none.
+-- Each file of a program has a name, so the blank name finds no file.
 use Rattle.std.proofs.Common.{◌≡◌, List, [], ◌∷◌, Bool, true, false, not, refl}
 use Rattle.std.specs.Prelude.{None}
 use Rattle.std.specs.List.{list_all, find}

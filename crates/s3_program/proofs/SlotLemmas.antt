@@ -1,4 +1,4 @@
--- Slots of a valid program: no name has two.
+-- Slots of a valid program: each name has at most one slot.
 use Rattle.std.proofs.Common.{◌≡◌, ℕ, ◌+◌, ◌==◌, List, [], ◌∷◌, ◌++◌, length, Bool, true, false, cond, ◌&&◌, refl, sym, ◌∙◌, ap, subst, arith, zero, suc, inl, inr, not, ◌||◌}
 use Rattle.std.specs.Prelude.{Option, Some, None, is_some, map, filter_map, option_map, slice_get, take, unwrap_or}
 use Rattle.std.specs.Cmp.Lexicographic.{pointwise}
@@ -33,7 +33,7 @@ use Rattle.s3_program.specs.Inner.Conditions.{are_clear}
 use Rattle.s3_program.specs.Inner.Valid.{Parts, tables_of, named, meant, named_input, named_calculation, meant_input, meant_calculation, is_valid, are_right, are_sound, are_shaped, begin_reserved}
 use Rattle.s3_program.proofs.TableLemmas.{place, slot_is}
 
--- ---- what a valid program keeps
+-- ---- the invariant of a valid program
 pub record Kept (parts : Parts) : Type 0 where
   pub files_distinct : are_distinct (keys_of (tables_of parts).files) ≡ true
   pub fields_distinct : are_distinct (keys_of (tables_of parts).fields) ≡ true
@@ -124,11 +124,11 @@ own_place (f ∷ fs) (suc k) e distinct there =
     one_more : (m n : ℕ) → m ≡ n → 1 + m ≡ suc n
     one_more m n h = omega (arith, h)
 
--- the slot of a field is that of its name
+-- a field's slot is the slot of its name
 pub own_slot : {X : Type 0} (table : List (Name × X)) (k : ℕ) (e : Name × X) → are_distinct (keys_of table) ≡ true → slice_get table k ≡ Some e → slot_in table e.0 ≡ k
 own_slot table k e distinct there = slot_is table e.0 ∙ own_place table k e distinct there
 
--- and of no other name
+-- a slot belongs to only one name
 pub same_slot : {X : Type 0} (table : List (Name × X)) (k : ℕ) (e : Name × X) (name : Name) → are_distinct (keys_of table) ≡ true → slice_get table k ≡ Some e
     → (slot_in table name == k) ≡ same_name name e.0
 same_slot table k e name distinct there = elim (cases_Bool (same_name name e.0)) [
@@ -149,7 +149,7 @@ same_slot table k e name distinct there = elim (cases_Bool (same_name name e.0))
     number m n h = grind (arith, nat_tests, h)
 
 -- ---- a name without a slot has no shape in the source
--- a name that is there has been found
+-- a name in the table is found
 found_own : {X : Type 0} (table : List (Name × X)) (k : ℕ) (e : Name × X) → slice_get table k ≡ Some e → is_some (found_in table e.0) ≡ true
 found_own [] k e there = cc
 found_own (f ∷ fs) zero e there = rw (sym (some_same f e there)) (rw (same_name-self f.0) refl)
@@ -162,7 +162,7 @@ found_own (f ∷ fs) (suc k) e there = step (same_name e.0 f.0) (found_own fs k 
 abbrev Listed : List (Name × Shape) → List (Name × Shape) → Type 0
 Listed fields shapes = list_all (λ shape. is_some (found_in fields shape.0)) shapes ≡ true
 
--- a name that no field has is in none of the shapes of fields
+-- a name that no field has isn't in the shapes of fields
 unlisted : (fields shapes : List (Name × Shape)) (name : Name) → Listed fields shapes → found_in fields name ≡ None → shape_in shapes name ≡ Alphanumeric 0
 unlisted fields [] name listed none = refl
 unlisted fields (s ∷ shapes) name listed none =
@@ -172,7 +172,7 @@ unlisted fields (s ∷ shapes) name listed none =
       | inr other ↦ rw other (unlisted fields shapes name parts.1 none)
     ]
 
--- the language's own fields
+-- the reserved fields
 more_listed : (f : Name × Shape) (fields shapes : List (Name × Shape)) → Listed fields shapes → Listed (f ∷ fields) shapes
 more_listed f fields [] listed = refl
 more_listed f fields (s ∷ shapes) listed =
@@ -195,7 +195,7 @@ begin_listed (suc n) (f ∷ fields) (s ∷ shapes) begins =
     here : f.0 ≡ s.0 → is_some (found_in (f ∷ fields) s.0) ≡ true
     here same = ap (λ n. is_some (found_in (f ∷ fields) n)) (sym same) ∙ found_own (f ∷ fields) 0 f refl
 
--- the field of a slot
+-- the name of a field's slot is found
 slot_listed : (tables : Tables) (slot : Reference) → is_of kind.Field (meaning_at tables slot) ≡ true → is_some (found_in tables.fields (name_of tables slot)) ≡ true
 slot_listed tables (slot.File k) of_field = absurd (no_file (item_in tables.files k) of_field)
   where

@@ -1,4 +1,4 @@
--- Lines of cards without faults: with meanings they are in range, and their positions within their records.
+-- Lines of cards without errors: with meanings they are in range, and positions are within their records.
 use Rattle.std.proofs.Common.{◌≡◌, ℕ, List, [], ◌∷◌, Bool, true, false, ◌&&◌, refl, sym, ◌∙◌, ap}
 use Rattle.std.specs.Prelude.{Option, Some, None, map, filter_map, option_map, if◌then◌else◌}
 use Rattle.std.specs.List.{list_all, cons_option}
@@ -39,7 +39,7 @@ use Rattle.s3_program.specs.Inner.Translation.{known_input, known_calculation, k
 pub both : (a b : Bool) → a ≡ true → b ≡ true → (a && b) ≡ true
 both a b pa pb = rw (pa, pb) refl
 
--- ---- what is defined is of the kind that is looked up
+-- ---- a defined name has the kind of its look-up
 of_kind : (tables : Tables) (k : Kind) (name : Name) → is_defined (meaning_of tables k name) ≡ true → is_of k (meaning_of tables k name) ≡ true
 of_kind tables kind.File name defined = known (found_in tables.files name) defined
   where
@@ -115,7 +115,7 @@ of_kinds tables lines defined =
     (all_so (known_calculation tables) _ _ (calculation_of_kind tables) (filter_map calculation_line lines) one.1))
     (all_so (known_output tables) _ _ (output_of_kind tables) (filter_map output_line lines) two.1)
 
--- ---- entries in range: meanings don't matter
+-- ---- ranges don't depend on meanings
 input_ranged : (tables : Tables) (line : InputLine Name) → input_in_range (known_input tables line) ≡ input_in_range line
 input_ranged tables (Record file indicator codes) = refl
 input_ranged tables (And codes) = refl
@@ -146,7 +146,7 @@ all_ranged : {A B : Type 0} (k : A → B) (p : A → Bool) (q : B → Bool) → 
 all_ranged k p q same [] all = refl
 all_ranged k p q same (x ∷ xs) all = let parts = and_parts (p x) (list_all p xs) all in both _ _ (same x ∙ parts.0) (all_ranged k p q same xs parts.1)
 
--- the lines of one sheet
+-- the lines of one kind of specification
 all_taken : {A : Type 0} (o : Line → Option A) (p : A → Bool) → ((line : Line) → in_range line.sheet ≡ true → if_given p (o line) ≡ true) → (lines : List Line)
     → list_all (λ line. in_range line.sheet) lines ≡ true → list_all p (filter_map o lines) ≡ true
 all_taken o p so [] all = refl
@@ -211,7 +211,7 @@ ranged tables lines read =
     (all_ranged (known_calculation tables) calculation_in_range calculation_in_range (calculation_ranged tables) (filter_map calculation_line lines) (all_taken calculation_line calculation_in_range calculation_taken lines all)))
     (all_ranged (known_output tables) output_in_range output_in_range (output_ranged tables) (filter_map output_line lines) (all_taken output_line output_in_range output_taken lines all))
 
--- ---- positions within their records: a file is known by its first line
+-- ---- positions within records: the first line of a file gives its length
 turned : (a b : Name) → same_name a b ≡ same_name b a
 turned a b = on (same_name a b) (same_name b a) refl refl
   where
@@ -244,7 +244,7 @@ lengths_known (line ∷ lines) name = on line.card line.sheet (lengths_known lin
     on card (Calculation line) later = later
     on card (Output line) later = later
 
--- what a table with these files knows of their lengths
+-- the record lengths of a table with these files
 AreLengths : Tables → (Name → Option ℕ) → Type 0
 AreLengths tables lengths = (name : Name) → lengths name ≡ record_length (meaning_of tables kind.File name)
 

@@ -1,4 +1,4 @@
--- Looking for starts line by line.
+-- Searching for starts line by line.
 use Rattle.std.proofs.Common.{◌≡◌, ℕ, ◌+◌, ◌<◌, ◌≤◌, ◌++◌, length, drop, get_or, List, [], ◌∷◌, Bool, true, false, refl, sym, ◌∙◌, ap, add-one, append_assoc, arith, Vec, Global}
 use Rattle.std.specs.Prelude.{Option, Some, None, if◌then◌else◌, not, map}
 use Rattle.std.specs.Option.{option_to_list}
@@ -17,7 +17,7 @@ use Rattle.s3_program.specs.declared.starts.Starts.{Starts}
 use Rattle.s3_program.specs.declared.starts.Walk.TheVariants as walk
 use Rattle.s3_program.specs.Inner.Starts.{first_from, fields_begin, goes_on, type_file, type_start, type_starts_from, types_of_file, output_file, output_start, output_starts_from, types_by_file, walked, sections_of, AreStarts}
 
--- the lines from a place on: that line and those behind it
+-- the lines from a place on: the line there, then the lines after it
 lines_from : {X : Type 0} (xs : List X) (k : ℕ) (d : X) → k < length xs → drop k xs ≡ get_or xs k d ∷ drop (k + 1) xs
 lines_from xs k d within = drop-cons xs k d within ∙ ap (λ n. get_or xs k d ∷ drop n xs) (sym (add-one k))
 
@@ -26,7 +26,7 @@ step : {X : Type 0} (passes : X → Bool) (xs : List X) (k : ℕ) (d : X) → k 
 unfolding first_from
 step passes xs k d within = ap (first_from passes k) (lines_from xs k d within)
 
--- the line at a place passes, or it doesn't
+-- the line at this place is the first that passes
 pub found : {X : Type 0} (passes : X → Bool) (xs : List X) (from k : ℕ) (d : X) → k < length xs → first_from passes from (drop from xs) ≡ first_from passes k (drop k xs)
     → passes (get_or xs k d) ≡ true → k ≡ first_from passes from (drop from xs)
 found passes xs from k d within before here =
@@ -44,7 +44,7 @@ none_from passes xs from k all within before =
     let same : k ≡ length xs = omega arith in
     sym (before ∙ ap (first_from passes k) (drop_all k xs all) ∙ same)
 
--- where the fields begin is known from the line before
+-- the start of fields is known from the previous line
 later : (b : Bool) (k rest : ℕ) → k < (if not b then k else rest) → (if not b then k else rest) ≡ rest
 later true k rest behind = refl
 later false k rest behind = absurd (omega (arith, behind))
@@ -96,7 +96,7 @@ output_more old new all outputs last k file line within named more before =
     ((λ i. old ++ cons_option (output_start (named i) k (get_or outputs k line)) (output_starts_from (named i) (k + 1) (drop (k + 1) outputs)))
     ∙ (ap (λ (xs : List OutputStart). old ++ xs) (sym (outputs_step outputs last k line within)) ∙ before))
 
--- the types of one file more
+-- the types of one more file
 pub types_more : (starts : List TypeStart) (old new : List (Vec TypeStart Global)) (one : Vec TypeStart Global) (k : ℕ) → new ≡ old ++ one ∷ [] → one.items ≡ types_of_file starts k
     → map (λ (types : Vec TypeStart Global). types.items) old ≡ map (types_of_file starts) (range_with_len 0 k)
     → map (λ (types : Vec TypeStart Global). types.items) new ≡ map (types_of_file starts) (range_with_len 0 (k + 1))
@@ -104,7 +104,7 @@ types_more starts old new one k more own before =
     ap (map (λ (types : Vec TypeStart Global). types.items)) more ∙ (map-append (λ (types : Vec TypeStart Global). types.items) old (one ∷ [])
     ∙ ((λ i. before i ++ own i ∷ []) ∙ sym (map-range_with_len_more (types_of_file starts) 0 k k (omega arith))))
 
--- behind the last line there is no more
+-- after the last line no type starts
 pub types_all : (starts all : List TypeStart) (inputs : List (InputLine Reference)) (last k : ℕ) → length inputs ≤ k → starts ++ type_starts_from last k (drop k inputs) ≡ all → starts ≡ all
 unfolding type_starts_from
 types_all starts all inputs last k past before = sym (append-nil starts) ∙ ap (λ (xs : List (InputLine Reference)). starts ++ type_starts_from last k xs) (sym (drop_all k inputs past)) ∙ before
@@ -114,7 +114,7 @@ unfolding output_starts_from
 outputs_all starts all outputs last k past before = sym (append-nil starts) ∙ ap (λ (xs : List (OutputLine Reference)). starts ++ output_starts_from last k xs) (sym (drop_all k outputs past)) ∙ before
 
 -- ---- the starts of lists
--- lists that are the same start at the same places
+-- equal lists have the same starts
 pub starts_over : (starts : Starts) (files files' : List FileLine) (inputs inputs' : List (InputLine Reference)) (calculations calculations' : List (CalculationLine Reference)) (outputs outputs' : List (OutputLine Reference))
     → AreStarts starts files inputs calculations outputs → files ≡ files' → inputs ≡ inputs' → calculations ≡ calculations' → outputs ≡ outputs' → AreStarts starts files' inputs' calculations' outputs'
 starts_over starts files files' inputs inputs' calculations calculations' outputs outputs' are f i c o = record {

@@ -1,4 +1,4 @@
--- The record types and the output lines of a source are those that start at the places of the tables.
+-- The record types and output lines of a source are those that start at the places of the tables.
 use Rattle.std.proofs.Common.{◌≡◌, ℕ, ◌+◌, ◌++◌, ◌≤◌, length, drop, List, [], ◌∷◌, true, false, refl, sym, ◌∙◌, ap, arith}
 use Rattle.std.specs.Prelude.{Option, Some, None, map, filter_map, option_map, unwrap_or, slice_get}
 use Rattle.std.specs.List.{list_all, cons_option}
@@ -33,7 +33,7 @@ use Rattle.s3_program.specs.Inner.Meant.{are_of_kinds}
 use Rattle.s3_program.proofs.SlotLemmas.{kept}
 use Rattle.s3_program.specs.Inner.Started.{type_on, type_at, output_on, output_at}
 
--- ---- what is of the kind of files is a file's slot
+-- ---- a slot with the kind of files is a file's slot
 no_file : {X : Type 0} (known : X → Meaning) → ((x : X) → is_of kind.File (known x) ≡ false) → (o : Option X) → is_of kind.File (or_undefined known o) ≡ true → ⊥
 no_file known never None of_file = true≢false (sym of_file)
 no_file known never (Some x) of_file = true≢false (sym of_file ∙ never x)
@@ -44,7 +44,7 @@ file_named tables last (slot.Field k) of_file = absurd (no_file (λ entry. meani
 file_named tables last (slot.Tag k) of_file = absurd (no_file (λ x. meaning.Tag x) (λ x. refl) (item_in tables.tags k) of_file)
 file_named tables last (slot.Subroutine k) of_file = absurd (no_file (λ x. meaning.Subroutine x) (λ x. refl) (item_in tables.subroutines k) of_file)
 
--- behind the first line the others stand
+-- the lines after the first line
 behind : {X : Type 0} (xs rest : List X) (k : ℕ) (x : X) → drop k xs ≡ x ∷ rest → drop (k + 1) xs ≡ rest
 behind xs rest k x here = sym (drop-drop 1 k xs) ∙ ap (drop 1) here
 
@@ -72,7 +72,7 @@ outputs_at tables all last k (FieldCard field ∷ lines) here kinds =
     (and_parts (output_passes is_of (meant_output tables (FieldCard field))) (list_all (output_passes is_of) (map (meant_output tables) lines)) kinds).1
 
 -- ---- record types
--- the fields of a group are those from where they begin
+-- the fields of a group are those from their start on
 fields_from : (tables : Tables) (all : List (InputLine Reference)) (k : ℕ) (lines : List (InputLine Reference)) → drop k all ≡ lines
     → group_fields (map (named_input tables) (drop (fields_begin k lines) all)) ≡ group_fields (map (named_input tables) lines)
 unfolding first_from
@@ -106,7 +106,7 @@ types_at tables all last k (InputField field ∷ lines) here kinds =
     types_at tables all last (k + 1) lines (behind all lines k (InputField field) here)
     (and_parts (input_passes is_of (meant_input tables (InputField field))) (list_all (input_passes is_of) (map (meant_input tables) lines)) kinds).1
 
--- no slot is that of no name
+-- the slot after the last has no name
 nameless : (files : List FileLine) → name_in (map file_entry files) (length files) ≡ no_name
 nameless files =
     let past : length (map file_entry files) ≤ length files = grind (arith, length-map) in

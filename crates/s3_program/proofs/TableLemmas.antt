@@ -1,4 +1,4 @@
--- The slot of a name has that name, and what bears it.
+-- The slot of a name has that name and its entry.
 use Rattle.std.proofs.Common.{◌≡◌, ℕ, ◌+◌, ◌≤◌, List, [], ◌∷◌, Bool, true, false, cond, refl, sym, ◌∙◌, ap, arith, length, suc, inl, inr}
 use Rattle.std.specs.Prelude.{Some, None, slice_get, unwrap_or, nat_lt, not, option_map, is_some}
 use Rattle.std.specs.List.{position, position_or_len}
@@ -13,7 +13,7 @@ use Rattle.s3_cards.proofs.NameLemmas.{same_name-equal}
 use Rattle.s3_program.specs.Inner.Tables.{slot_in, name_in, item_in}
 use Rattle.s3_program.specs.Tables.{found_in}
 
--- the slot as a count, without its test
+-- the slot as a count, without the test that the name exists
 abbrev pub place : {X : Type 0} → List (Name × X) → Name → ℕ
 place table name = position_or_len (same_name name) (keys_of table)
 
@@ -46,15 +46,15 @@ name_at {X} (e ∷ es) name found = step (same_name name e.0) (same_name-equal n
     step true same later found = sym (same refl)
     step false same later found = ap (λ o. unwrap_or (option_map (λ (entry : Name × X). entry.0) o) no_name) (next e es (place es name)) ∙ later found
 
--- a slot has what its name has
+-- a slot has its name's value
 pub slot_item : {X : Type 0} (table : List (Name × X)) (name : Name) → item_in table (slot_in table name) ≡ found_in table name
 slot_item table name = ap (item_in table) (slot_is table name) ∙ item_at table name
 
--- and the name, if that is there
+-- a slot has its name, if the name exists
 pub slot_name : {X : Type 0} (table : List (Name × X)) (name : Name) → is_some (found_in table name) ≡ true → name_in table (slot_in table name) ≡ name
 slot_name table name found = ap (name_in table) (slot_is table name) ∙ name_at table name found
 
--- both together
+-- a slot has its name's whole entry
 entry_at : {X : Type 0} (table : List (Name × X)) (name : Name) → slice_get table (place table name) ≡ option_map (λ x. (name, x)) (found_in table name)
 entry_at [] name = refl
 entry_at {X} (e ∷ es) name = step (same_name name e.0) (same_name-equal name e.0) (entry_at es name)

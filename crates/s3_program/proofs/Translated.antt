@@ -1,4 +1,4 @@
--- The program that is made of accepted lines stands for their source, and is valid.
+-- The program made from accepted lines is valid, and a correct compilation of their source.
 use Rattle.std.proofs.Common.{◌≡◌, ℕ, ◌+◌, ◌<◌, ◌++◌, length, take, get_or, List, [], ◌∷◌, Bool, true, ◌&&◌, IsTrue, refl, sym, ◌∙◌, ap}
 use Rattle.std.specs.Prelude.{map, filter_map, option_map, Option, Some, None}
 use Rattle.std.specs.Option.{option_to_list}
@@ -22,7 +22,7 @@ use Rattle.s3_program.specs.Inner.Translation.{file_on, IsAccepted, tables_in, k
 use Rattle.s3_program.proofs.PartsLemmas.{same_parts}
 use Rattle.s3_program.proofs.LineLemmas.{input_meant, calculation_meant, output_meant, input_back, calculation_back, output_back, all_meant, all_back, all_taken}
 
--- what translation makes of the lines of each sheet
+-- the translated lines and tables
 abbrev pub parts_from : Definitions → List FileLine → List (InputLine Name) → List (CalculationLine Name) → List (OutputLine Name) → Parts
 parts_from known files inputs calculations outputs = record {
   files = files;
@@ -41,7 +41,7 @@ entries_back : {X : Type 0} (entries : List (Name × X)) → map entry_of (map d
 entries_back [] = refl
 entries_back (e ∷ es) = ap (λ rest. e ∷ rest) (entries_back es)
 
--- its tables are those that the lines define
+-- the tables of the program are the tables of the definitions
 tables_same : (known : Definitions) (lines : List Line) → IsAccepted known lines → tables_of (parts_made known lines) ≡ tables_in known
 tables_same known lines a = λ i. record {
   files = sym a.files i;
@@ -50,7 +50,7 @@ tables_same known lines a = λ i. record {
   subroutines = entries_back known.subroutines.entries i;
 }
 
--- over any tables that are those
+-- the source of parts, named by other tables
 abbrev named_by : Tables → Parts → Source
 named_by tables parts = source_from parts.files (map (named_input tables) parts.inputs) (map (named_calculation tables) parts.calculations) (map (named_output tables) parts.outputs)
 
@@ -88,7 +88,7 @@ unfolding named
 made_named known lines a =
     ap (λ (t : Tables). named_by t (parts_made known lines)) (tables_same known lines a) ∙ names_back known lines a
 
--- the meanings of slots are those of names
+-- slots have the meanings of their names
 made_meant : (known : Definitions) (lines : List Line) → meant_by (tables_in known) (parts_made known lines) ≡ known_lines (tables_in known) lines
 made_meant known lines =
     let tables : Tables = tables_in known in
@@ -109,7 +109,7 @@ made_valid known lines a =
     ∙ (ap (λ (m : Meant). valid_by (tables_in known) (source_of lines) m) (made_meant known lines)
     ∙ both _ _ a.right (sound_known known lines a)))
 
--- one line more
+-- one more line
 last_of : (file : Option FileLine) → filter_map {X = Option FileLine} (λ o. o) (file ∷ []) ≡ option_to_list file
 last_of None = refl
 last_of (Some file) = refl
@@ -125,7 +125,7 @@ files_taken : (lines : List Line) → filter_map file_on lines ≡ filter_map fi
 unfolding file_on
 files_taken lines = refl
 
--- what a program with these lists keeps, and stands for
+-- a program with these lists is valid and a correct compilation
 pub made : (known : Definitions) (lines : List Line) (parts : Parts) → parts.files ≡ filter_map file_on lines → parts.fields ≡ map defined_of known.fields.entries
     → parts.tags ≡ map defined_of known.tags.entries → parts.subroutines ≡ map defined_of known.subroutines.entries
     → parts.inputs ≡ filter_map (λ line. option_map (slotted_input (tables_in known)) (input_line line)) lines

@@ -1,4 +1,4 @@
--- Where the record types of a file start: each start is of a file that is there, and each file has the list of its own.
+-- Starts of record types: each start has an existing file, and each file has a list of its own types.
 use Rattle.std.proofs.Common.{◌≡◌, ℕ, ◌+◌, ◌<◌, ◌==◌, ◌&&◌, length, get_or, List, [], ◌∷◌, Bool, true, false, not, refl, sym, ◌∙◌, ap, inl, inr, arith, zero, suc, ◌||◌, Vec, Global, zero-add}
 use Rattle.std.specs.Prelude.{Option, Some, None, unwrap_or, option_map, map, slice_get, nat_lt}
 use Rattle.std.specs.List.{list_any, list_all}
@@ -38,7 +38,7 @@ use Rattle.s3_program.specs.Inner.Tables.{name_in, meaning_at, item_in}
 use Rattle.s3_program.specs.Inner.Valid.{meant_input, meant, tables_of}
 use Rattle.s3_program.proofs.SlotLemmas.{kept, own_slot, same_slot}
 
--- ---- as many lists of starts as files, and which is whose
+-- ---- there are as many lists of starts as files
 pub as_many : (program : Program) (file : ℕ) → file < length program.files.items → file < vec_len program.starts.types
 as_many program file within =
     let e : length program.starts.types.items ≡ length program.files.items =
@@ -69,7 +69,7 @@ turned : (b : Bool) → not b ≡ false → b ≡ true
 turned true h = refl
 turned false h = absurd (true≢false h)
 
--- an OR line goes on with a group
+-- an OR line continues a group
 open_there : (marks : Marks) (at : InputStanding) (indicator : Indicator) (codes : List (Option RecordCode)) → is_clear (input_holds marks at (OrCodes indicator codes)) ≡ true → at.is_open ≡ true
 open_there marks at indicator codes clear =
     turned at.is_open (none_of (input_holds marks at (OrCodes indicator codes)) numbers 4 (opposite (list_any (input_holds marks at (OrCodes indicator codes)) numbers) clear) (omega arith))
@@ -114,7 +114,7 @@ files_there tables marks last place at (InputField field ∷ lines) kinds clear 
     let rest = and_parts (is_clear (input_holds marks at (meant_input tables (InputField field)))) (inputs_clear marks (behind_input at (meant_input tables (InputField field))) (map (meant_input tables) lines)) clear in
     files_there tables marks last (place + 1) (behind_input at (meant_input tables (InputField field))) lines kind.1 rest.1 (record { file = λ is. absurd (true≢false (sym is)) })
 
--- ---- one name, one slot
+-- ---- a name has one slot
 name_there : {X : Type 0} (table : List (Name × X)) (k : ℕ) (e : Name × X) → slice_get table k ≡ Some e → name_in table k ≡ e.0
 name_there table k e there = ap (λ o. unwrap_or (option_map (λ (entry : Name × _). entry.0) o) no_name) there
 

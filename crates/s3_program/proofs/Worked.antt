@@ -1,4 +1,4 @@
--- The worked programs, computed.
+-- The worked examples, computed.
 use Rattle.std.proofs.Common.{◌≡◌, true, false, refl}
 use Rattle.std.specs.List.{list_any}
 use Rattle.s3_lines.specs.Reserved.{reserved_names}

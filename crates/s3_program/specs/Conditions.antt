@@ -1,4 +1,4 @@
--- The condition of each of the diagnostics 5 to 12, on a line where it stands.
+-- The conditions of diagnostics 5 to 12 for a line at its place.
 use Rattle.std.specs.Prelude.{ℕ, ◌+◌, ◌==◌, Bool, false, List, [], ◌∷◌, Option, if◌then◌else◌}
 use Rattle.std.specs.Map.{lookup}
 use Rattle.s3_cards.specs.declared.name.Name.{Name}
@@ -23,14 +23,14 @@ use Rattle.s3_program.specs.Jumps.{calls_from, is_forbidden, calculation_strays}
 use Rattle.s3_program.specs.Matching.{Marks, has_type, input_mismatched}
 use Rattle.s3_program.specs.Uses.{file_misused, input_misused, output_misused}
 
--- by the place of the first F line of a name
+-- the conditions of a File Description line; `first` gives the place of the first file of a name
 abbrev pub file_holds : (first : Name → Option ℕ) → FileStanding → FileLine → ℕ → Bool
 file_holds first at file number =
     if number == 6 then file_redefined first at file
     else if number == 12 then file_misused at file
     else false
 
--- by what the whole sheet says of match and control fields
+-- the conditions of an Input line; `marks` has the match and control fields of the whole source
 abbrev pub input_holds : Marks → InputStanding → InputLine Meaning → ℕ → Bool
 input_holds marks at line number =
     if number == 5 then input_undefined line
@@ -42,7 +42,7 @@ input_holds marks at line number =
     else if number == 12 then input_misused at line
     else false
 
--- by the test whether a call is forbidden, and by the lines behind
+-- the conditions of a calculation line; `forbidden` tests a call, and `later` has the lines after it
 abbrev pub calculation_holds : (Call → Bool) → CalculationStanding → List Verb → CalculationLine Meaning → ℕ → Bool
 calculation_holds forbidden at later line number =
     if number == 5 then calculation_undefined line
@@ -61,22 +61,22 @@ output_holds at line number =
     else if number == 12 then output_misused at line
     else false
 
--- ---- the lines of a program without diagnostics
+-- ---- a program whose lines have no diagnostics
 abbrev pub numbers : List ℕ
 numbers = 5 ∷ 6 ∷ 7 ∷ 8 ∷ 9 ∷ 10 ∷ 11 ∷ 12 ∷ []
 
 abbrev pub verb_of : {N : Type 0} → CalculationLine N → Verb
 verb_of line = (line.time, line.operation)
 
--- the names of F lines with their places
+-- the names of files with the places of their lines
 abbrev pub file_places : (place : ℕ) → List FileLine → List (Name × ℕ)
 file_places place [] = []
 file_places place (file ∷ files) = (file.name, place) ∷ file_places (place + 1) files
 
--- the place of the first F line of a name
+-- the place of the first file of a name
 abbrev pub first_file_of : List FileLine → Name → Option ℕ
 first_file_of files name = lookup (same_name name) (file_places 0 files)
 
--- the test whether a call is forbidden, among all calls
+-- whether a call is forbidden, among all calls of the program
 unfoldable pub forbidden_among : List (CalculationLine Meaning) → Call → Bool
 forbidden_among lines call = is_forbidden (calls_from first_calculation lines) call

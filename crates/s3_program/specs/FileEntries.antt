@@ -1,4 +1,4 @@
--- The entry of a file line in a table of names: its file's name with the line.
+-- The entry of a file in a table of names: its name with its File Description specification.
 use Rattle.s3_cards.specs.declared.name.Name.{Name}
 use Rattle.s3_lines.specs.declared.sheet.FileLine.{FileLine}
 

@@ -1,4 +1,4 @@
--- The table of files: what a program may do with a file on a device.
+-- The table of files: the ways a program can use a file on each device.
 use Rattle.std.specs.Prelude.{Bool, false, not, ◌&&◌, ◌||◌, is_some, if◌then◌else◌}
 use Rattle.s3_lines.specs.Files.{is_input_use, is_output_use, is_by_cycle, is_chained, is_disk, is_printer}
 use Rattle.s3_lines.specs.declared.sheet.FileUse.{FileUse}
@@ -12,8 +12,8 @@ use Rattle.s3_lines.specs.declared.sheet.Spacing.{Spacing}
 abbrev pub is_plain : FileLine → Bool
 is_plain file = not file.is_random && not file.is_keyed && not file.is_indexed && not file.has_additions
 
--- ---- the lines of the table
--- type I, P or S
+-- ---- lines of the table
+-- type I, designation P or S
 abbrev pub is_read_from_cards : FileLine → Bool
 is_read_from_cards file = is_input_use file.usage && is_by_cycle file.designation && is_plain file
 
@@ -21,29 +21,29 @@ is_read_from_cards file = is_input_use file.usage && is_by_cycle file.designatio
 abbrev pub is_printed : FileLine → Bool
 is_printed file = is_output_use file.usage && not (is_some file.designation) && is_plain file
 
--- type I or U, P or S, in order or by key order; additions or none
+-- type I or U, designation P or S, in order or by key order, with additions or without
 abbrev pub is_read_in_order : FileLine → Bool
 is_read_in_order file = not (is_output_use file.usage) && is_by_cycle file.designation && not file.is_random
 
--- type I or U, C, R; additions to an indexed file alone
+-- type I or U, designation C, mode R; additions only if the file is indexed
 abbrev pub is_read_by_chain : FileLine → Bool
 is_read_by_chain file =
     not (is_output_use file.usage) && is_chained file.designation && file.is_random && (file.is_indexed || not file.has_additions)
 
--- type O, no designation: loaded, or added to
+-- type O, no designation: a load, or additions
 abbrev pub is_loaded : FileLine → Bool
 is_loaded file = is_output_use file.usage && not (is_some file.designation) && not file.is_random
 
--- type O, C, R, without an index and additions
+-- type O, designation C, mode R, without index and additions
 abbrev pub is_direct_load : FileLine → Bool
 is_direct_load file =
     is_output_use file.usage && is_chained file.designation && file.is_random && not file.is_keyed && not file.is_indexed && not file.has_additions
 
--- A and I stand together in columns 31 and 32
+-- A in 31 and I in 32 go together
 abbrev pub is_indexed_as_keyed : FileLine → Bool
 is_indexed_as_keyed file = if file.is_keyed then file.is_indexed else not file.is_indexed
 
--- on disk
+-- the allowed uses of a disk file
 abbrev pub is_disk_file : FileLine → Bool
 is_disk_file file =
     is_indexed_as_keyed file
@@ -54,7 +54,7 @@ is_in_table_on CardReader file = is_read_from_cards file
 is_in_table_on Printer file = is_printed file
 is_in_table_on Disk file = is_disk_file file
 
--- a combination of the table
+-- an allowed use of a file on its device
 abbrev pub is_in_table : FileLine → Bool
 is_in_table file = is_in_table_on file.device file
 
@@ -69,23 +69,24 @@ is_card_file file = is_card_file_on file.device file
 abbrev pub is_print_file : FileLine → Bool
 is_print_file file = is_printer file.device && is_printed file
 
--- ---- what the table makes of the lines of a file
--- a record line: not for output, but for a direct load
+-- ---- the lines that a file's use allows
+-- a record line is allowed, except for an output file that isn't a direct load
 abbrev pub allows_records : FileLine → Bool
 allows_records file = not (is_output_use file.usage) || (is_disk file.device && is_direct_load file)
 
--- ADD is needed for type O with A, allowed for I and U with A, and refused elsewhere; without ADD nothing is put out to type I
+-- Type O with A in 66 requires ADD, types I and U with A allow it, and all others forbid it.
+-- Without ADD, a file of type I can't be written.
 abbrev pub is_addition_allowed : FileUse → (has_additions is_addition : Bool) → Bool
 is_addition_allowed Output has_additions is_addition = if has_additions then is_addition else not is_addition
 is_addition_allowed Input has_additions is_addition = has_additions && is_addition
 is_addition_allowed Update has_additions is_addition = has_additions || not is_addition
 
--- of a file that isn't in the table only type I is judged
+-- a file with a use outside the table is checked only for type I
 abbrev pub allows_output : FileLine → (is_addition : Bool) → Bool
 allows_output file is_addition =
     if is_in_table file then is_addition_allowed file.usage file.has_additions is_addition else not (is_input_use file.usage)
 
--- spaces and skips, on the print file alone
+-- spaces or skips, which only the print file may have
 abbrev pub has_spacing : Spacing → Bool
 has_spacing spacing =
     is_some spacing.space_before || is_some spacing.space_after || is_some spacing.skip_before || is_some spacing.skip_after

@@ -1,4 +1,4 @@
--- Diagnostic 7: an indicator that may not stand where it does, or a relation that isn't of its group.
+-- Diagnostic 7: an indicator in a place where it isn't allowed, or a field record relation to an indicator not of its group.
 use Rattle.std.specs.Prelude.{ℕ, Bool, true, false, not, ◌&&◌, ◌||◌, List, Option, Some, None, slice_get}
 use Rattle.std.specs.List.{list_any}
 use Rattle.s3_lines.specs.declared.indicator.Indicator.{Indicator}
@@ -12,7 +12,7 @@ use Rattle.s3_lines.specs.declared.sheet.Operation.TheVariants.{SetOn, SetOff, U
 use Rattle.s3_lines.specs.declared.sheet.CalculationLine.{CalculationLine}
 use Rattle.s3_program.specs.declared.program.Meaning.{Meaning}
 
--- OA to OG, OV
+-- an overflow indicator: OA to OG, or OV
 abbrev pub is_overflow : Indicator → Bool
 is_overflow (Overflow n) = true
 is_overflow _ = false
@@ -21,7 +21,7 @@ abbrev pub is_overflow_entry : Option Indicator → Bool
 is_overflow_entry None = false
 is_overflow_entry (Some indicator) = is_overflow indicator
 
--- SETON and SETOF alone set overflow indicators; an operation that isn't known isn't judged
+-- only SETON and SETOF set overflow indicators; an unknown operation isn't checked
 abbrev pub may_set_overflow : Option Operation → Bool
 may_set_overflow (Some SetOn) = true
 may_set_overflow (Some SetOff) = true
@@ -44,11 +44,11 @@ is_given_at indicators k = on (slice_get indicators k)
     on (Some (Some indicator)) = true
     on _ = false
 
--- plus and minus are for numeric fields
+-- only numeric fields can have plus and minus indicators
 abbrev pub has_sign_of_text : FieldForm → List (Option Indicator) → Bool
 has_sign_of_text form indicators = is_text_form form && (is_given_at indicators 0 || is_given_at indicators 1)
 
--- by the test whether an indicator is that of a type of the group
+-- the relation is to an indicator that no type of the group has
 abbrev pub is_unrelated : (Indicator → Bool) → Option Indicator → Bool
 is_unrelated is_type None = false
 is_unrelated is_type (Some indicator) = not (is_type indicator)

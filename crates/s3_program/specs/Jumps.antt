@@ -1,4 +1,4 @@
--- Diagnostic 10: a GOTO out of its section, subroutines called in a circle or more than 8 deep.
+-- Diagnostic 10: a GOTO out of its section, recursive subroutine calls, and calls nested more than 8 deep.
 use Rattle.std.specs.Prelude.{ℕ, zero, suc, ◌-◌, ◌==◌, nat_eq, nat_lt, Bool, true, false, not, ◌&&◌, ◌||◌, List, [], ◌∷◌, Option, Some, None, length, if◌then◌else◌}
 use Rattle.std.specs.List.{list_any}
 use Rattle.std.specs.Option.{option_eq}
@@ -25,7 +25,7 @@ abbrev pub leaves : (section : ℕ) → Option (Factor Meaning) → Bool
 leaves section (Some (Named meaning)) = is_tag_elsewhere section meaning
 leaves section _ = false
 
--- ---- calls, where a subroutine is known by the place of its BEGSR
+-- ---- calls; a subroutine is identified by the place of its BEGSR
 abbrev pub subroutine_called : Meaning → Option ℕ
 subroutine_called (a.Subroutine subroutine) = Some subroutine.place
 subroutine_called _ = None
@@ -42,7 +42,7 @@ callee_of line = on line.operation
     on (Some ExecuteSubroutine) = called line.factor2
     on _ = None
 
--- the subroutine that a section is
+-- the subroutine of a section
 abbrev pub subroutine_of : (section : ℕ) → Option ℕ
 subroutine_of section = if nat_lt section 3 then None else Some (section - 3)
 
@@ -53,7 +53,7 @@ abbrev pub with_call : (caller callee : Option ℕ) → List Call → List Call
 with_call caller None calls = calls
 with_call caller (Some callee) calls = record { caller = caller; callee = callee } ∷ calls
 
--- the calls of these lines, the first of which stands here
+-- the calls of these lines, the first line at this place
 abbrev pub calls_from : CalculationStanding → List (CalculationLine Meaning) → List Call
 calls_from at [] = []
 calls_from at (line ∷ lines) = with_call (caller_of at line) (callee_of line) (calls_from (behind_calculation at line) lines)
@@ -62,12 +62,12 @@ abbrev pub is_place : Option ℕ → ℕ → Bool
 is_place None place = false
 is_place (Some other) place = other == place
 
--- from one subroutine another is reached by at most so many calls
+-- one subroutine reaches another by at most this many calls
 abbrev pub reaches : List Call → ℕ → ℕ → ℕ → Bool
 reaches calls zero from to = from == to
 reaches calls (suc n) from to = (from == to) || list_any (λ call. is_place call.caller from && reaches calls n call.callee to) calls
 
--- what it calls reaches its own subroutine
+-- the callee of this call reaches its caller, so the call is recursive
 abbrev pub is_in_circle : List Call → Call → Bool
 is_in_circle calls call = on call.caller
   where
@@ -78,7 +78,7 @@ is_in_circle calls call = on call.caller
 abbrev pub has_circle : List Call → Bool
 has_circle calls = list_any (is_in_circle calls) calls
 
--- so many calls, each in what the one before calls, end in this subroutine
+-- this many nested calls end in this subroutine
 abbrev pub ends_chain : List Call → ℕ → Option ℕ → Bool
 ends_chain calls zero subroutine = true
 ends_chain calls (suc n) subroutine = list_any (λ call. is_place subroutine call.callee && ends_chain calls n call.caller) calls
@@ -86,7 +86,7 @@ ends_chain calls (suc n) subroutine = list_any (λ call. is_place subroutine cal
 abbrev pub same_call : Call → Call → Bool
 same_call a b = option_eq nat_eq a.caller b.caller && a.callee == b.callee
 
--- it is one of these calls, and lies on a circle; or, where none of them does, it is the ninth of a chain
+-- A call of the program is forbidden if it is recursive. If no call is recursive, a ninth nested call is forbidden.
 abbrev pub is_forbidden : List Call → Call → Bool
 is_forbidden calls call =
     list_any (same_call call) calls && (if has_circle calls then is_in_circle calls call else ends_chain calls 8 call.caller)
@@ -95,7 +95,7 @@ abbrev pub calls_badly : (Call → Bool) → (caller callee : Option ℕ) → Bo
 calls_badly forbidden caller None = false
 calls_badly forbidden caller (Some callee) = forbidden (record { caller = caller; callee = callee })
 
--- by the test whether a call is forbidden
+-- whether a line has diagnostic 10; `forbidden` tests a call
 abbrev pub calculation_strays : (forbidden : Call → Bool) → CalculationStanding → CalculationLine Meaning → Bool
 calculation_strays forbidden at line = on line.operation
   where

@@ -1,4 +1,4 @@
--- Which kind of thing a name in factor 1 and in factor 2 of each operation stands for: a field, a file, a tag or a subroutine.
+-- The kinds of the names in factor 1 and factor 2 of each operation: field, file, tag or subroutine.
 use Rattle.std.specs.Prelude.{Option, Some}
 use Rattle.s3_lines.specs.declared.sheet.InputLine.TheVariants.{Field}
 use Rattle.s3_lines.specs.declared.sheet.Operation.{Operation}
@@ -6,7 +6,7 @@ use Rattle.s3_lines.specs.declared.sheet.Operation.TheVariants as op
 use Rattle.s3_program.specs.declared.program.Kind.{Kind}
 use Rattle.s3_program.specs.declared.program.Kind.TheVariants as kind
 
--- ---- what the factors of an operation name
+-- ---- the kind of each factor
 abbrev pub first_kind : Option Operation → Kind
 first_kind (Some op.Tag) = kind.Tag
 first_kind (Some op.BeginSubroutine) = kind.Subroutine

@@ -1,4 +1,4 @@
--- Lines by what they name: a line of names becomes one of slots, or of meanings, entry by entry.
+-- Mapping the names of a line: to slots or to meanings, entry by entry.
 use Rattle.std.specs.Prelude.{option_map}
 use Rattle.s3_lines.specs.declared.sheet.FieldLine.{FieldLine}
 use Rattle.s3_lines.specs.declared.sheet.InputLine.{InputLine}
@@ -14,7 +14,7 @@ use Rattle.s3_lines.specs.declared.sheet.OutputField.{OutputField}
 use Rattle.s3_lines.specs.declared.sheet.OutputLine.{OutputLine}
 use Rattle.s3_lines.specs.declared.sheet.OutputLine.TheVariants.{Line as LineCard, And as AndCard, Or as OrCard, Field as FieldCard}
 
--- ---- the I sheet: files and fields are named
+-- ---- Input specifications: files and fields are named
 abbrev pub map_field : {A B : Type 0} → (A → B) → FieldLine A → FieldLine B
 map_field f line = record {
   name = f line.name;
@@ -33,7 +33,7 @@ map_input file field (And codes) = And codes
 map_input file field (Or indicator codes) = Or indicator codes
 map_input file field (Field line) = Field (map_field field line)
 
--- ---- the C sheet: what factors name goes by the operation
+-- ---- Calculation specifications: the kind of a factor's name depends on the operation
 abbrev pub map_factor : {A B : Type 0} → (A → B) → Factor A → Factor B
 map_factor f (Named name) = Named (f name)
 map_factor f (Number literal) = Number literal
@@ -52,7 +52,7 @@ map_calculation first second result line = record {
   indicators = line.indicators;
 }
 
--- ---- the O sheet: files and fields are named
+-- ---- Output specifications: files and fields are named
 abbrev pub map_card : {A B : Type 0} → (A → B) → OutputCard A → OutputCard B
 map_card f card = record {
   file = option_map f card.file;

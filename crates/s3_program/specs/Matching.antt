@@ -1,4 +1,4 @@
--- Diagnostic 11: match or control fields that disagree or stand on a chained file, or an Mn or Ln given twice in one type.
+-- Diagnostic 11: match or control fields that disagree or are on a chained file, or an Mn or Ln given twice in one type.
 use Rattle.std.specs.Prelude.{ℕ, ◌==◌, nat_lt, Bool, true, false, not, ◌&&◌, ◌||◌, List, [], ◌∷◌, ◌++◌, Option, Some, None, is_some, map, if◌then◌else◌, option_map}
 use Rattle.std.specs.List.{list_any}
 use Rattle.std.specs.Option.{option_to_list}
@@ -44,7 +44,7 @@ same_type a b = a.group == b.group && same_indicator a.indicator b.indicator
 abbrev pub same_type_mark : TypeMark → TypeMark → Bool
 same_type_mark a b = a.group == b.group && a.indicator == b.indicator && same_level a.level b.level
 
--- ---- the types: a record line's, and those of the OR lines that go on with it
+-- ---- the types: of record lines, and of the OR lines that continue them
 abbrev pub type_of_or : InputStanding → Indicator → Option TypeKey
 type_of_or at indicator = on at.group
   where
@@ -83,8 +83,8 @@ group_mark group level = record { group = group; level = level }
 abbrev pub type_mark : (group : ℕ) → Indicator → Level → TypeMark
 type_mark group indicator level = record { group = group; indicator = indicator_number indicator; level = level }
 
--- a field without a relation counts in all the types of its group; one with a relation in those of that indicator alone, if the
--- group has any
+-- A field without a relation belongs to all types of its group. A field with one belongs only to the types with that indicator, if the
+-- group has any.
 abbrev pub counts_in_some : (Indicator → Bool) → Option Indicator → Bool
 counts_in_some is_type None = true
 counts_in_some is_type (Some indicator) = is_type indicator
@@ -130,20 +130,20 @@ abbrev pub shapes_from : List (InputLine Meaning) → List (Level × Shape)
 shapes_from [] = []
 shapes_from (line ∷ lines) = shapes_on line ++ shapes_from lines
 
--- ---- what the whole sheet says
+-- ---- the marks of the whole source
 pub record Marks : Type 0 where
-  -- whether a group has a type of an indicator
+  -- whether a group has a type with this indicator
   pub is_type : TypeKey → Bool
-  -- the place of the first field with an Mn or Ln in a group: of those that count in all its types, in some, in those of an indicator
+  -- the places of the first field with an Mn or Ln in a group: among fields of all types, of some type, and of the types with an indicator
   pub in_all : GroupMark → Option ℕ
   pub in_some : GroupMark → Option ℕ
   pub in_type : TypeMark → Option ℕ
-  -- the shape of the first field of an Mn or Ln
+  -- the shape of the first field with an Mn or Ln
   pub shape : Level → Option Shape
   -- which of M1 to M9 the first type with match fields has
   pub matched : List Bool
 
--- whether a type has an Mn
+-- whether a type has this match level
 abbrev pub is_matched_by : (in_all : GroupMark → Option ℕ) → (in_type : TypeMark → Option ℕ) → TypeKey → ℕ → Bool
 is_matched_by in_all in_type kind number =
     is_some (in_all (group_mark kind.group (level key.Match number)))
@@ -159,7 +159,7 @@ matched_by in_all in_type kind = map (is_matched_by in_all in_type kind) match_n
 abbrev pub has_any : List Bool → Bool
 has_any matched = list_any (λ b. b) matched
 
--- and which the first type with match fields has; none where no type has any
+-- which of M1 to M9 the first type with match fields has; none if no type has match fields
 abbrev pub first_matched : (in_all : GroupMark → Option ℕ) → (in_type : TypeMark → Option ℕ) → List TypeKey → List Bool
 first_matched in_all in_type [] = map (λ number. false) match_numbers
 first_matched in_all in_type (kind ∷ kinds) =
@@ -195,12 +195,12 @@ abbrev pub is_before : (place : ℕ) → Option ℕ → Bool
 is_before place None = false
 is_before place (Some first) = nat_lt first place
 
--- a type with match fields whose set of them isn't the first type's
+-- the type has match fields, but not the same levels as the first type with match fields
 abbrev pub is_unlike : Marks → TypeKey → Bool
 is_unlike marks kind =
     has_any (matched_by marks.in_all marks.in_type kind) && not (pointwise beq (matched_by marks.in_all marks.in_type kind) marks.matched)
 
--- another field before counts in a type in which this one counts, too
+-- an earlier field has this level in a type that this field belongs to
 abbrev pub is_given_before : Marks → (group place : ℕ) → Option Indicator → Level → Bool
 is_given_before marks group place None level = is_before place (marks.in_some (group_mark group level))
 is_given_before marks group place (Some indicator) level =

@@ -1,6 +1,6 @@
--- Diagnostic 8: an operation that isn't known; a factor, result, H or resulting indicator that is missing, surplus or of the
--- wrong kind; an edit code that doesn't fit its field, a packed alphanumeric field, a field that would begin before position 1.
--- What isn't defined is of any kind: it has 5 alone.
+-- Diagnostic 8: an unknown operation, or an operand that is missing, surplus or of the wrong kind. Operands are factors, result, H and
+-- resulting indicators. It also covers an edit code that doesn't fit its field, a packed text, and a field that would begin before position
+-- 1. An undefined name passes as any kind: it gets only diagnostic 5.
 use Rattle.std.specs.Prelude.{ℕ, ◌+◌, ◌/◌, ◌==◌, nat_le, Bool, true, false, not, ◌&&◌, ◌||◌, List, [], ◌∷◌, Option, Some, None, is_some, is_none}
 use Rattle.std.specs.List.{list_any}
 use Rattle.s3_lines.specs.declared.indicator.Indicator.{Indicator}
@@ -71,7 +71,7 @@ abbrev pub is_chained_file : Factor Meaning → Bool
 is_chained_file (Named meaning) = is_chained_meaning meaning
 is_chained_file _ = false
 
--- a factor that is there
+-- a given factor has the required kind
 abbrev pub is_of_kind : Operand → Factor Meaning → Bool
 is_of_kind operand.Nothing factor = false
 is_of_kind operand.Number factor = is_unknown_factor factor || is_number factor
@@ -89,7 +89,7 @@ abbrev pub factor_fits : Operand → Option (Factor Meaning) → Bool
 factor_fits operand None = is_absent_allowed operand
 factor_fits operand (Some factor) = is_of_kind operand factor
 
--- a result that is there
+-- a given result has the required kind
 abbrev pub result_is_of_kind : Target → Meaning → Bool
 result_is_of_kind target.Nothing meaning = false
 result_is_of_kind target.Number meaning = is_undefined meaning || is_numeric_shape (shape_meant meaning)
@@ -122,7 +122,7 @@ indicators_fit marking.First indicators = are_blank (behind_first indicators)
 abbrev pub are_mixed : Factor Meaning → Factor Meaning → Bool
 are_mixed one two = (is_number one && is_text two) || (is_text one && is_number two)
 
--- a key: of an indexed file as long as the file's, in characters or digits; else a number without decimals
+-- A key: in an indexed file a text or number of the file's key length; otherwise a number without decimals.
 abbrev pub shape_is_key : Option KeyField → Shape → Bool
 shape_is_key (Some key) (Alphanumeric length) = length == key.length
 shape_is_key (Some key) (Numeric digits decimals) = digits == key.length
@@ -166,12 +166,12 @@ row_fits row line =
     && indicators_fit row.indicators line.indicators
     && pair_fits row.pairing line.factor1 line.factor2
 
--- a line without operation bears nothing but conditions
+-- a line without operation may have only conditions
 abbrev pub is_bare : CalculationLine Meaning → Bool
 is_bare line =
     is_none line.factor1 && is_none line.factor2 && is_none line.result && is_none line.definition && not line.half_adjust && are_blank line.indicators
 
--- is_cut: no AN or OR goes on with a line without operation, though another line follows
+-- `is_cut` means that lines follow, but no AN or OR line continues this line without operation
 abbrev pub calculation_unfit : (is_cut : Bool) → CalculationLine Meaning → Bool
 calculation_unfit is_cut line = on line.operation
   where
@@ -189,16 +189,16 @@ abbrev pub input_unfit : InputLine Meaning → Bool
 input_unfit (FieldOfRecord field) = is_packed_text field.form
 input_unfit _ = false
 
--- ---- fields that are put out
+-- ---- output fields
 abbrev pub is_within_end : (end : ℕ) → Option ℕ → Bool
 is_within_end end (Some width) = nat_le width end
 is_within_end end None = false
 
--- n digits, packed
+-- the bytes of a packed number of this many digits
 abbrev pub packed_width : ℕ → ℕ
 packed_width digits = digits / 2 + 1
 
--- it has the kind that its form asks for, and begins at position 1 or later
+-- the field has the kind that its form requires, and begins at position 1 or later
 abbrev pub text_fits : OutputForm → (length end : ℕ) → Bool
 text_fits Plain length end = nat_le length end
 text_fits Packed length end = false

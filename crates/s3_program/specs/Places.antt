@@ -1,6 +1,6 @@
--- Diagnostic 9: AND, OR, AN or OR without a line before it, a field card without a record line or line card, C lines out of
--- order, an MVR not next after a DIV without H in the same section, BEGSR and ENDSR that don't pair, a group left open at the end
--- of the sheet.
+-- Diagnostic 9: a line out of place. A line with AND, OR or AN lacks the line that it continues, or a field card lacks a record line or
+-- line card. Calculation parts are out of order, or an MVR doesn't directly follow a DIV without H in its section. BEGSR and ENDSR don't
+-- pair, or a group is left open at the end of the calculations.
 use Rattle.std.specs.Prelude.{ℕ, ◌==◌, nat_lt, Bool, true, false, not, ◌&&◌, ◌||◌, List, [], ◌∷◌, Option, Some, None, is_none, if◌then◌else◌}
 use Rattle.s3_lines.specs.declared.sheet.InputLine.{InputLine}
 use Rattle.s3_lines.specs.declared.sheet.InputLine.TheVariants.{Record, And as AndCodes, Or as OrCodes, Field as FieldOfRecord}
@@ -16,7 +16,7 @@ use Rattle.s3_program.specs.declared.standing.CalculationStanding.{CalculationSt
 use Rattle.s3_program.specs.declared.standing.OutputStanding.{OutputStanding}
 use Rattle.s3_program.specs.Standings.{goes_on, is_subroutine_time, time_on, begins_subroutine, ends_subroutine, section_on, division_on, group_behind}
 
--- ---- the I and O sheets
+-- ---- Input and Output specifications
 abbrev pub input_misplaced : {N : Type 0} → InputStanding → InputLine N → Bool
 input_misplaced at (Record file indicator codes) = false
 input_misplaced at (AndCodes codes) = not at.is_open
@@ -29,8 +29,8 @@ output_misplaced at (AndCard conditions) = not at.is_open
 output_misplaced at (OrCard conditions) = not at.is_open
 output_misplaced at (FieldCard field) = not at.has_line
 
--- ---- the C sheet
--- what the place of a line goes by: its level entry and its operation
+-- ---- Calculation specifications
+-- the entries that decide whether a line is in place: its level entry and its operation
 abbrev pub Verb : Type 0
 Verb = CalculationTime × Option Operation
 
@@ -43,21 +43,21 @@ abbrev pub is_other : Option CalculationTime → Bool
 is_other None = false
 is_other (Some time) = not (goes_on time)
 
--- lines follow, and no AN or OR goes on with what stands above them
+-- lines follow, but no AN or OR line continues the lines before them
 abbrev pub is_cut_by : List Verb → Bool
 is_cut_by later = is_other (next_time later)
 
 abbrev pub is_end : List Verb → Bool
 is_end later = is_none (next_time later)
 
--- BEGSR and ENDSR among the subroutine lines
+-- whether an SR line is BEGSR; below, whether it is ENDSR
 abbrev pub is_begin : CalculationTime → Option Operation → Bool
 is_begin time operation = is_subroutine_time time && begins_subroutine operation
 
 abbrev pub is_finish : CalculationTime → Option Operation → Bool
 is_finish time operation = is_subroutine_time time && ends_subroutine operation
 
--- the next BEGSR or ENDSR among the subroutine lines is an ENDSR
+-- the next BEGSR or ENDSR on SR lines is an ENDSR
 abbrev pub is_closed_by : Option CalculationTime → List Verb → Bool
 is_closed_by group [] = false
 is_closed_by group (verb ∷ later) =
@@ -66,7 +66,7 @@ is_closed_by group (verb ∷ later) =
     else if is_finish time verb.1 then true
     else is_closed_by (group_behind time verb.1) later
 
--- a detail line behind a total or subroutine line, a total line behind a subroutine line
+-- a detail line after a total or SR line, or a total line after an SR line
 abbrev pub is_late : (part : ℕ) → CalculationTime → Bool
 is_late part Detail = nat_lt 0 part
 is_late part (Total indicator) = nat_lt 1 part
@@ -74,12 +74,12 @@ is_late part Subroutine = false
 is_late part And = false
 is_late part Or = false
 
--- the DIV before is in this section
+-- the previous DIV is in this section
 abbrev pub is_division_of : (section : ℕ) → Option ℕ → Bool
 is_division_of section None = false
 is_division_of section (Some division) = division == section
 
--- an operation in a group with this level entry: BEGSR, ENDSR and what stands in no subroutine
+-- an unpaired BEGSR or ENDSR, or an SR line outside subroutines
 abbrev pub is_astray : CalculationStanding → List Verb → CalculationTime → Option Operation → Bool
 is_astray at later time (Some BeginSubroutine) = not (is_subroutine_time time && is_closed_by None later)
 is_astray at later time (Some EndSubroutine) = is_none at.subroutine || not (is_subroutine_time time)
@@ -90,12 +90,12 @@ is_lost_remainder at time own (Some MoveRemainder) =
     not (is_division_of (section_on at time (Some MoveRemainder)) (division_on at own))
 is_lost_remainder at time own operation = false
 
--- the last line of its group: one with an operation, or with which none goes on
+-- the last line of its group: a line with an operation, or one that no line continues
 abbrev pub ends_group : List Verb → Option Operation → Bool
 ends_group later (Some operation) = true
 ends_group later None = is_end later || is_cut_by later
 
--- a group that the end of the sheet leaves open
+-- the end of the calculations leaves this line's group open
 abbrev pub is_left_open : List Verb → Option Operation → Bool
 is_left_open later (Some operation) = false
 is_left_open later None = is_end later
@@ -104,7 +104,7 @@ abbrev pub is_unknown : Option Operation → Bool
 is_unknown (Some Unknown) = true
 is_unknown _ = false
 
--- by the lines behind; an operation that isn't known isn't judged
+-- whether a line has diagnostic 9; `later` has the lines after it, and an unknown operation isn't checked
 abbrev pub calculation_misplaced : {N : Type 0} → CalculationStanding → List Verb → CalculationLine N → Bool
 calculation_misplaced at later line =
     let time : CalculationTime = time_on at.group line.time in

@@ -1,6 +1,5 @@
--- Diagnostic 6: a file, tag or subroutine defined twice, a field with two kinds, lengths or decimals, a reserved field defined or
--- changed.
--- PAGE may be changed, with 4 digits and 0 decimals: that is its first definition.
+-- Diagnostic 6: a file, tag or subroutine defined twice, a field with two kinds, lengths or decimals, or a reserved field defined or
+-- changed. PAGE may be changed; its first definition has 4 digits and 0 decimals, which others must repeat.
 use Rattle.std.specs.Prelude.{ℕ, ◌+◌, ◌-◌, ◌==◌, Bool, false, not, ◌&&◌, ◌||◌, Option, Some, None}
 use Rattle.s3_cards.specs.declared.name.Name.{Name}
 use Rattle.s3_cards.specs.Names.{same_name}
@@ -24,7 +23,7 @@ use Rattle.s3_program.specs.Rows.{row_of}
 use Rattle.s3_program.specs.Shapes.{same_shape}
 use Rattle.s3_program.specs.Undefined.{is_target}
 
--- UDATE, UMONTH, UDAY, UYEAR
+-- a field of the date: UDATE, UMONTH, UDAY or UYEAR
 abbrev pub is_date : Name → Bool
 is_date name = is_reserved name && not (same_name name page)
 
@@ -32,11 +31,11 @@ abbrev pub is_elsewhere : (place : ℕ) → Option ℕ → Bool
 is_elsewhere place None = false
 is_elsewhere place (Some first) = not (first == place)
 
--- by the place of the first F line of a name
+-- an earlier file has this name; `first` gives the place of the first file of a name
 abbrev pub file_redefined : (first : Name → Option ℕ) → FileStanding → FileLine → Bool
 file_redefined first at file = is_elsewhere at.place (first file.name)
 
--- a field that a line gives a shape, by its first one
+-- a line gives a field another shape than its first definition does, or any shape to a field of the date
 abbrev pub is_reshaped : Shape → Meaning → Bool
 is_reshaped shape (a.Field field) = is_date field.name || not (same_shape field.meaning shape)
 is_reshaped shape _ = false
@@ -55,7 +54,7 @@ abbrev pub is_date_meant : Meaning → Bool
 is_date_meant (a.Field field) = is_date field.name
 is_date_meant _ = false
 
--- a result that a line gives a shape, or a value
+-- a line redefines its result's shape, or changes a field of the date
 abbrev pub result_redefined : Operation → Option Shape → Option Meaning → Bool
 result_redefined operation definition None = false
 result_redefined operation (Some shape) (Some meaning) = is_reshaped shape meaning
@@ -69,7 +68,7 @@ abbrev pub is_second_subroutine : (place : ℕ) → Meaning → Bool
 is_second_subroutine place (a.Subroutine subroutine) = not (subroutine.place == place)
 is_second_subroutine place _ = false
 
--- a TAG or a BEGSR whose name an earlier line has
+-- a TAG or BEGSR whose name an earlier line has
 abbrev pub name_redefined : (place : ℕ) → Operation → Meaning → Bool
 name_redefined place op.Tag meaning = is_second_tag place meaning
 name_redefined place op.BeginSubroutine meaning = is_second_subroutine place meaning
@@ -79,7 +78,7 @@ abbrev pub label_redefined : (place : ℕ) → Operation → Option (Factor Mean
 label_redefined place operation (Some (Named meaning)) = name_redefined place operation meaning
 label_redefined place operation _ = false
 
--- an operation that isn't known isn't judged; a line without operation defines nothing
+-- an unknown operation isn't checked; a line without operation defines nothing
 abbrev pub calculation_redefined : CalculationStanding → CalculationLine Meaning → Bool
 calculation_redefined at line = on line.operation
   where

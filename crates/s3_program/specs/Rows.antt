@@ -1,4 +1,4 @@
--- The table of operations: which factors, result, half adjust and resulting indicators each needs.
+-- The table of operations: the factors, result, half adjust and resulting indicators of each.
 use Rattle.std.specs.Prelude.{Bool, true, false}
 use Rattle.s3_lines.specs.declared.sheet.Operation.{Operation}
 use Rattle.s3_lines.specs.declared.sheet.Operation.TheVariants as op
@@ -16,7 +16,7 @@ abbrev pub row : Operand → Operand → Target → Bool → Marking → Pairing
 row factor1 factor2 result half_adjust indicators pairing =
     record { factor1 = factor1; factor2 = factor2; result = result; half_adjust = half_adjust; indicators = indicators; pairing = pairing }
 
--- factor 1, factor 2, result, H, resulting indicators, and how the factors belong together
+-- factor 1, factor 2, result, whether H is allowed, resulting indicators, and how the factors relate
 abbrev pub row_of : Operation → Row
 row_of op.Add = row operand.Number operand.Number target.Number true marking.Optional pairing.Free
 row_of op.Subtract = row operand.Number operand.Number target.Number true marking.Optional pairing.Free

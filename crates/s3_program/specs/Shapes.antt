@@ -1,11 +1,11 @@
--- The shapes of the fields that lines name, by kind and length.
+-- The shapes of named fields, by kind and length.
 use Rattle.std.specs.Prelude.{◌==◌, Bool, true, false, ◌&&◌, Option, Some, None}
 use Rattle.s3_lines.specs.declared.sheet.Shape.{Shape}
 use Rattle.s3_lines.specs.declared.sheet.Shape.TheVariants.{Alphanumeric, Numeric}
 use Rattle.s3_program.specs.declared.program.Meaning.{Meaning}
 use Rattle.s3_program.specs.declared.program.Meaning.TheVariants as a
 
--- a field's, by its first definition
+-- the shape of a field, from its first definition
 abbrev pub shape_meant : Meaning → Option Shape
 shape_meant (a.Field field) = Some field.meaning
 shape_meant _ = None
@@ -24,7 +24,7 @@ same_shape (Numeric m d) (Numeric n e) = m == n && d == e
 same_shape (Alphanumeric m) (Numeric n e) = false
 same_shape (Numeric m d) (Alphanumeric n) = false
 
--- one kind and one length, in bytes or digits
+-- two shapes of the same kind and the same length, in bytes or digits
 abbrev pub same_kind_and_length : Shape → Shape → Bool
 same_kind_and_length (Alphanumeric m) (Alphanumeric n) = m == n
 same_kind_and_length (Numeric m d) (Numeric n e) = m == n

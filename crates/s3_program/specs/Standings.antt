@@ -1,4 +1,4 @@
--- Where a line stands: what the lines of its sheet above it make of it.
+-- The place of a line: what the earlier lines of the same sheet determine about it.
 use Rattle.std.specs.Prelude.{ℕ, ◌+◌, nat_le, Bool, true, false, not, ◌&&◌, ◌||◌, Option, Some, None, is_some, unwrap_or, if◌then◌else◌}
 use Rattle.std.specs.Option.{option_or}
 use Rattle.s3_lines.specs.declared.sheet.FileLine.{FileLine}
@@ -19,7 +19,7 @@ use Rattle.s3_program.specs.declared.standing.CalculationStanding.{CalculationSt
 use Rattle.s3_program.specs.declared.standing.OutputStanding.{OutputStanding}
 use Rattle.s3_program.specs.FileTable.{is_card_file, is_print_file}
 
--- ---- the F sheet
+-- ---- File Description specifications
 abbrev pub first_file : FileStanding
 first_file = record { place = 0; has_card_file = false; has_print_file = false }
 
@@ -27,7 +27,7 @@ abbrev pub behind_file : FileStanding → FileLine → FileStanding
 behind_file at file =
     record { place = at.place + 1; has_card_file = at.has_card_file || is_card_file file; has_print_file = at.has_print_file || is_print_file file }
 
--- ---- the I sheet: a group is a record line with the AND and OR lines and the fields behind it
+-- ---- Input specifications: a group is a record line with its AND and OR lines and the fields after them
 abbrev pub first_input : InputStanding
 first_input = record { place = 0; group = None; file = Undefined; is_open = false }
 
@@ -37,8 +37,8 @@ behind_input at (AndCodes codes) = record { place = at.place + 1; group = at.gro
 behind_input at (OrCodes indicator codes) = record { place = at.place + 1; group = at.group; file = at.file; is_open = at.is_open }
 behind_input at (FieldOfRecord field) = record { place = at.place + 1; group = at.group; file = at.file; is_open = false }
 
--- ---- the C sheet
--- AN and OR
+-- ---- Calculation specifications
+-- AN and OR lines
 abbrev pub goes_on : CalculationTime → Bool
 goes_on And = true
 goes_on Or = true
@@ -50,7 +50,7 @@ abbrev pub is_subroutine_time : CalculationTime → Bool
 is_subroutine_time Subroutine = true
 is_subroutine_time _ = false
 
--- the level entry of a line's group: its first line's; AN where no line begins the group
+-- the level entry of a line's group: of its first line, or AN if the group has no first line
 abbrev pub time_on : Option CalculationTime → CalculationTime → CalculationTime
 time_on group And = unwrap_or group And
 time_on group Or = unwrap_or group And
@@ -58,7 +58,7 @@ time_on group Detail = Detail
 time_on group (Total indicator) = Total indicator
 time_on group Subroutine = Subroutine
 
--- the part of the sheet that a line moves on to: detail, total, subroutines
+-- the part reached by a line: detail, total or subroutines
 abbrev pub part_on : ℕ → CalculationTime → ℕ
 part_on part Detail = part
 part_on part (Total indicator) = if nat_le 1 part then part else 1
@@ -74,16 +74,16 @@ abbrev pub ends_subroutine : Option Operation → Bool
 ends_subroutine (Some EndSubroutine) = true
 ends_subroutine _ = false
 
--- the section of a subroutine line, by the place of the BEGSR behind which it stands
+-- the section of an SR line: 3 plus the place of its subroutine's BEGSR, or 2 outside subroutines
 abbrev pub subroutine_section : Option ℕ → ℕ
 subroutine_section (Some place) = place + 3
 subroutine_section None = 2
 
--- the subroutine to which a subroutine line belongs: a BEGSR to its own
+-- the subroutine of an SR line; a BEGSR is in its own
 abbrev pub own_subroutine : (place : ℕ) → Option ℕ → Option Operation → Option ℕ
 own_subroutine place subroutine operation = if begins_subroutine operation then Some place else subroutine
 
--- the section of a line whose group has this level entry; a group that no line begins is of the section before
+-- the section of a line whose group has this level entry; a group without a first line is in the section before it
 abbrev pub section_on : CalculationStanding → CalculationTime → Option Operation → ℕ
 section_on at Detail operation = 0
 section_on at (Total indicator) operation = 1
@@ -96,7 +96,7 @@ subroutine_behind at Subroutine operation =
     if ends_subroutine operation then None else own_subroutine at.place at.subroutine operation
 subroutine_behind at time operation = at.subroutine
 
--- the DIV behind which a line, or the group that it goes on with, is the next
+-- the DIV that a line, or the group that it continues, directly follows
 abbrev pub division_on : CalculationStanding → CalculationTime → Option ℕ
 division_on at time = if is_some at.group && not (goes_on time) then None else at.division
 
@@ -125,7 +125,7 @@ behind_calculation at line =
       division = division_behind (division_on at line.time) section line.operation line.half_adjust;
     }
 
--- ---- the O sheet: a line card without a name takes the file of the line before
+-- ---- Output specifications: a line card without a name has the file of the previous line
 abbrev pub first_output : OutputStanding
 first_output = record { file = None; has_line = false; is_open = false }
 

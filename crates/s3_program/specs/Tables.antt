@@ -1,4 +1,4 @@
--- The names of a program: which slot each has, and what bears it.
+-- The names of a program: the slot of each, and its definition.
 use Rattle.std.specs.Prelude.{List, Option, Some, None}
 use Rattle.std.specs.Map.{lookup}
 use Rattle.s3_cards.specs.declared.name.Name.{Name}
@@ -26,7 +26,7 @@ abbrev pub or_undefined : {X : Type 0} → (X → Meaning) → Option X → Mean
 or_undefined known None = meaning.Undefined
 or_undefined known (Some x) = known x
 
--- by name
+-- the meaning of a name
 abbrev pub meaning_of : Tables → Kind → Name → Meaning
 meaning_of tables kind.File name = or_undefined (λ x. meaning.File x) (found_in tables.files name)
 meaning_of tables kind.Field name = or_undefined (λ x. meaning.Field (record { name = name; meaning = x })) (found_in tables.fields name)

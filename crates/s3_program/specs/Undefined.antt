@@ -1,5 +1,5 @@
--- Diagnostic 5: a file, field, tag or subroutine that isn't defined, on each card that uses it.
--- What an operation has no use for isn't looked up.
+-- Diagnostic 5: an undefined file, field, tag or subroutine, on each card that uses it.
+-- Factors that an operation doesn't use aren't checked.
 use Rattle.std.specs.Prelude.{Bool, true, false, ◌&&◌, ◌||◌, Option, Some, None}
 use Rattle.std.specs.Option.{option_or}
 use Rattle.s3_lines.specs.declared.sheet.InputLine.{InputLine}

@@ -1,6 +1,5 @@
--- Diagnostic 12: a combination that isn't in the table of files, a second card file or print file, a record line for an output
--- file that isn't a direct load, an output line that its file doesn't allow, packed data, spaces or skips on a file that can't
--- have them.
+-- Diagnostic 12: a file use outside the table of files, a second card file or print file, or a record line for an output file. A direct
+-- load may have record lines. It also covers output lines, packed data, spaces and skips that the file can't have.
 use Rattle.std.specs.Prelude.{Bool, true, false, not, ◌&&◌, ◌||◌, Option, Some, None}
 use Rattle.std.specs.Option.{option_or}
 use Rattle.s3_lines.specs.declared.sheet.FileLine.{FileLine}
@@ -27,7 +26,7 @@ abbrev pub file_misused : FileStanding → FileLine → Bool
 file_misused at file =
     not (is_in_table file) || (is_card_file file && at.has_card_file) || (is_print_file file && at.has_print_file)
 
--- of a file that isn't defined nothing is judged
+-- lines of an undefined file aren't checked
 abbrev pub is_off_disk : Meaning → Bool
 is_off_disk (a.File file) = not (is_disk file.device)
 is_off_disk _ = false

@@ -1,4 +1,4 @@
--- Calls among subroutines: each EXSR is one, none is forbidden, and so a course has room for one more.
+-- Subroutine calls: each EXSR is a call, none is forbidden, so a course has capacity for one more.
 use Rattle.std.proofs.Common.{◌≡◌, ℕ, ◌+◌, ◌-◌, ◌<◌, ◌==◌, List, [], ◌∷◌, ◌++◌, Bool, true, false, ◌&&◌, ◌||◌, refl, sym, ◌∙◌, ap, subst, arith, zero, suc, inl, inr, take, length, get_or}
 use Rattle.std.specs.Prelude.{Option, Some, None, map, slice_get, is_some, nat_eq, nat_lt, if◌then◌else◌}
 use Rattle.std.specs.List.{list_any}
@@ -164,7 +164,7 @@ chain_of p m subroutine (spot ∷ spots) here calls chain =
     let e : m + suc (length spots) ≡ suc m + length spots = omega arith in
     ap (λ n. ends_chain (calls_of p) n (subroutine_in here)) e ∙ chain_of p (suc m) (Some r.callee) spots here calls.1 longer
 
--- so there is room at an EXSR
+-- a course has capacity for a call at an EXSR
 pub room_at : (p : Program) (spots : List Spot) (here : Spot) (place : ℕ) (line : CalculationLine Reference) (callee : ℕ) → AreCalls p None spots here → IsLineAt p place line op.ExecuteSubroutine
     → IsOfSection p here place line → called (meant_factor p line.factor2) ≡ Some callee → length spots < 8
 room_at p spots here place line callee calls at inside callee_is =
@@ -200,7 +200,7 @@ pub goes_further : (p : Program) (anew : Anew) (go : Rest) (spots : List Spot) (
 goes_further p anew go [] last = refl
 goes_further p anew go (spot ∷ spots) last = goes_further p anew (rest_at p anew go spot) spots last
 
--- at its end a section does what follows
+-- a section at its end continues with `go`
 pub at_end : (p : Program) (anew : Anew) (go : Rest) (spot : Spot) → rest_of p spot.section spot.place ≡ [] → rest_at p anew go spot ≡ go
 unfolding calculated
 at_end p anew go spot none = ap (calculated (source_named p) anew (rest_of p spot.section spot.begin) go None) none
@@ -209,7 +209,7 @@ pub left_last : (p : Program) (old : List Spot) (here : Spot) → (0 < length ol
 left_last p [] here empty none anew go = at_end p anew go here none
 left_last p (spot ∷ spots) here empty none anew go = absurd (empty (omega arith))
 
--- a list without a last item has none
+-- a nonempty list has a last element
 pub none_last : (spots : List Spot) → None ≡ slice_get spots (length spots - 1) → 0 < length spots → ⊥
 none_last [] none some = absurd (omega (arith, some))
 none_last (spot ∷ spots) none some =

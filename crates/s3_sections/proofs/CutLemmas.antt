@@ -1,4 +1,4 @@
--- The calculations of a valid sheet, cut at a line with an operation.
+-- The calculations of a valid program, split at a line with an operation.
 use Rattle.std.proofs.Common.{◌≡◌, ℕ, ◌<◌, List, [], ◌∷◌, ◌++◌, Bool, true, false, refl, sym, ◌∙◌, ap, subst, arith, zero, suc, inl, inr, take, drop}
 use Rattle.std.specs.Prelude.{Option, Some, None, map, slice_get, is_some}
 use Rattle.std.specs.List.{list_any}
@@ -31,7 +31,7 @@ pub none_some : {X : Type 0} (x : X) → None ≡ Some x → ⊥
 none_some x h = true≢false (sym (ap (λ o. is_some o) h))
 
 -- ---- level entries
--- the time that goes into a line is that of its group, where one has begun
+-- the level entry carried to a line is its group's, if a group has begun
 abbrev pub Agrees : CalculationStanding → CalculationTime → Type 0
 Agrees at time = (group : CalculationTime) → at.group ≡ Some group → time ≡ group
 
@@ -44,7 +44,7 @@ owns (Some t) time And agrees grouped = agrees t refl
 owns None time Or agrees grouped = absurd (true≢false grouped)
 owns (Some t) time Or agrees grouped = agrees t refl
 
--- and so behind the line
+-- the level entry carried to the next line is its group's too
 pub agrees_on : {N : Type 0} (at : CalculationStanding) (line : CalculationLine N) (time : CalculationTime) → group_time time line.time ≡ own_time at line → Agrees (behind_calculation at line) (group_time time line.time)
 agrees_on {N} at line time own group h = own ∙ step line.operation h
   where
@@ -52,7 +52,7 @@ agrees_on {N} at line time own group h = own ∙ step line.operation h
     step None h = some_same (own_time at line) group h
     step (Some operation) h = absurd (none_some group h)
 
--- where no group is open the next line begins one
+-- if no group is open, the next line begins one
 apart : (time : CalculationTime) → goes_on (time_on None time) ≡ false → goes_on time ≡ false
 apart Detail h = refl
 apart (Total level) h = refl
@@ -67,7 +67,7 @@ closed_group at line whole = step line.operation whole
     step None whole = absurd (true≢false (sym whole))
     step (Some operation) whole = refl
 
--- the first line, if there is one, is no AN or OR
+-- the first line, if there is one, isn't AN or OR
 abbrev pub BeginsWith : List (CalculationLine Reference) → Type 0
 BeginsWith lines = (line : CalculationLine Reference) → slice_get lines 0 ≡ Some line → goes_on line.time ≡ false
 
@@ -77,7 +77,7 @@ begins_behind at [] all closed line there = absurd (none_some line there)
 begins_behind at (l ∷ ls) all closed line there =
     apart line.time (ap (λ group. goes_on (time_on group line.time)) (sym closed) ∙ (ap (λ (x : CalculationLine Reference). goes_on (time_on at.group x.time)) (sym (some_same l line there)) ∙ all.0.grouped))
 
--- then no group before matters
+-- earlier groups don't matter to lines that begin a group
 pub fresh : (p : Program) (one two : CalculationTime) (lines : List (CalculationLine Reference)) → BeginsWith lines → named_calculations p one [] lines ≡ named_calculations p two [] lines
 fresh p one two [] begins = refl
 fresh p one two (line ∷ lines) begins =
@@ -158,7 +158,7 @@ cut p at time groups (l ∷ ls) (suc n) line all agrees there whole =
           }
     ]
 
--- no line of a name gives no calculation of it
+-- without a line of a name there is no calculation of that name
 pub none_of : (p : Program) (time : CalculationTime) (groups : List (List Condition)) (lines : List (CalculationLine Reference)) (test : CalculationLine Name → Bool)
     → ((j : ℕ) (other : CalculationLine Reference) → slice_get lines j ≡ Some other → is_some other.operation ≡ true → test (named_line p other) ≡ false)
     → list_any (λ (c : Calculation). test c.line) (named_calculations p time groups lines) ≡ false

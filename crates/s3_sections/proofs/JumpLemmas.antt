@@ -41,7 +41,7 @@ use Rattle.s3_sections.proofs.LabelLemmas.{place_at, TagNamed, TagAt, tag_at, ta
 use Rattle.s3_sections.proofs.NameLemmas.{is_tag_card, other_tag, this_tag, stays_inside, begins_card, other_subroutine, this_subroutine}
 use Rattle.s3_sections.proofs.SpotLemmas.{CutAt, cut_to, Inside, inside, is_detail_so, is_total_so, ends_so, not_both, sheet, sheet_keeps, sheet_sits, InsideLine, inside_line, get_drop, begins_next, begins_first}
 
--- ---- lists of calculations cut at a tag
+-- ---- calculations split at a tag
 pub passed : (source : Source) (anew : Anew) (whole : List Calculation) (go : Rest) (tag : Name) (before : List Calculation) (c : Calculation) (behind : List Calculation) → list_any (is_tag tag) before ≡ false
     → is_tag tag c ≡ true → calculated source anew whole go (Some tag) (before ++ c ∷ behind) ≡ calculated source anew whole go None behind
 unfolding calculated
@@ -96,7 +96,7 @@ nothing_behind : (xs ys : List Calculation) → xs ++ ys ≡ [] → ys ≡ []
 nothing_behind [] ys h = h
 nothing_behind (x ∷ xs) ys h = absurd (none_some x (sym (ap (λ (cs : List Calculation). slice_get cs 0) h)))
 
--- ---- a section cut at one of its lines
+-- ---- a section split at one of its lines
 pub record Split (p : Program) (sec : Section) (begin k t : ℕ) (line : CalculationLine Reference) : Type 0 where
   pub before : List Calculation
   pub calculation : Calculation
@@ -141,7 +141,7 @@ numbered_open at (Total level) o begsr grouped on h = absurd (omega (arith, h))
 numbered_open at And o begsr grouped on h = absurd (true≢false grouped)
 numbered_open at Or o begsr grouped on h = absurd (true≢false grouped)
 
--- ---- from one place to another in an open subroutine no ENDSR stands
+-- ---- no ENDSR lies between two places of an open subroutine
 never_opens : (at : CalculationStanding) (own : CalculationTime) (o : Option Operation) (begsr : ℕ) → (at.subroutine ≡ Some begsr → ⊥) → begsr < at.place → subroutine_behind at own o ≡ Some begsr → ⊥
 never_opens at Detail o begsr closed below h = closed h
 never_opens at (Total level) o begsr closed below h = closed h
@@ -248,7 +248,7 @@ split p section.Subroutine begin k t line is from there whole unbegun ended numb
     }
 
 -- ---- GOTO
--- a line of a section stands behind its beginning
+-- a line of a section comes at or after the section's beginning
 begins_above : (p : Program) (sec : Section) (begin k : ℕ) (line : CalculationLine Reference) → Continues p sec begin begin → slice_get p.calculations.items k ≡ Some line
     → begins_subroutine line.operation ≡ false → number_at p k line ≡ number_of sec begin → begin ≤ k
 begins_above p section.Detail begin k line is there unbegun numbered = omega (arith, is)
@@ -269,7 +269,7 @@ begins_above p section.Subroutine begin k line is there unbegun numbered =
 card_tag : (name : Name) (c : Calculation) → is_tag name c ≡ is_tag_card name c.line
 card_tag name c = refl
 
--- the section goes on behind each of its lines that neither begins nor ends a subroutine
+-- a section continues after each of its lines that isn't BEGSR or ENDSR
 pub behind_line : (p : Program) (spot : Spot) (place : ℕ) (line : CalculationLine Reference) → IsSpot p spot → slice_get p.calculations.items place ≡ Some line → is_some line.operation ≡ true
     → begins_subroutine line.operation ≡ false → ends_subroutine line.operation ≡ false → IsOfSection p spot place line → IsIn p spot.section spot.begin (suc place)
 behind_line p spot place line is there whole unbegun unended inside =
@@ -306,7 +306,7 @@ tag_split p spot place k line at inside t is from =
       behind = record { apart = begins_next p t.entry.1.place tag.line tag.is.there whole; continues = s.behind };
     }
 
--- the spot behind the tag
+-- the spot at a place of the same section
 abbrev pub target : Spot → ℕ → Spot
 target spot place = record { section = spot.section; begin = spot.begin; place = place }
 

@@ -1,4 +1,4 @@
--- Tags and subroutines of a valid program: each name has one line, and the tables know its place.
+-- Tags and subroutines of a valid program: each name has one line, whose place is in the tables.
 use Rattle.std.proofs.Common.{◌≡◌, ℕ, ◌+◌, ◌≤◌, ◌==◌, List, [], ◌∷◌, Bool, true, false, refl, sym, ◌∙◌, ap, subst, arith, zero, suc, take}
 use Rattle.std.specs.Prelude.{Option, Some, None, map, slice_get, unwrap_or, nat_eq, option_map}
 use Rattle.std.specs.List.{cons_option}
@@ -114,7 +114,7 @@ one_label {X} on where_is places at (l ∷ ls) j k x y here there same =
         absurd (omega (arith, first, second, same))
     step (Some z) e (suc j) (suc k) here there again later = ap suc (again j k here there same)
 
--- ---- tags and BEGSR as such labels
+-- ---- tags and BEGSR as labels
 tag_label : Program → On TagPlace
 tag_label p at line = tag_on at (meant_line p line)
 
@@ -172,7 +172,7 @@ pair_at same (z ∷ zs) [] k x all there = absurd (true≢false (sym all))
 pair_at {A} {B} same (z ∷ zs) (y ∷ ys) zero x all there = (y, refl, subst (λ (w : A). same w y ≡ true) (some_same z x there) (and_parts _ _ all).0)
 pair_at same (z ∷ zs) (y ∷ ys) (suc k) x all there = pair_at same zs ys k x (and_parts _ _ all).1 there
 
--- one name has one slot
+-- a name has only one slot
 pub one_slot : {X : Type 0} (table : List (Name × X)) (j k : ℕ) (e f : Name × X) → are_distinct (keys_of table) ≡ true → slice_get table j ≡ Some e → slice_get table k ≡ Some f → same_name e.0 f.0 ≡ true → j ≡ k
 one_slot table j k e f distinct here there same =
     let at : slot_in table e.0 ≡ j = own_slot table j e distinct here in
@@ -271,7 +271,7 @@ one_subroutine p j k e f here there same =
     let two = subroutine_in_labels p k f there in
     one_label (subroutine_label p) (λ place. place) (subroutine_places p) first_calculation p.calculations.items j k one.0 two.0 one.1 two.1 (sym one.2 ∙ (same ∙ two.2))
 
--- ---- what a factor names
+-- ---- the label that a factor names
 pub record TagNamed (p : Program) (factor : Option (Factor Reference)) : Type 0 where
   pub slot : ℕ
   pub entry : Name × TagPlace

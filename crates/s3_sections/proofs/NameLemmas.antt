@@ -1,4 +1,4 @@
--- Which line bears a name: that at its place in the table, and no other.
+-- The line of a name: the line at its place in the table, and only that one.
 use Rattle.std.proofs.Common.{◌≡◌, ℕ, ◌==◌, List, [], Bool, true, false, not, refl, sym, ◌∙◌, ap, arith, inl, inr}
 use Rattle.std.specs.Prelude.{Option, Some, None, map, slice_get}
 use Rattle.std.proofs.lemmas.Bool.{cases_Bool}
@@ -25,7 +25,7 @@ use Rattle.s3_sections.proofs.SheetLemmas.{ClearAt, opposite, or_parts, some_sam
 use Rattle.s3_sections.proofs.SpotLemmas.{sheet_clear}
 use Rattle.s3_sections.proofs.LabelLemmas.{place_at, labels, one_slot, one_tag, one_subroutine, number_is, TagNamed, SubroutineNamed, tag_named, subroutine_named, line_of, tag_name, subroutine_name, tag_meant, subroutine_meant}
 
--- the place above a line
+-- the place that the lines before a line determine for it
 standing_place : (p : Program) (place : ℕ) (line : CalculationLine Reference) → slice_get p.calculations.items place ≡ Some line → (standing_at p place).place ≡ place
 standing_place p place line there = place_at first_calculation p.calculations.items place line there ∙ omega arith
 
@@ -43,7 +43,7 @@ own_tag p place line is =
     let same : not (t.entry.1.place == (standing_at p place).place) ≡ false = ap (label_redefined (standing_at p place).place op.Tag) (sym (tag_meant p line.factor1 t)) ∙ second in
     (t, number_is t.entry.1.place (standing_at p place).place (opposite _ same) ∙ standing_place p place line is.there)
 
--- a card with this tag
+-- whether a card is this TAG
 abbrev pub is_tag_card : Name → CalculationLine Name → Bool
 is_tag_card name card = is_tag name (record { time = card.time; groups = []; line = card })
 
@@ -95,7 +95,7 @@ own_subroutine p place line is =
     let same : not (t.entry.1.place == (standing_at p place).place) ≡ false = ap (label_redefined (standing_at p place).place op.BeginSubroutine) (sym (subroutine_meant p line.factor1 t)) ∙ second in
     (t, number_is t.entry.1.place (standing_at p place).place (opposite _ same) ∙ standing_place p place line is.there)
 
--- a card that begins this subroutine
+-- whether a card is the BEGSR of this subroutine
 abbrev pub begins_card : Name → CalculationLine Name → Bool
 begins_card name card = begins name (record { time = card.time; groups = []; line = card })
 

@@ -1,4 +1,4 @@
--- The C sheet of a valid program: what each line keeps where it stands, and what a standing keeps of the lines behind it.
+-- The calculations of a valid program: facts about each line at its place, and about the lines after a place.
 use Rattle.std.proofs.Common.{◌≡◌, ℕ, ◌+◌, ◌<◌, ◌≤◌, List, [], ◌∷◌, Bool, true, false, not, ◌&&◌, ◌||◌, refl, sym, ◌∙◌, ap, subst, arith, zero, suc, inl, inr, take, drop}
 use Rattle.std.specs.Prelude.{Option, Some, None, map, slice_get, unwrap_or, is_some, nat_le}
 use Rattle.std.specs.List.{list_any}
@@ -24,7 +24,7 @@ use Rattle.s3_program.specs.Conditions.{verb_of, calculation_holds}
 use Rattle.s3_operations.specs.Inner.Fits.{meant_line}
 use Rattle.s3_sections.specs.Inner.Sections.{standing_behind}
 
--- ---- of conditions
+-- ---- conditions
 pub or_parts : (a b : Bool) → (a || b) ≡ false → (a ≡ false) × (b ≡ false)
 or_parts true b h = absurd (true≢false h)
 or_parts false b h = (refl, h)
@@ -43,7 +43,7 @@ holds_none : (a b : Bool) → not (a || b) ≡ true → (a ≡ false) × (not b 
 holds_none true b h = absurd (true≢false (sym h))
 holds_none false b h = (refl, h)
 
--- ---- what a line keeps, over lines of meanings
+-- ---- facts about a line with meanings
 pub record ClearAt (forbidden : Call → Bool) (at : CalculationStanding) (later : List Verb) (line : CalculationLine Meaning) : Type 0 where
   pub unredefined : calculation_redefined at line ≡ false
   pub fit : calculation_unfit (is_cut_by later) line ≡ false
@@ -61,7 +61,7 @@ clear forbidden at later line h =
     let ten = holds_none (holds 10) (list_any holds (11 ∷ 12 ∷ [])) nine.1 in
     record { unredefined = six.0; fit = eight.0; placed = nine.0; unstrayed = ten.0 }
 
--- ---- what its place asks of a line, whatever it names
+-- ---- requirements of a line's place, whatever the line names
 abbrev pub own_time : {N : Type 0} → CalculationStanding → CalculationLine N → CalculationTime
 own_time at line = time_on at.group line.time
 
@@ -119,7 +119,7 @@ clear_at p forbidden at (l ∷ ls) zero line all there = (
 )
 clear_at p forbidden at (l ∷ ls) (suc k) line all there = clear_at p forbidden (behind_calculation at l) ls k line (and_parts _ _ all).1 there
 
--- a line behind one without an operation goes on with it
+-- a line after one without an operation continues it
 uncut : (cut bare : Bool) → (cut || bare) ≡ false → cut ≡ false
 uncut true bare h = h
 uncut false bare h = refl
@@ -160,7 +160,7 @@ sits_at at [] k line all there = absurd (none_some line there)
 sits_at {N} at (l ∷ ls) zero line all there = (map verb_of ls, subst (λ (x : CalculationLine N). Sits at x (map verb_of ls)) (some_same l line there) all.0)
 sits_at at (l ∷ ls) (suc k) line all there = sits_at (behind_calculation at l) ls k line all.1 there
 
--- the standing behind a line
+-- the place after one more line
 pub standing_more : {N : Type 0} (at : CalculationStanding) (lines : List (CalculationLine N)) (k : ℕ) (line : CalculationLine N) → slice_get lines k ≡ Some line
     → standing_behind at (take (suc k) lines) ≡ behind_calculation (standing_behind at (take k lines)) line
 unfolding standing_behind
@@ -178,7 +178,7 @@ standing_further at (line ∷ lines) (suc k) n =
     let e : suc k + n ≡ suc (k + n) = omega arith in
     standing_further (behind_calculation at line) lines k n ∙ ap (λ m. standing_behind at (take m (line ∷ lines))) (sym e)
 
--- ---- what a standing keeps
+-- ---- invariant of a place
 unfoldable pub rank : CalculationTime → ℕ
 rank Detail = 0
 rank (Total level) = 1
@@ -186,7 +186,7 @@ rank Subroutine = 2
 rank And = 0
 rank Or = 0
 
--- the part is that of the group, a subroutine is open in the last part, and its next BEGSR or ENDSR ends it
+-- The part is the group's part. A subroutine can be open only in the last part, and its next BEGSR or ENDSR is an ENDSR.
 pub record Keeps {N : Type 0} (at : CalculationStanding) (lines : List (CalculationLine N)) : Type 0 where
   pub small : at.part ≤ 2
   pub ranked : (time : CalculationTime) → at.group ≡ Some time → rank time ≡ at.part
@@ -194,7 +194,7 @@ pub record Keeps {N : Type 0} (at : CalculationStanding) (lines : List (Calculat
   pub earlier : (begsr : ℕ) → at.subroutine ≡ Some begsr → begsr < at.place
   pub closing : (begsr : ℕ) → at.subroutine ≡ Some begsr → is_closed_by at.group (map verb_of lines) ≡ true
 
--- the level entry of a line is of the part that the line moves on to
+-- the level entry of a line belongs to the part that the line reaches
 pub own_rank : (part : ℕ) (group : Option CalculationTime) (time : CalculationTime) → part ≤ 2 → ((t : CalculationTime) → group ≡ Some t → rank t ≡ part) → is_late part time ≡ false
     → goes_on (time_on group time) ≡ false → rank (time_on group time) ≡ part_on part time
 unfolding rank
@@ -228,7 +228,7 @@ begin_is (Some op.BeginSubroutine) h = refl
 begin_is None h = absurd (true≢false (sym h))
 begin_is (Some o) h = absurd (true≢false (sym h))
 
--- what a line does to the subroutine
+-- a line other than BEGSR and ENDSR keeps the current subroutine
 behind_is : (place : ℕ) (before : Option ℕ) (time : CalculationTime) (o : Option Operation) (at : CalculationStanding) → at.place ≡ place → at.subroutine ≡ before
     → is_begin time o ≡ false → is_finish time o ≡ false → subroutine_behind at time o ≡ before
 behind_is place before Detail o at p s b f = s
@@ -271,7 +271,7 @@ finish_none at (Total level) o begsr f h = true≢false (sym f)
 finish_none at And o begsr f h = true≢false (sym f)
 finish_none at Or o begsr f h = true≢false (sym f)
 
--- a BEGSR that isn't astray is closed
+-- a BEGSR in place has an ENDSR
 begun_closed : (at : CalculationStanding) (later : List Verb) (own : CalculationTime) (o : Option Operation) → is_begin own o ≡ true → (ends_group later o && is_astray at later own o) ≡ false
     → is_closed_by (group_behind own o) later ≡ true
 begun_closed at later own o begins held = step o (begin_is o (both_are _ _ begins).1) (both_are _ _ begins).0 held

@@ -1,4 +1,4 @@
--- The total lines: no total line stands before the first of them, and no detail line behind.
+-- No total line comes before the first of them, and no detail line after it.
 use Rattle.std.proofs.Common.{◌≡◌, ℕ, ◌+◌, ◌<◌, ◌≤◌, List, [], ◌∷◌, true, false, refl, sym, ◌∙◌, ap, subst, arith, zero, suc, inl, inr, take, drop}
 use Rattle.std.specs.Prelude.{Option, Some, None, filter, slice_get, is_some, nat_lt, if◌then◌else◌}
 use Rattle.std.proofs.lemmas.Bool.{cases_Bool, true≢false}
@@ -27,7 +27,7 @@ use Rattle.s3_sections.proofs.SheetLemmas.{AllSit, Keeps, own_time, some_same, r
 use Rattle.s3_sections.proofs.CutLemmas.{named_calculations, none_some, agrees_on}
 use Rattle.s3_sections.proofs.SpotLemmas.{is_total_so, ordered, no_detail, sheet_sits, sheet_keeps, get_drop}
 
--- how many lines stand before the first total line or subroutine
+-- the number of lines before the first total or SR line
 early : List (CalculationLine Reference) → ℕ
 early [] = 0
 early (line ∷ lines) = if begins_totals line.time then 0 else suc (early lines)
@@ -115,7 +115,7 @@ skipped p time groups (l ∷ ls) h = elim (cases_Bool (begins_totals l.time)) [
       ]
 ]
 
--- ---- no detail line behind
+-- ---- no detail line after
 late_rank : (time : CalculationTime) → begins_totals time ≡ true → 1 ≤ rank time
 unfolding rank
 late_rank Detail h = absurd (true≢false (sym h))
@@ -221,7 +221,7 @@ total_late Subroutine h = absurd (true≢false (sym h))
 total_late And h = absurd (true≢false (sym h))
 total_late Or h = absurd (true≢false (sym h))
 
--- a total line stands behind them
+-- before the first total or SR line no group has such a level entry
 before_totals : (at : CalculationStanding) (lines : List (CalculationLine Reference)) (n : ℕ) (line : CalculationLine Reference) → n < early lines → slice_get lines n ≡ Some line
     → ((time : CalculationTime) → at.group ≡ Some time → begins_totals time ≡ false)
     → begins_totals (own_time (standing_behind at (take n lines)) line) ≡ false

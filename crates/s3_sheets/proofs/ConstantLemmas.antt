@@ -1,4 +1,4 @@
--- A constant is read as the text that it was written for, and nothing else is a constant.
+-- A constant is read as the text it was written for, and other columns aren't a constant.
 use Rattle.std.proofs.Common.{◌≡◌, ◌≢◌, ℕ, zero, suc, List, [], ◌∷◌, ◌++◌, true, false, refl, sym, ◌∙◌, ap, subst, inl, inr, length, replicate, ◌↔◌}
 use Rattle.std.specs.Prelude.{Option, Some, None, option_map, ◌==◌}
 use Rattle.std.specs.Option.{option_and_then}
@@ -30,7 +30,7 @@ doubled_other code text more is = rw is refl
 end_read : (n : ℕ) → text_of false (0x7d ∷ replicate n 0x40) ≡ Some []
 end_read n = may_end 0x7d (replicate n 0x40) refl ∙ ap (option_map (λ text. text)) (ended_by_blanks n)
 
--- what is written is read
+-- a written text is read back
 read_back : (text : List ℕ) (n : ℕ) → text_of false (doubled text ++ 0x7d ∷ replicate n 0x40) ≡ Some text
 read_back [] n = end_read n
 read_back (code ∷ text) n = elim (cases_Bool (code == 0x7d)) [
@@ -49,7 +49,7 @@ unfolding constant_text
 written_read [] n some = absurd (some refl)
 written_read (code ∷ text) n some = ap (option_and_then unless_empty) (read_back (code ∷ text) n)
 
--- an option that a function makes of another one
+-- the inverse of `option_map`
 inverted : (f : List ℕ → List ℕ) (o : Option (List ℕ)) (text : List ℕ) → option_map f o ≡ Some text → (more : List ℕ) × (o ≡ Some more) × (f more ≡ text)
 inverted f None text e = absurd cc
 inverted f (Some more) text e = (more, refl, same_some (f more) text e)
@@ -71,7 +71,7 @@ all_blank (code ∷ codes) e = elim (cases_Bool (code == 0x40)) [
 abbrev pub IsWritten : List ℕ → List ℕ → Type 0
 IsWritten codes text = (n : ℕ) × (codes ≡ doubled text ++ 0x7d ∷ replicate n 0x40)
 
--- an apostrophe of the text
+-- an apostrophe within the text
 apostrophe_more : (rest more text : List ℕ) (code next : ℕ) → (code == 0x7d) ≡ true → (next == 0x7d) ≡ true → IsWritten rest more → next ∷ more ≡ text
     → IsWritten (code ∷ next ∷ rest) text
 apostrophe_more rest more text code next is is' so_far e =
@@ -106,7 +106,7 @@ some_nil text e = ap value e
     value None = []
     value (Some x) = x
 
--- what is read was written
+-- a text that was read was written so
 was_written : (codes text : List ℕ) → text_of false codes ≡ Some text → IsWritten codes text
 unfolding text_of
 was_written [] text e = absurd cc

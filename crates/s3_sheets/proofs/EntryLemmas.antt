@@ -1,4 +1,4 @@
--- Lemmas on factors.
+-- Lemmas about factors.
 use Rattle.std.proofs.Common.{◌≡◌, ℕ, suc, ◌+◌, ◌-◌, ◌*◌, ◌^◌, ◌<◌, ◌≤◌, List, [], ◌∷◌, ◌++◌, true, refl, sym, ◌∙◌, ap, arith, inl, inr, length, take, drop, replicate, lit<, length-append}
 use Rattle.std.specs.Prelude.{Option, Some, None, option_map, map, nat_lt, ◌==◌}
 use Rattle.std.specs.List.{list_all, prefix_len}
@@ -20,7 +20,7 @@ use Rattle.s3_sheets.specs.Inner.Literals.{doubled, written, IsConstant}
 use Rattle.s3_sheets.proofs.ConstantLemmas.{written_constant}
 
 -- ---- texts
--- the first eight codes of a constant that has no more
+-- the first eight codes of a constant with at most eight
 pub shortened : (text : List ℕ) → length text ≤ 8 → take 8 (text ++ replicate (24 - length text) 0x40) ≡ text ++ replicate (8 - length text) 0x40
 shortened text short =
     let e : 8 ≡ length text + (8 - length text) = omega arith in
@@ -35,7 +35,7 @@ doubled_longer (code ∷ text) = elim (cases_Bool (code == 0x7d)) [
   | inr other ↦ rw other (let more = doubled_longer text in omega arith)
 ]
 
--- a constant is shorter than its columns by the apostrophes
+-- a constant's text is two codes shorter than its columns, because of the apostrophes
 pub text_shorter : (columns text : List ℕ) → constant_text columns ≡ Some text → length text + 2 ≤ length columns
 text_shorter columns text e =
     let is : IsConstant columns text = written_constant columns text e in
@@ -65,7 +65,7 @@ digits_in_front (code ∷ codes) = elim (cases_Bool (is_digit code)) [
   | inr bad ↦ rw bad refl
 ]
 
--- the digits of both parts make no more than ten digits may
+-- the digits of both parts stay below the largest number of ten digits
 pub room_behind : (w a b : ℕ) → w < (0 + 1) * 10 ^ a → a + b ≤ 10 → (w + 1) * 10 ^ b ≤ 10 ^ 10
 room_behind w a b below few =
     let one : w + 1 ≤ 10 ^ a = omega arith in

@@ -1,4 +1,4 @@
--- A factor that is read is in its range.
+-- A factor that is read is in range.
 use Rattle.std.proofs.Common.{◌≡◌, ◌≢◌, ℕ, zero, suc, ◌+◌, ◌^◌, ◌<◌, ◌≤◌, List, [], ◌∷◌, ◌++◌, Bool, true, false, refl, sym, ◌∙◌, arith, subst, inl, inr, length, take, drop, length-append, length-drop}
 use Rattle.std.specs.Prelude.{Option, Some, None, option_map, map, nat_lt, ◌==◌, ◌&&◌, unsigned_abs}
 use Rattle.std.specs.List.{list_all, prefix_len}
@@ -60,7 +60,7 @@ point_shorter : (entry : List ℕ) → length (without_point entry) ≤ length e
 point_shorter [] = omega arith
 point_shorter (code ∷ codes) = grind (arith, nat_tests)
 
--- without digits in front of it, a point takes a place
+-- a decimal point without digits before it takes one column
 decimals_fewer : (unsigned : List ℕ) → prefix_len is_digit unsigned ≡ 0 → length unsigned ≤ 10 → prefix_len is_digit (without_point unsigned) ≤ 9
 decimals_fewer [] none short = omega arith
 decimals_fewer (code ∷ codes) none short = elim (cases_Bool (code == 0x4b)) [

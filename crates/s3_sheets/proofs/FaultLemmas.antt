@@ -1,4 +1,4 @@
--- Lemmas on the diagnostics of a card by its rules.
+-- Lemmas about the diagnostics of a card by its rules.
 use Rattle.std.proofs.Common.{◌≡◌, ℕ, ◌+◌, ◌<◌, List, [], ◌∷◌, Bool, true, false, refl, sym, ◌∙◌, ap, arith, length, take, get_or}
 use Rattle.std.specs.Prelude.{◌||◌, map}
 use Rattle.std.specs.List.{list_any}
@@ -14,7 +14,7 @@ or_false : (a b : Bool) → (a || (b || false)) ≡ (a || b)
 or_false a true = refl
 or_false a false = refl
 
--- one more of those among which is searched
+-- a search among one more element
 any_more : {X Y : Type 0} (q : Y → Bool) (v : X → Y) (xs : List X) (i : ℕ) (d : X) → i < length xs
     → list_any q (map v (take (i + 1) xs)) ≡ (list_any q (map v (take i xs)) || q (v (get_or xs i d)))
 any_more q v xs i d in' =

@@ -1,4 +1,4 @@
--- The lines of cards without a diagnostic, card by card: in the order of the sheets, in their ranges, with ascending cards.
+-- The lines of cards without a diagnostic, card by card: in the order of the sheets, in range, with ascending card numbers.
 use Rattle.std.proofs.Common.{◌≡◌, ℕ, zero, suc, ◌+◌, ◌<◌, ◌≤◌, List, [], ◌∷◌, ◌++◌, Bool, true, false, refl, sym, ◌∙◌, ap, arith, subst, inl, inr, length, max, add-one}
 use Rattle.std.specs.Prelude.{Option, Some, None, nat_le, nat_lt, ◌==◌, ◌&&◌, map, filter}
 use Rattle.std.specs.Option.{option_to_list}
@@ -20,7 +20,7 @@ use Rattle.s3_sheets.proofs.LineLemmas.{are_in_range, card_passes, neither}
 use Rattle.s3_sheets.proofs.ProgressLemmas.{IsKept, none_kept, kept_next, misplaced_same}
 use Rattle.s3_sheets.proofs.RangeLemmas.{both}
 
--- ---- what no diagnostic says
+-- ---- cards without diagnostics
 none_filtered : {X : Type 0} (test : X → Bool) (x : X) (xs : List X) → filter test (x ∷ xs) ≡ [] → (test x ≡ false) × (filter test xs ≡ [])
 none_filtered test x xs e = elim (cases_Bool (test x)) [
   | inl good ↦ absurd (let f = rw good at e in cc)
@@ -56,12 +56,12 @@ before_free cards n e =
     (b.0, one_free cards n b.1)
 
 -- ---- lists of lines
--- the sheet of the last line, or a number where there is none
+-- the sheet of the last line, or `last` if there is no line
 abbrev pub last_sheet : ℕ → List Line → ℕ
 last_sheet last [] = last
 last_sheet last (line ∷ lines) = last_sheet (sheet_number line.sheet) lines
 
--- the card of the last line, or a number where there is none
+-- the card of the last line, or `last` if there is no line
 abbrev pub last_card : ℕ → List Line → ℕ
 last_card last [] = last
 last_card last (line ∷ lines) = last_card line.card lines

@@ -1,4 +1,4 @@
--- Card by card, the positions on lines of cards without a diagnostic lie within their records.
+-- Card by card, positions on lines of cards without a diagnostic lie within their records.
 use Rattle.std.proofs.Common.{◌≡◌, ℕ, zero, suc, ◌+◌, ◌≤◌, List, [], ◌∷◌, ◌++◌, Bool, true, false, refl, sym, ◌∙◌, ap, arith, subst, inl, inr, length, lit<, append-nil}
 use Rattle.std.specs.Prelude.{Option, Some, None, is_some, nat_eq, ◌&&◌, ◌||◌, filter, if◌then◌else◌}
 use Rattle.std.specs.Cmp.Lexicographic.{pointwise}
@@ -90,7 +90,7 @@ file_next files other name size = elim (cases_Bool (is_some (record_length_of fi
   | inr free ↦ rw free (file_added files other name size)
 ]
 
--- ---- lines and what is kept of them
+-- ---- lines and the state kept of them
 pub record IsInside (lines : List Line) (files : List (Name × ℕ)) (input output : Option ℕ) : Type 0 where
   pub lengths : (name : Name) → record_length_in lines name ≡ record_length_of files name
   pub within : all_within (record_length_in lines) None None lines ≡ true
@@ -121,7 +121,7 @@ plain lines more files i o i' o' held none within inputs outputs =
           ∙ (outputs_append old None lines more ∙ (ap (λ j. outputs_behind old j more) held.outputs ∙ outputs));
     }
 
--- a file line, before which no line has a position
+-- a file line, which comes before all lines with positions
 filed : (lines : List Line) (number : ℕ) (file : FileLine) (files : List (Name × ℕ)) (i o : Option ℕ) → IsInside lines files i o
     → in_order_behind 0 lines ≡ true → last_sheet 0 lines ≤ 2
     → IsInside (lines ++ record { card = number; sheet = sheet.File file } ∷ []) (files ++ option_to_list (new_file files (Some (file.name, file.record_length)))) i o

@@ -1,4 +1,4 @@
--- Files and fields by their names.
+-- Look-ups of files and fields by name.
 use Rattle.std.proofs.Common.{◌≡◌, ℕ, List, [], ◌∷◌, ◌++◌, true, false, refl, sym, ◌∙◌, ap, inl, inr, append-nil}
 use Rattle.std.specs.Prelude.{Option, Some, None, is_some}
 use Rattle.std.specs.List.{list_any}
@@ -19,12 +19,12 @@ insert_last (file ∷ files) name size none = elim (cases_Bool (same_name name f
   | inr other ↦ (let more = rw other at none in rw other (ap (λ xs. file ∷ xs) (insert_last files name size more)))
 ]
 
--- a file that is known stays the one of its name
+-- a file that is already known isn't added again
 pub known_file : (files : List (Name × ℕ)) (name : Name) (size : ℕ) → is_some (record_length_of files name) ≡ true
     → files ≡ files ++ option_to_list (new_file files (Some (name, size)))
 known_file files name size known = rw known (sym (append-nil files))
 
--- one that isn't goes last
+-- a new file is added at the end
 pub unknown_file : (files new : List (Name × ℕ)) (name : Name) (size : ℕ) → new ≡ insert_entry same_name files name size
     → is_some (record_length_of files name) ≡ false → new ≡ files ++ option_to_list (new_file files (Some (name, size)))
 unknown_file files new name size put free =

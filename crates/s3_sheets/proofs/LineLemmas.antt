@@ -1,4 +1,4 @@
--- The line of a card without a fault has each entry in its range.
+-- In the line of a card without errors each entry is in range.
 use Rattle.std.proofs.Common.{◌≡◌, ℕ, zero, suc, ◌+◌, ◌-◌, ◌<◌, ◌≤◌, List, [], ◌∷◌, Bool, true, false, refl, subst, ◌∙◌, ap, arith, inl, inr, length, take, drop, replicate, get_or, lit<, length-take}
 use Rattle.std.specs.Prelude.{Option, Some, None, unwrap_or, is_some, is_none, nat_le, nat_lt, ◌==◌, ◌&&◌, ◌||◌, not, if◌then◌else◌}
 use Rattle.std.specs.List.{list_all, list_any, prefix_len}
@@ -54,8 +54,8 @@ pub not_false : (b : Bool) → not b ≡ false → b ≡ true
 not_false true e = refl
 not_false false e = absurd cc
 
--- ---- the F sheet
--- what begins a name is not blank
+-- ---- File Description specifications
+-- a code that begins a name isn't blank
 begun_named : (code : ℕ) (codes : List ℕ) → begins_name code ≡ true → is_named (name_of (code ∷ codes)) ≡ true
 begun_named code codes begins = elim (cases_Bool (code == 0x40)) [
   | inl same ↦ absurd (let e : code ≡ 0x40 = grind (arith, nat_tests) in let f = subst (λ c. begins_name c ≡ true) e begins in cc)
@@ -132,7 +132,7 @@ file_passes card named stray bad =
     (blank_listed OverflowList (columns card file.OVERFLOW)) s.1))
     (listed_passes SwitchList (columns card file.CONDITION))
 
--- ---- the I sheet
+-- ---- Input specifications
 from_one : (o : Option ℕ) → if_given (is_between 1 9999) o ≡ true → nat_le 1 (unwrap_or o 1) ≡ true
 from_one None given = refl
 from_one (Some n) given = at_least 1 9999 n given
@@ -148,7 +148,7 @@ field_passes card bad =
     (level_passes 0xd3 (columns card input.CONTROL_LEVEL))) (level_passes 0xd4 (columns card input.MATCHING))) (listed_passes RecordList (columns card input.RELATION)))
     (both (listed_passes RecordList (columns card input.PLUS)) (both (listed_passes RecordList (columns card input.MINUS)) (both (listed_passes RecordList (columns card input.ZERO)) refl)))
 
--- ---- the C sheet
+-- ---- Calculation specifications
 ten_columns : (card : List ℕ) (from to : ℕ) → to - (from - 1) ≤ 10 → length (columns_between card from to) ≤ 10
 ten_columns card from to few = omega (arith, length-take (to - (from - 1)) (drop (from - 1) card))
 
@@ -160,7 +160,7 @@ calculation_passes card bad =
     (factor_passes (longest_name card) (columns card calculation.FACTOR_2) (ten_columns card 33 42 (omega arith)))) (not_false (if_given shape_in_range (definition_of (columns card calculation.LENGTH) (columns card calculation.DECIMALS))) bad))
     (both (listed_passes ResultingList (columns card calculation.HIGH)) (both (listed_passes ResultingList (columns card calculation.LOW)) (both (listed_passes ResultingList (columns card calculation.EQUAL)) refl)))
 
--- ---- the O sheet
+-- ---- Output specifications
 space_ranged : (addition : Bool) (entry : List ℕ) → if_given (is_between 0 3) (space_of addition entry) ≡ true
 space_ranged true entry = refl
 space_ranged false entry = number_in_range 0 3 entry
@@ -212,7 +212,7 @@ put_passes card content early text known =
     (λ blank. constant_fits entry (constant_text entry) at refl short
     (text_given (are_blank (columns card output.FIELD_NAME)) (are_blank entry) (is_some (constant_text entry)) content text blank) early known))
 
--- ---- all sheets
+-- ---- all specifications
 pub record NoFaults (faults : Faults) : Type 0 where
   pub entry : faults.entry ≡ false
   pub name : faults.name ≡ false

@@ -1,4 +1,4 @@
--- The entries at fault of cards with number 4, computed.
+-- The entries in error of cards with diagnostic 4, computed.
 use Rattle.std.proofs.Common.{refl}
 use Rattle.s3_cards.specs.Codes.{code_page, ebcdic}
 use Rattle.s3_cards.specs.Names.{is_word}

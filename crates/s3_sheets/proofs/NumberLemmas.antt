@@ -1,4 +1,4 @@
--- Lemmas on numbers in columns.
+-- Lemmas about numbers in columns.
 use Rattle.std.proofs.Common.{◌≡◌, ℕ, ◌+◌, ◌-◌, ◌*◌, ◌^◌, ◌<◌, ◌≤◌, List, true, false, inl, inr, refl, sym, ◌∙◌, ap, arith, subst, length, take, get_or, lit<, add-one}
 use Rattle.std.specs.Prelude.{map, [], ◌∷◌}
 use Rattle.std.proofs.lemmas.Bool.{cases_Bool}
@@ -12,7 +12,7 @@ use Rattle.std.proofs.lemmas.Int.Digits.{number_after_append}
 use Rattle.s3_cards.specs.Names.{is_digit}
 use Rattle.s3_sheets.specs.Columns.{digit}
 
--- the number that the first i digits spell behind another one, and how large it may be
+-- the number spelled by the first i digits after a start value, and its bound
 pub record NumberSoFar (start : ℕ) (codes : List ℕ) (i n : ℕ) : Type 0 where
   pub value : n ≡ number_from_digits_after 10 start (map digit (take i codes))
   pub below : n < (start + 1) * 10 ^ i
@@ -49,7 +49,7 @@ number_next start codes i n d so_far in' all e = record {
   below = times_next start i n d so_far.below (rw e (digit_small (get_or codes i 0) (digit_at codes i all in')));
 }
 
--- the digits so far make no more than all of them may
+-- the digits so far stay below the largest number of ten digits
 pub fits : (start : ℕ) (codes : List ℕ) (i n : ℕ) → NumberSoFar start codes i n → i < length codes → (start + 1) * 10 ^ length codes ≤ 10 ^ 10 → n * 10 + 9 < 10 ^ 10
 fits start codes i n so_far in' room =
     let next : n * 10 + 9 < (start + 1) * 10 ^ (i + 1) = times_next start i n 9 so_far.below (omega arith) in

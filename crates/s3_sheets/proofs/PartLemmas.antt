@@ -1,4 +1,4 @@
--- The entries at fault are those by which a card has its numbers.
+-- The entries in error are exactly those by which a card gets its numbers.
 use Rattle.std.proofs.Common.{◌≡◌, ℕ, ◌+◌, ◌<◌, ◌==◌, List, [], ◌∷◌, ◌++◌, Bool, true, false, refl, sym, ◌∙◌, ap, arith, subst, inl, inr, length, take, get_or, add-one}
 use Rattle.std.specs.Prelude.{◌||◌, ◌&&◌, ◌-◌, not, map, filter, drop, codes, Option, Some, None, is_some, unwrap_or, nat_le, nat_lt, if◌then◌else◌}
 use Rattle.std.specs.List.{list_any}
@@ -53,7 +53,7 @@ entries_more : (card : ℕ) (old new : List FaultyEntry) (xs ys : List Part) →
 entries_more card old new xs ys e =
     e ∙ (append_assoc old (entries_of card xs) (entries_of card ys) ∙ ap (λ more. old ++ more) (sym (entries-append card xs ys)))
 
--- the entries of a card are added one kind of part after the other
+-- the entries of a card are added by one kind of part after another
 pub all_parts : (number : ℕ) (kind : CardKind) (card : List ℕ) (standing : Standing) (limit : Option ℕ) (rules : List spec.Rule)
     (old a b c d : List FaultyEntry) → rules ≡ rules_of kind
     → a ≡ old ++ entries_of number (standing_parts kind standing)
@@ -132,7 +132,7 @@ found_next from cards n found found' kept so_far in' more = record {
   progress = kept_next cards n kept so_far.progress in';
 }
 
--- the same with the code's words
+-- one more card, in the terms of the code
 pub card_found : (from : ℕ) (cards : List (List ℕ)) (n : ℕ) (d : List ℕ) (found found' : List FaultyEntry) (kept kept' : Kept) (standing : Standing)
     (limit : Option ℕ) → FoundSoFar from cards n found kept → n < length cards
     → limit ≡ length_for (kind_of (get_or cards n d)) (length_named kept (get_or cards n d)) kept.input_length kept.output_length
@@ -176,7 +176,7 @@ or_assoc false b c = refl
 is_told : ℕ → Part → Bool
 is_told number p = (p.number == number) && p.fails
 
--- a part that is false, or true
+-- conjunction with a false part, and with a true one
 and_false : (a : Bool) → (a && false) ≡ false
 and_false true = refl
 and_false false = refl
@@ -196,7 +196,7 @@ told_of number card (p ∷ parts) = elim (cases_Bool p.fails) [
 told-append : (number : ℕ) (xs ys : List Part) → list_any (is_told number) (xs ++ ys) ≡ (list_any (is_told number) xs || list_any (is_told number) ys)
 told-append number xs ys = list_any-append (is_told number) xs ys
 
--- what the parts of a card say together
+-- whether any part of a card gives the number
 told_together : (number : ℕ) (kind : CardKind) (card : List ℕ) (standing : Standing) (limit : Option ℕ)
     → list_any (is_told number) (parts_with kind card standing limit)
     ≡ (list_any (is_told number) (standing_parts kind standing)
@@ -256,7 +256,7 @@ not_13 WrongEntry = refl
 not_13 WrongName = refl
 not_13 WrongNumber = refl
 
--- where what a rule's part tells is what its fault says, so it is of all rules
+-- if a rule's part and its error agree for each rule, they agree for all rules
 rules_told : (number : ℕ) (card : List ℕ) (says : spec.Rule → Bool)
     → ((rule : spec.Rule) → told_by_fault number (fault_of rule.entry) (allows rule.entry (columns_between card rule.from rule.to)) ≡ says rule)
     → (rules : List spec.Rule) → list_any (is_told number) (map (rule_part card) rules) ≡ list_any says rules
@@ -301,7 +301,7 @@ stray false true false true o = refl
 stray false true false false o = or_false o
 stray false false k l o = or_false o
 
--- a key as it is read: of an indexed file, where its length and its start are known
+-- the key that is read: of an indexed file with a known length and start
 key_read : Bool → Option ℕ → Option ℕ → Option KeyField
 key_read indexed size start = if indexed then key_field size start else None
 
@@ -309,7 +309,7 @@ twice : (x : Bool) → (x || (x || false)) ≡ x
 twice true = refl
 twice false = refl
 
--- a record length, and a key that is missing or ends past it
+-- the record length is wrong, or the key is missing or ends after the record
 extent : (l w : Bool) (n : ℕ) (size start : Option ℕ)
     → (not l
     || (((w && not (is_some size)) || (l && (is_some (key_read w size start) && not (is_key_within n (key_read w size start)))))
@@ -322,7 +322,7 @@ extent true true n None start = refl
 extent true true n (Some size) None = refl
 extent true true n (Some size) (Some start) = twice (not (is_key_within n (key_field (Some size) (Some start))))
 
--- where there are more decimals than digits the shape is out of its range
+-- if decimals exceed digits, the shape is out of range
 surplus_digits : (a b c : Bool) → (not (a && b && c) || (a && not c)) ≡ not (a && b && c)
 surplus_digits true true true = refl
 surplus_digits true true false = refl
@@ -337,18 +337,18 @@ defined_surplus : (defined : Option Shape) → (not (if_given shape_in_range def
 defined_surplus None = refl
 defined_surplus (Some shape) = ap (λ b. not (shape_in_range shape) || b) (or_false (has_surplus_decimals shape)) ∙ surplus shape
 
--- a first position past a record, and one past the last position
+-- From or To is after the end of the record exactly if To is, when they are in order
 past_ends : (limit first last : ℕ) → (not (nat_le first last) || (nat_lt limit first || nat_lt limit last)) ≡ (not (nat_le first last) || nat_lt limit last)
 past_ends limit first last = grind (arith, nat_tests)
 
--- the parts of a field whose positions are known: in order or not, in range or not, its decimals over its digits, its positions past
+-- the parts of a field with known positions: order, range, decimals and positions after the end of the record
 measured : (o s d a b : Bool) → (not s || d) ≡ not s → (not o || (a || b)) ≡ (not o || b)
     → ((not (o && s) || ((o && d) || false)) || (a || (b || false))) ≡ (not (o && s) || b)
 measured false s d a b few ends = refl
 measured true false d a b few ends = refl
 measured true true d a b few ends = (λ i. (few i || false) || (a || or_false b i)) ∙ ends
 
--- the same where the record length isn't known
+-- the parts of a field with known positions, if the record length isn't known
 measured_alone : (o s d : Bool) → (not s || d) ≡ not s → ((not (o && s) || ((o && d) || false)) || false) ≡ (not (o && s) || false)
 measured_alone o s d few = measured o s d false false few refl
 
@@ -365,7 +365,7 @@ fields_measured first last form (Some limit) =
     (has_surplus_decimals (shape_of_positions form (last + 1 - first))) (nat_lt limit first) (nat_lt limit last)
     (surplus (shape_of_positions form (last + 1 - first))) (past_ends limit first last)
 
--- a position, where it is known
+-- a position, if it is in range
 position : Option ℕ → Option ℕ
 position entry = only (is_between 1 9999) entry
 
@@ -378,7 +378,7 @@ field_bad first last form = not (nat_le first last && shape_in_range (shape_of_p
 field_surplus : (first last : ℕ) (form : FieldForm) → Bool
 field_surplus first last form = nat_le first last && has_surplus_decimals (shape_of_positions form (last + 1 - first))
 
--- with the rules r, one of which says that a position isn't known
+-- `r` is true if a rule finds that a position isn't known
 field_told : (r : Bool) (first last : Option ℕ) (form : FieldForm) (limit : Option ℕ)
     → (is_some (position first) ≡ false → r ≡ true) → (is_some (position last) ≡ false → r ≡ true)
     → (r || (((field_known first last && field_bad (unwrap_or (position first) 1) (unwrap_or (position last) 1) form)
@@ -396,7 +396,7 @@ field_told r (Some first) (Some last) form limit no_first no_last = elim (cases_
   | inr bad ↦ let all : r ≡ true = no_first (ap (λ b. is_some (if b then Some first else None)) bad) in rw all refl
 ]
 
--- the rules of a field line fail where a position isn't known
+-- the rules of a field line fail if a position isn't known
 or_third : (a b c d : Bool) → c ≡ true → (a || (b || (c || d))) ≡ true
 or_third true b c d is = refl
 or_third false true c d is = refl
@@ -530,7 +530,7 @@ combined_told_13 OutputOr card = refl
 combined_told_13 OutputField card = refl
 
 -- ---- positions
--- by the rules, by columns together and by positions: what is at fault by one of them may be by another
+-- An entry may be in error by several parts: rules, columns together and positions.
 told_by_all_4 : (kind : CardKind) (card : List ℕ) (limit : Option ℕ)
     → (list_any (λ rule. (rule_faults card rule).number) (rules_of kind)
     || (list_any (is_told 4) (combined_parts kind card) || list_any (is_told 4) (position_parts kind card limit)))
@@ -630,7 +630,7 @@ positions_told_13 OutputAnd card limit = refl
 positions_told_13 OutputOr card limit = refl
 positions_told_13 OutputField card limit = refl
 
--- ---- all of it
+-- ---- the whole
 swapped : (l r c : Bool) → (l || (r || (c || false))) ≡ ((r || c) || l)
 swapped l true c = or_true l
 swapped l false true = or_true l

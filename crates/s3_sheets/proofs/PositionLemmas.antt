@@ -113,7 +113,7 @@ pub outputs_append : (lengths : Lengths) (o : Option ℕ) (xs ys : List Line) �
 outputs_append lengths o [] ys = refl
 outputs_append lengths o (x ∷ xs) ys = outputs_append lengths (output_length_behind lengths o x.sheet) xs ys
 
--- the same lengths by other words
+-- the same lengths in another form
 option_or_assoc : (a b c : Option ℕ) → option_or (option_or a b) c ≡ option_or a (option_or b c)
 option_or_assoc None b c = refl
 option_or_assoc (Some x) b c = refl
@@ -125,7 +125,7 @@ lengths_append (x ∷ xs) ys name =
     ap (option_or (record_length_on x.sheet name)) (lengths_append xs ys name)
     ∙ sym (option_or_assoc (record_length_on x.sheet name) (record_length_in xs name) (record_length_in ys name))
 
--- ---- header and file lines alone
+-- ---- header and file lines only
 rises : (last : ℕ) (xs : List Line) → in_order_behind last xs ≡ true → last ≤ last_sheet last xs
 unfolding in_order_behind
 rises last [] ordered = omega arith
@@ -141,7 +141,7 @@ rises last (x ∷ xs) ordered =
     stands last (sheet.Calculation line) e = grind (arith, nat_tests)
     stands last (sheet.Output line) e = grind (arith, nat_tests)
 
--- lines of headers and files have no positions, and leave the lengths by which others go
+-- header and file lines have no positions, and leave the current record lengths unchanged
 pub record AreBefore (lengths : Lengths) (i o : Option ℕ) (xs : List Line) : Type 0 where
   pub within : all_within lengths i o xs ≡ true
   pub inputs : inputs_behind lengths i xs ≡ i

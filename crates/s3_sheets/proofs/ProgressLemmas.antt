@@ -1,4 +1,4 @@
--- What is kept of the cards before is what the definitions say of them.
+-- The state kept of the cards so far agrees with the definitions.
 use Rattle.std.proofs.Common.{◌≡◌, ℕ, ◌+◌, ◌<◌, List, [], ◌∷◌, ◌++◌, Bool, true, false, refl, sym, ◌∙◌, ap, arith, length, take, add-one, suc, max}
 use Rattle.std.specs.Prelude.{◌||◌, ◌&&◌, not, map}
 use Rattle.std.specs.List.{list_any}
@@ -16,7 +16,7 @@ use Rattle.s3_sheets.specs.Inner.Progress.{Kept, passes_limit, nothing_kept, is_
 use Rattle.s3_sheets.specs.declared.kind.CardKind.{CardKind}
 use Rattle.s3_sheets.specs.declared.kind.CardKind.TheVariants.{Comment, Unknown, Header, File, Record, RecordAnd, RecordOr, Field, Calculation, OutputLine, OutputAnd, OutputOr, OutputField}
 
--- what is kept is what the first n cards say
+-- the state agrees with the first n cards
 pub record IsKept (cards : List (List ℕ)) (n : ℕ) (kept : Kept) : Type 0 where
   pub latest : (sheet : ℕ) → list_any (λ other. is_behind sheet (sheet_of other)) (before cards n) ≡ is_behind sheet kept.latest_sheet
   pub of_lines : list_any is_output_line (before cards n) ≡ kept.has_output_line
@@ -118,7 +118,7 @@ output_same cards n kept so_far = λ i.
 behind_later : (sheet a b : ℕ) → (is_behind sheet a || is_behind sheet b) ≡ is_behind sheet (max a b)
 behind_later sheet a b = grind (arith, nat_tests)
 
--- what is kept behind one more card
+-- the state after one more card agrees
 pub kept_next : (cards : List (List ℕ)) (n : ℕ) (kept : Kept) → IsKept cards n kept → n < length cards
     → IsKept cards (n + 1) (kept_behind kept (card_at cards n))
 unfolding kept_behind
@@ -134,7 +134,7 @@ kept_next cards n kept so_far in' = record {
   of_fields = rw add-one (fields_same cards n kept so_far);
 }
 
--- what it says of the next card
+-- the facts about the next card agree
 pub standing_same : (cards : List (List ℕ)) (n : ℕ) (kept : Kept) → IsKept cards n kept
     → standing_behind kept (card_at cards n) ≡ standing_at cards n
 unfolding standing_behind is_too_many

@@ -1,4 +1,4 @@
--- What is read from columns is in its range, whatever stands there.
+-- Values read from columns are in range, whatever the columns contain.
 use Rattle.std.proofs.Common.{◌≡◌, ℕ, List, [], ◌∷◌, Bool, true, false, refl, arith, inl, inr, take}
 use Rattle.std.specs.Prelude.{Option, Some, None, option_map, unwrap_or, nat_le, ◌==◌, ◌&&◌, ◌||◌, not, slice_index, codes, if◌then◌else◌}
 use Rattle.std.specs.Option.{option_or}
@@ -152,7 +152,7 @@ code_passes entry =
 pub codes_pass : (a b c : List ℕ) → codes_in_range (code_of a ∷ code_of b ∷ code_of c ∷ []) ≡ true
 codes_pass a b c = both (code_passes a) (both (code_passes b) (both (code_passes c) refl))
 
--- ---- when a C line is done
+-- ---- level entries of calculations
 total_or_not : (o : Option Indicator) → if_given is_total_indicator o ≡ true → if_given time_in_range (option_map (λ indicator. Total indicator) o) ≡ true
 total_or_not None given = refl
 total_or_not (Some indicator) given = given

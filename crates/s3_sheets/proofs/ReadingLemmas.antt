@@ -1,4 +1,4 @@
--- Lemmas on reading the sheets.
+-- Lemmas about reading the sheets.
 use Rattle.std.proofs.Common.{◌≡◌, ℕ, ◌+◌, ◌<◌, List, [], ◌∷◌, ◌++◌, refl, sym, ◌∙◌, ap, arith, subst, inl, inr, length, get_or, suc, add-one, Bool, true}
 use Rattle.std.specs.Prelude.{map, filter}
 use Rattle.std.specs.Option.{option_to_list}
@@ -18,7 +18,7 @@ use Rattle.s3_lines.specs.declared.diagnostic.Diagnostic.{Diagnostic}
 use Rattle.s3_sheets.specs.declared.progress.Standing.{Standing}
 use Rattle.s3_lines.specs.declared.sheet.Line.{Line}
 
--- what has been read of a source's first n cards
+-- the result of reading a source's first n cards
 pub record ReadSoFar (from : ℕ) (cards : List (List ℕ)) (n : ℕ) (diagnostics : List Diagnostic) (typed : List Line) (kept : Kept) : Type 0 where
   pub found : diagnostics ≡ map (diagnostic from) (filter (holds cards) (pairs n))
   pub lines : typed ≡ lines_below from cards n
@@ -56,7 +56,7 @@ diagnostics_next from cards n =
     (ap (map (diagnostic from)) one
     ∙ map_of_map (diagnostic from) (λ number. (n, number)) (filter (card_holds (standing_at cards n)) numbers)))
 
--- one more card, where what is kept says its standing
+-- one more card, if the state gives its facts
 read_more : (from : ℕ) (cards : List (List ℕ)) (n : ℕ) (found found' : List Diagnostic) (lines lines' : List Line) (kept : Kept)
     → ReadSoFar from cards n found lines kept → n < length cards
     → found' ≡ found ++ card_diagnostics (from + n + 1) (standing_behind kept (card_at cards n))
@@ -73,7 +73,7 @@ read_more from cards n found found' lines lines' kept so_far in' more one = reco
   progress = kept_next cards n kept so_far.progress in';
 }
 
--- the same with the code's words for the card, its standing and what is kept behind it
+-- one more card, with the code's values for the card, its facts and the next state
 pub card_read : (from : ℕ) (cards : List (List ℕ)) (n : ℕ) (found found' : List Diagnostic) (lines lines' : List Line) (kept kept' : Kept) (standing : Standing)
     (d : List ℕ) → ReadSoFar from cards n found lines kept → n < length cards
     → standing ≡ standing_behind kept (get_or cards n d) → kept' ≡ kept_behind kept (get_or cards n d)

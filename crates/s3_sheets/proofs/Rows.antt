@@ -1,4 +1,4 @@
--- The definitions computed on the samples.
+-- The worked examples, computed.
 use Rattle.std.proofs.Common.{◌≡◌, [], ◌∷◌, refl}
 use Rattle.std.specs.Prelude.{map, codes}
 use Rattle.s3_cards.specs.Codes.{code_page, ebcdic}

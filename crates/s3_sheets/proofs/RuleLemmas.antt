@@ -1,4 +1,4 @@
--- Lemmas on a search among what a list shows.
+-- Lemmas about a search in a view of a list.
 use Rattle.std.proofs.Common.{◌≡◌, ℕ, ◌<◌, List, [], ◌∷◌, Bool, true, false, refl, sym, ◌∙◌, ap, arith, subst, inl, inr, length, take, get_or}
 use Rattle.std.specs.Prelude.{◌||◌, map}
 use Rattle.std.specs.List.{list_all, list_any}
@@ -10,7 +10,7 @@ list_any-map : {X Y : Type 0} (q : Y → Bool) (v : X → Y) (xs : List X) → l
 list_any-map q v [] = refl
 list_any-map q v (x ∷ xs) = ap (λ b. q (v x) || b) (list_any-map q v xs)
 
--- where all pass, each one does
+-- if all elements pass, the one at a place does
 pub passes_at : {X Y : Type 0} (p : Y → Bool) (v : X → Y) (xs : List X) (i : ℕ) (d : X) → list_all p (map v xs) ≡ true → i < length xs → p (v (get_or xs i d)) ≡ true
 passes_at p v xs i d all in' = elim (cases_Bool (p (v (get_or xs i d)))) [
   | inl good ↦ good

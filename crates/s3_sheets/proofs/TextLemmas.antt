@@ -1,4 +1,4 @@
--- Lemmas on reading a constant code by code.
+-- Lemmas about reading a constant code by code.
 use Rattle.std.proofs.Common.{◌≡◌, ℕ, ◌+◌, ◌-◌, ◌<◌, ◌≤◌, List, [], ◌∷◌, ◌++◌, Bool, true, false, cond, refl, sym, ◌∙◌, ap, arith, subst, inl, inr, length, take, drop, get_or, suc, add-one, append_assoc, append-nil, length-append, length-drop, replicate}
 use Rattle.std.specs.Prelude.{Option, Some, None, option_map, ◌==◌, nat_le, slice_set, if◌then◌else◌}
 use Rattle.std.proofs.Math.Seq.{drop-cons, set-append_seam}
@@ -10,7 +10,7 @@ use Rattle.s3_sheets.specs.Entries.{text_of, constant}
 use Rattle.s3_sheets.specs.Inner.Literals.{with_code, with_next_code, unended, is_behind_end}
 use Rattle.s3_lines.specs.declared.sheet.Constant.{Constant}
 
--- what has been read of the codes at a place: a text, and whether an apostrophe ends it
+-- the text read up to a place, and whether the last code may be its closing apostrophe
 pub record TextSoFar (codes : List ℕ) (place : ℕ) (text : Constant) (ended : Bool) : Type 0 where
   pub emitted : List ℕ
   pub is : text ≡ constant emitted
@@ -25,7 +25,7 @@ option_map_id (Some x) = refl
 pub none_read : (codes : List ℕ) → TextSoFar codes 0 (record { codes = replicate 24 0x40; length = 0 }) false
 none_read codes = record { emitted = []; is = refl; rest = option_map_id (text_of false codes); room = omega arith; gap = λ e. cc }
 
--- a constant with room for one more character
+-- a constant with space for one more character
 longer : (text : List ℕ) (code : ℕ) → length text < 24 → with_code (constant text) code ≡ Some (constant (text ++ code ∷ []))
 longer text code small =
     let k : ℕ = 24 - (length text + 1) in
@@ -36,7 +36,7 @@ longer text code small =
     rw e (set-append_seam text 0x40 (replicate k 0x40) code ∙ sym (append_assoc text (code ∷ []) (replicate k 0x40))) in
     rw (fits, placed, n) refl
 
--- an empty place for one more character is there
+-- a full constant can't get another character
 full : (text : List ℕ) (code : ℕ) → nat_le 24 (length text) ≡ true → with_code (constant text) code ≡ None
 full text code none = rw none refl
 
@@ -55,7 +55,7 @@ pushed : (emitted : List ℕ) (code : ℕ) (o : Option (List ℕ))
 pushed emitted code None = refl
 pushed emitted code (Some more) = ap Some (sym (append_assoc emitted (code ∷ []) more))
 
--- the code at a place is put behind the text
+-- the code at a place is appended to the text
 put_behind : (codes : List ℕ) (place : ℕ) (text : Constant) (ended : Bool) (code : ℕ) (t : Constant) (e : Bool)
     → TextSoFar codes place text ended
     → text_of ended (drop place codes) ≡ option_map (λ more. code ∷ more) (text_of false (drop (place + 1) codes))
@@ -85,12 +85,12 @@ put_behind codes place text ended code t e so_far one next =
 at_place : (codes : List ℕ) (place d : ℕ) → place < length codes → drop place codes ≡ get_or codes place d ∷ drop (place + 1) codes
 at_place codes place d in' = rw (add-one, drop-cons codes place d) refl
 
--- an apostrophe behind another one
+-- an apostrophe after another one
 pub twice : (code : ℕ) (codes : List ℕ) → (code == 0x7d) ≡ true → text_of true (code ∷ codes) ≡ option_map (λ more. code ∷ more) (text_of false codes)
 unfolding text_of
 twice code codes is = rw is refl
 
--- an apostrophe that may end the text
+-- an apostrophe that may close the text
 pub may_end : (code : ℕ) (codes : List ℕ) → (code == 0x7d) ≡ true → text_of false (code ∷ codes) ≡ option_map (λ more. more) (text_of true codes)
 unfolding text_of
 may_end code codes is = rw is refl
@@ -156,7 +156,7 @@ pub next_read : (codes : List ℕ) (place d : ℕ) (text t : Constant) (ended e 
     → is_behind_end ended (get_or codes place d) ≡ false → with_next_code text ended (get_or codes place d) ≡ Some (t, e) → TextSoFar codes (place + 1) t e
 next_read = next_if
 
--- a code behind the end
+-- a code after the closing apostrophe
 pub closed_at : (codes : List ℕ) (place d : ℕ) (text : Constant) (ended : Bool) → TextSoFar codes place text ended → place < length codes
     → is_behind_end ended (get_or codes place d) ≡ true → (if are_blank (drop place codes) then Some text else None) ≡ option_map constant (text_of false codes)
 closed_at codes place d text false so_far in' is_behind = absurd (cc)
@@ -185,7 +185,7 @@ an_empty_text : (codes : List ℕ) → codes ≡ [] → text_of true codes ≡ S
 unfolding text_of
 an_empty_text codes e = ap (text_of true) e
 
--- no room is left at the last of twenty-five codes alone, which then isn't an apostrophe
+-- a constant is full only at the last of twenty-five codes, which then isn't an apostrophe
 pub no_room_left : (codes : List ℕ) (place d : ℕ) (text : Constant) (ended : Bool) → TextSoFar codes place text ended → place < length codes
     → length codes ≤ 25 → is_behind_end ended (get_or codes place d) ≡ false → with_next_code text ended (get_or codes place d) ≡ None
     → None ≡ option_map constant (text_of false codes)
@@ -236,7 +236,7 @@ unended_at codes place text false so_far whole e =
     let all : text_of false codes ≡ None = so_far.rest ∙ ap (option_map (λ more. so_far.emitted ++ more)) one in
     rw all refl
 
--- the same where the codes from the place on are cut from the whole
+-- a code after the closing apostrophe, with the codes from that place on
 pub closed_from : (codes : List ℕ) (place d : ℕ) (text : Constant) (ended : Bool) → TextSoFar codes place text ended → place < length codes
     → is_behind_end ended (get_or codes place d) ≡ true
     → (if are_blank (take (length codes - place) (drop place codes)) then Some text else None) ≡ option_map constant (text_of false codes)

@@ -1,4 +1,4 @@
--- What several columns of a card show together.
+-- Errors that several columns of a card show together.
 use Rattle.std.specs.Prelude.{ℕ, ◌+◌, ◌-◌, List, Bool, false, ◌&&◌, ◌||◌, not, Option, Some, None, length, nat_lt, nat_le}
 use Rattle.s3_entries.specs.declared.calculation.TheConstants as calculation
 use Rattle.s3_entries.specs.declared.file.TheConstants as file
@@ -20,16 +20,16 @@ use Rattle.s3_sheets.specs.declared.kind.CardKind.{CardKind}
 use Rattle.s3_sheets.specs.declared.kind.CardKind.TheVariants.{Comment, Unknown, Header, File, Record, RecordAnd, RecordOr, Field, Calculation, OutputLine, OutputAnd, OutputOr, OutputField}
 use Rattle.s3_sheets.specs.declared.faults.Faults.{Faults}
 
--- whether some columns of an entry are filled
+-- whether some column of an entry isn't blank
 abbrev pub are_filled : List ℕ → Span → Bool
 are_filled card entry = not (are_blank (columns card entry))
 
--- ---- the F sheet
+-- ---- File Description specifications
 abbrev pub is_with_index : FileLine → Bool
 is_with_index file = file.is_keyed && file.is_indexed
 
--- an entry that stands for other files alone: E for primary and secondary ones, a key length or start for indexed ones, an overflow
--- indicator for print files
+-- An entry that the card's file can't have. Only primary and secondary files may have E, only indexed files a key length and start,
+-- and only print files an overflow indicator.
 unfoldable pub has_stray_entry : List ℕ → Bool
 has_stray_entry card =
     let line : FileLine = file_line card in
@@ -42,29 +42,29 @@ abbrev pub is_key_within : ℕ → Option KeyField → Bool
 is_key_within record_length None = false
 is_key_within record_length (Some key) = nat_le (key.start + key.length) (record_length + 1)
 
--- a record length is within that of the device, and an indexed file has a key, which lies in its record
+-- the record length isn't one that the device allows, or an indexed file has no key within its record
 unfoldable pub has_bad_extent : List ℕ → Bool
 has_bad_extent card =
     let file : FileLine = file_line card in
     not (is_between 1 (longest_record file.device) file.record_length) || (is_with_index file && not (is_key_within file.record_length file.key))
 
--- ---- the I sheet
--- the positions of a field are in order, and hold 1 to 256 characters, or 1 to 15 digits, of which its decimals are some
+-- ---- Input specifications
+-- the field's From and To aren't in order, or its length isn't 1 to 256 characters or 1 to 15 digits, or decimals exceed digits
 unfoldable pub has_bad_positions : List ℕ → Bool
 has_bad_positions card =
     let field : FieldLine Name = field_line card in
     not (nat_le field.from field.to && shape_in_range (shape_of_positions field.form (field.to + 1 - field.from)))
 
--- ---- the C sheet
+-- ---- Calculation specifications
 unfoldable pub has_bad_factor : List ℕ → Bool
 has_bad_factor card = not (is_blank_or (factor_of (longest_name card)) (columns card calculation.FACTOR_2))
 
--- a result has 1 to 256 characters, or with decimals 1 to 15 digits; without a length it isn't defined
+-- a result's length isn't 1 to 256 characters, or with decimals 1 to 15 digits; a result without a length isn't defined here
 unfoldable pub has_bad_definition : List ℕ → Bool
 has_bad_definition card = not (if_given shape_in_range (definition_of (columns card calculation.LENGTH) (columns card calculation.DECIMALS)))
 
--- ---- the O sheet
--- 16 to 18 have ADD, or 16 is blank and 17 and 18 have spaces
+-- ---- Output specifications
+-- columns 16 to 18 must have ADD; otherwise column 16 must be blank, and 17 and 18 may have spaces
 unfoldable pub has_bad_addition : List ℕ → Bool
 has_bad_addition card = not (is_addition card) && are_filled card output.BEFORE_SPACES
 
@@ -73,23 +73,23 @@ has_bad_space card =
     not (is_addition card)
     && (not (is_blank_or (number_between 0 3) (columns card output.SPACE_BEFORE)) || not (is_blank_or (number_between 0 3) (columns card output.SPACE_AFTER)))
 
--- UDATE, UMONTH, UDAY, UYEAR
+-- a field of the date: UDATE, UMONTH, UDAY or UYEAR
 abbrev pub is_of_date : Name → Bool
 is_of_date name = is_reserved name && not (same_name name page)
 
--- a field and a constant, or an entry that what is put out can't have: an edit code, B or P behind a constant, an edit code on a
--- packed field, B on a field of the date
+-- The card has both a field and a constant, or an entry that its content can't have. A constant can't have an edit code, B or P,
+-- a packed field no edit code, and a field of the date no B.
 unfoldable pub has_bad_content : List ℕ → Bool
 has_bad_content card =
     (are_filled card output.CONSTANT && (are_filled card output.FIELD_NAME || are_filled card output.EDIT_CODE || are_filled card output.BLANK_AFTER || are_filled card output.PACKED))
     || (are_filled card output.FIELD_NAME && are_filled card output.EDIT_CODE && are_filled card output.PACKED)
     || (are_filled card output.BLANK_AFTER && is_of_date (name_of (columns card output.FIELD_NAME)))
 
--- neither a field nor a constant
+-- the card has neither a field nor a constant
 abbrev pub has_no_content : List ℕ → Bool
 has_no_content card = are_blank (columns card output.FIELD_NAME) && are_blank (columns card output.CONSTANT)
 
--- a constant begins at position 1 or later
+-- a constant must begin at position 1 or later
 abbrev pub begins_too_early : Option ℕ → Option (List ℕ) → Bool
 begins_too_early (Some end) (Some text) = nat_lt end (length text)
 begins_too_early (Some end) None = false
@@ -98,8 +98,8 @@ begins_too_early None text = false
 unfoldable pub has_early_constant : List ℕ → Bool
 has_early_constant card = begins_too_early (number_of (columns card output.END_POSITION)) (constant_text (columns card output.CONSTANT))
 
--- ---- all sheets
--- what is wrong with columns of a card together
+-- ---- all specifications
+-- the errors that columns of a card show together
 abbrev pub combined_faults : CardKind → List ℕ → Faults
 combined_faults Comment card = no_faults
 combined_faults Unknown card = no_faults

@@ -1,4 +1,4 @@
--- What the entries of the sheets spell: constants, literals, factors, names, record codes, operations, and when a C line is done.
+-- Entries of the sheets: constants, literals, factors, names, record identification codes, operations, and level entries of calculations.
 use Rattle.std.specs.Prelude.{ℕ, ℤ, pos, neg_ℤ, ◌+◌, ◌-◌, nat_lt, List, [], ◌∷◌, ◌++◌, Bool, true, false, ◌==◌, ◌&&◌, ◌||◌, Option, Some, None, option_map, length, take, drop, map, replicate, slice_index, if◌then◌else◌, codes}
 use Rattle.std.specs.List.{prefix_len}
 use Rattle.std.specs.Option.{option_or, option_and_then}
@@ -24,8 +24,8 @@ use Rattle.s3_lines.specs.declared.sheet.Operation.{Operation}
 use Rattle.s3_lines.specs.declared.sheet.Operation.TheVariants.{Add, Subtract, Multiply, Divide, ZeroAdd, ZeroSubtract, MoveRemainder, Compare, Move, MoveLeft, SetOn, SetOff, GoTo, Tag, ExecuteSubroutine, BeginSubroutine, EndSubroutine, Except, Chain, Unknown}
 
 -- ---- constants
--- the text up to the apostrophe that ends it, behind which all is blank; an apostrophe of the text is written twice. `ended`
--- says that an apostrophe stands before these codes, which ends the text unless another one follows.
+-- The text up to its closing apostrophe, after which all columns must be blank. An apostrophe within the text is written twice.
+-- `ended` means that the code before these is an apostrophe; it closes the text unless another apostrophe follows.
 unfoldable pub text_of : Bool → List ℕ → Option (List ℕ)
 text_of true [] = Some []
 text_of false [] = None
@@ -41,7 +41,7 @@ abbrev pub unless_empty : List ℕ → Option (List ℕ)
 unless_empty [] = None
 unless_empty (code ∷ codes) = Some (code ∷ codes)
 
--- the text of a constant in apostrophes, of at least one character, with blanks behind it
+-- the text of a constant in apostrophes: at least one character, and only blanks after the closing apostrophe
 unfoldable pub constant_text : List ℕ → Option (List ℕ)
 constant_text [] = None
 constant_text (first ∷ codes) = if first == APOSTROPHE then option_and_then unless_empty (text_of false codes) else None
@@ -66,8 +66,8 @@ abbrev pub signed : Bool → ℕ → ℤ
 signed true number = neg_ℤ (pos number)
 signed false number = pos number
 
--- a literal number: a sign or none, digits with at most one point among or beside them, and blanks behind. Ten columns hold at most
--- nine digits behind a point.
+-- A numeric literal: an optional sign, then digits with at most one decimal point, then blanks.
+-- Ten columns hold at most nine decimals.
 unfoldable pub number_literal_of : List ℕ → Option NumberLiteral
 number_literal_of entry =
     let unsigned : List ℕ = without_sign entry in
@@ -82,22 +82,22 @@ number_literal_of entry =
     })
     else None
 
--- a literal text, of which ten columns hold at most eight characters
+-- a text literal; ten columns hold at most eight characters
 abbrev pub text_literal : List ℕ → TextLiteral
 text_literal text = record { codes = text ++ replicate (8 - length text) BLANK; length = length text }
 
--- a name of at most so many characters, with blanks behind it
+-- a name of at most `longest` characters, followed by blanks
 abbrev pub name_within : ℕ → List ℕ → Option Name
 name_within longest entry = if is_name (take longest entry) && are_blank (drop longest entry) then Some (name_of (take longest entry)) else None
 
--- a literal, or a name of at most so many characters; none where the columns are blank
+-- a literal, or a name of at most `longest` characters; none if the columns are blank
 unfoldable pub factor_of : ℕ → List ℕ → Option (Factor Name)
 factor_of longest entry =
     option_or (option_map (λ text. Text (text_literal text)) (constant_text entry))
     (option_or (option_map (λ literal. Number literal) (number_literal_of entry)) (option_map (λ name. Named name) (name_within longest entry)))
 
 -- ---- record identification codes
--- C, Z or D
+-- the part of a character that a code compares: C character, Z zone, D digit
 abbrev pub part_of : ℕ → Option CodePart
 part_of code =
     if code == LETTER_C then Some Character
@@ -110,13 +110,13 @@ code_with (Some position) (Some part) negated character =
     Some (record { position = position; negated = negated; part = part; character = character })
 code_with _ _ negated character = None
 
--- the code in seven columns: a position, blank or N, what is compared, a character; none where they are blank
+-- the record identification code in seven columns: position, blank or N, part, character; none if the columns are blank
 unfoldable pub code_of : List ℕ → Option RecordCode
 code_of entry =
     code_with (number_between 1 9999 (take 4 entry)) (part_of (slice_index entry 5)) (slice_index entry 4 == LETTER_N) (slice_index entry 6)
 
 -- ---- calculations
--- when a C line is done
+-- the level entry of a calculation card: when it is performed
 unfoldable pub time_of : List ℕ → Option CalculationTime
 time_of entry =
     if are_blank entry then Some Detail
@@ -125,7 +125,7 @@ time_of entry =
     else if same_codes entry (ebcdic (codes "OR")) then Some Or
     else option_map (λ indicator. Total indicator) (listed TotalList entry)
 
--- the operations by their words
+-- the operation codes
 unfoldable pub operations : List (List ℕ × Operation)
 operations =
     (ebcdic (codes "ADD  "), Add)
@@ -149,11 +149,11 @@ operations =
     ∷ (ebcdic (codes "CHAIN"), Chain)
     ∷ []
 
--- the operation of a word in a table
+-- the operation of a code in a table; `Unknown` if the table doesn't have it
 abbrev pub operation_in : List (List ℕ × Operation) → List ℕ → Operation
 operation_in [] word = Unknown
 operation_in (row ∷ rows) word = if same_codes word row.0 then row.1 else operation_in rows word
 
--- none where the columns are blank
+-- the operation in these columns; none if they are blank
 abbrev pub operation_of : List ℕ → Option Operation
 operation_of entry = if are_blank entry then None else Some (operation_in operations entry)

@@ -1,4 +1,4 @@
--- What kind of card of a source each card is.
+-- The kind of each card of a source.
 use Rattle.std.specs.Prelude.{ℕ, List, Bool, true, false, ◌==◌, ◌&&◌, if◌then◌else◌, codes}
 use Rattle.s3_cards.specs.declared.ebcdic.TheConstants.{ASTERISK, LETTER_C, LETTER_F, LETTER_H, LETTER_I, LETTER_O}
 use Rattle.s3_cards.specs.Codes.{ebcdic}
@@ -8,11 +8,11 @@ use Rattle.s3_sheets.specs.Columns.{column, columns, are_blank, same_codes}
 use Rattle.s3_sheets.specs.declared.kind.CardKind.{CardKind}
 use Rattle.s3_sheets.specs.declared.kind.CardKind.TheVariants.{Comment, Unknown, Header, File, Record, RecordAnd, RecordOr, Field, Calculation, OutputLine, OutputAnd, OutputOr, OutputField}
 
--- AND in 14-16, with the name columns before it blank
+-- AND in 14-16, and blanks in the columns of the name before it
 unfoldable pub says_and : List ℕ → Bool
 says_and card = are_blank (columns card shared.BEFORE_GROUP) && same_codes (columns card shared.GROUP) (ebcdic (codes "AND"))
 
--- OR in 14-16, with the name columns before it blank
+-- OR in 14-15, and blanks in the columns of the name before it and in 16
 unfoldable pub says_or : List ℕ → Bool
 says_or card = are_blank (columns card shared.BEFORE_GROUP) && same_codes (columns card shared.GROUP) (ebcdic (codes "OR "))
 
@@ -41,7 +41,7 @@ kind_of card =
     else if form == LETTER_O then output_kind card
     else Unknown
 
--- the sheets in their order from 1; 0 for a card that is of none
+-- the number of a sheet in the order of sheets, from 1; 0 for a card without a sheet
 abbrev pub sheet_of : CardKind → ℕ
 sheet_of Comment = 0
 sheet_of Unknown = 0

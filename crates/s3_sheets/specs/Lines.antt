@@ -1,4 +1,4 @@
--- The typed line of each card: of a card without a fault it is what the card says.
+-- The typed line of each card; its values have a meaning only if the card has no errors.
 use Rattle.std.specs.Prelude.{ℕ, Bool, true, false, ◌+◌, List, [], ◌∷◌, ◌++◌, ◌==◌, ◌&&◌, zero, suc, Option, Some, None, unwrap_or, length, slice_index_or, if◌then◌else◌, codes}
 use Rattle.std.specs.Option.{option_to_list}
 use Rattle.s3_cards.specs.declared.ebcdic.TheConstants.{LETTER_A, LETTER_B, LETTER_C, LETTER_E, LETTER_H, LETTER_I, LETTER_L, LETTER_M, LETTER_O, LETTER_P, LETTER_R, LETTER_S, LETTER_T, LETTER_U}
@@ -60,7 +60,7 @@ number_or_zero entry = unwrap_or (number_of entry) 0
 abbrev pub maybe_name : List ℕ → Option Name
 maybe_name entry = if are_blank entry then None else Some (name_of entry)
 
--- ---- the F sheet
+-- ---- File Description specifications
 abbrev pub use_of : ℕ → FileUse
 use_of code = if code == LETTER_O then OutputUse else if code == LETTER_U then UpdateUse else InputUse
 
@@ -106,14 +106,14 @@ file_line card = record {
   condition = listed SwitchList (columns card file.CONDITION);
 }
 
--- ---- the I sheet
+-- ---- Input specifications
 abbrev pub record_indicator : List ℕ → Indicator
 record_indicator entry = unwrap_or (listed RecordList entry) (General 1)
 
 abbrev pub three_codes : List ℕ → List (Option RecordCode)
 three_codes card = code_of (columns card input.CODE_1) ∷ code_of (columns card input.CODE_2) ∷ code_of (columns card input.CODE_3) ∷ []
 
--- with decimals a number, else characters
+-- with decimals the field is a number, otherwise characters
 abbrev pub form_of : Bool → List ℕ → FieldForm
 form_of packed decimals =
     if are_blank decimals then (if packed then PackedText else AlphanumericForm)
@@ -131,12 +131,12 @@ field_line card = record {
   indicators = listed RecordList (columns card input.PLUS) ∷ listed RecordList (columns card input.MINUS) ∷ listed RecordList (columns card input.ZERO) ∷ [];
 }
 
--- ---- the C sheet
--- how long a name in factor 2 may be: CHAIN has a file there
+-- ---- Calculation specifications
+-- the longest name that factor 2 may have: 8 for CHAIN, which names a file, else 6
 abbrev pub longest_name : List ℕ → ℕ
 longest_name card = if same_codes (columns card calculation.OPERATION) (ebcdic (codes "CHAIN")) then 8 else 6
 
--- the shape that a length and decimals give; a length without decimals is one of characters
+-- the shape that a length and decimals define; without decimals it is a text
 abbrev pub definition_of : List ℕ → List ℕ → Option Shape
 definition_of size decimals =
     if are_blank decimals then (if are_blank size then None else Some (Alphanumeric (unwrap_or (number_between 1 256 size) 0)))
@@ -155,7 +155,7 @@ calculation_line card = record {
   indicators = listed ResultingList (columns card calculation.HIGH) ∷ listed ResultingList (columns card calculation.LOW) ∷ listed ResultingList (columns card calculation.EQUAL) ∷ [];
 }
 
--- ---- the O sheet
+-- ---- Output specifications
 abbrev pub three_conditions : List ℕ → List (Option Condition)
 three_conditions card =
     condition_of (columns card output.INDICATOR_1) ∷ condition_of (columns card output.INDICATOR_2) ∷ condition_of (columns card output.INDICATOR_3) ∷ []
@@ -171,7 +171,7 @@ output_kind_of code =
 unfoldable pub is_addition : List ℕ → Bool
 is_addition card = same_codes (columns card output.ADDITION) (ebcdic (codes "ADD"))
 
--- with ADD the columns of the spaces have letters of that word
+-- the space in an entry; with ADD the columns have letters of that word instead
 abbrev pub space_of : Bool → List ℕ → Option ℕ
 space_of addition entry = if addition then None else number_between 0 3 entry
 
@@ -192,13 +192,13 @@ output_card card = record {
   conditions = three_conditions card;
 }
 
--- packed, or by an edit code if there is one
+-- packed, or edited if there is an edit code
 abbrev pub output_form : Bool → Option EditCode → OutputForm
 output_form true code = Packed
 output_form false (Some code) = Edited code
 output_form false None = Plain
 
--- a field, or where its columns are blank the constant
+-- a field, or if its columns are blank the constant
 abbrev pub content_of : List ℕ → OutputContent Name
 content_of card =
     if are_blank (columns card output.FIELD_NAME) then ConstantContent (constant (unwrap_or (constant_text (columns card output.CONSTANT)) []))
@@ -215,8 +215,8 @@ output_field card = record {
   «end» = unwrap_or (number_between 1 9999 (columns card output.END_POSITION)) 1;
 }
 
--- ---- all sheets
--- What a card of some kind says. A comment says nothing.
+-- ---- all specifications
+-- The typed line of a card of some kind. A comment has none.
 abbrev pub sheet_line : CardKind → List ℕ → Option SheetLine
 sheet_line kind.Comment card = None
 sheet_line kind.Unknown card = None
@@ -244,11 +244,11 @@ line_of number card = line_at number (sheet_line (kind_of card) card)
 abbrev pub card_at : List (List ℕ) → ℕ → List ℕ
 card_at cards i = slice_index_or cards i []
 
--- the lines of the first n cards, which stand from a place of their deck on
+-- the lines of the first n cards; `from` is the number of cards before the first
 abbrev pub lines_below : ℕ → List (List ℕ) → ℕ → List Line
 lines_below from cards zero = []
 lines_below from cards (suc n) = lines_below from cards n ++ option_to_list (line_of (from + n + 1) (card_at cards n))
 
--- the lines of cards that stand from a place of their deck on
+-- the lines of cards; `from` is the number of cards before the first
 unfoldable pub lines_of : ℕ → List (List ℕ) → List Line
 lines_of from cards = lines_below from cards (length cards)

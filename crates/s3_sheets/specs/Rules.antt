@@ -1,4 +1,4 @@
--- What may stand in the columns of a card, and what is wrong where something else does.
+-- The entries that the columns of a card may have, and the error if they have another.
 use Rattle.std.specs.Prelude.{ℕ, List, Bool, true, false, ◌==◌, ◌&&◌, ◌||◌, Option, is_some, take, slice_index, if◌then◌else◌}
 use Rattle.std.specs.List.{list_all, list_any}
 use Rattle.s3_cards.specs.declared.ebcdic.TheConstants.{BLANK, LETTER_N}
@@ -12,9 +12,9 @@ use Rattle.s3_sheets.specs.declared.faults.Fault.{Fault}
 use Rattle.s3_sheets.specs.declared.faults.Fault.TheVariants.{WrongEntry, WrongName, WrongNumber}
 use Rattle.s3_sheets.specs.declared.faults.Faults.{Faults}
 
--- what may stand in some columns
+-- the allowed entry of some columns
 pub data Entry : Type 0 where
-  -- nothing
+  -- blank
   Blank : Entry
   -- one of these texts
   OneOf : List (List ℕ) → Entry
@@ -22,32 +22,32 @@ pub data Entry : Type 0 where
   -- an indicator of a list
   Listed : IndicatorList → Entry
   MaybeListed : IndicatorList → Entry
-  -- a letter and then 1 to 9, or blank
+  -- blank, or a letter and then 1 to 9
   MaybeLevel : ℕ → Entry
   MaybeCondition : Entry
-  -- when a C line is done
+  -- the level entry of a calculation card
   Time : Entry
-  -- blank or N, then C, Z or D, behind the position in the first four columns of a code of seven, or a blank code
+  -- a record identification code of seven columns, checked after its position: blank or N, then C, Z or D; or a blank code
   CodeTest : Entry
   MaybeEditCode : Entry
   Name : Entry
   MaybeName : Entry
   MaybeConstant : Entry
-  -- a literal, or a name of at most so many characters, or blank
+  -- a literal, a name of at most this many characters, or blank
   MaybeFactor : ℕ → Entry
   -- a number in a range
   Number : ℕ → ℕ → Entry
   MaybeNumber : ℕ → ℕ → Entry
-  -- the position in the first four columns of a code of seven, or a blank code
+  -- a record identification code of seven columns, its position in the first four; or a blank code
   CodePosition : Entry
 
--- the columns from one to another, counted from 1, and what may stand there
+-- the columns from one to another, counted from 1, with their allowed entry
 pub record Rule : Type 0 where
   pub from : ℕ
   pub to : ℕ
   pub entry : Entry
 
--- blank, or something that is read
+-- blank, or an entry that can be read
 abbrev pub is_blank_or : {X : Type 0} → (List ℕ → Option X) → List ℕ → Bool
 is_blank_or read entry = are_blank entry || is_some (read entry)
 
@@ -71,7 +71,7 @@ allows (Number low high) entry = is_some (number_between low high entry)
 allows (MaybeNumber low high) entry = is_blank_or (number_between low high) entry
 allows CodePosition entry = is_blank_or (λ entry. number_between 1 9999 (take 4 entry)) entry
 
--- what is wrong where something else stands
+-- the kind of error if the columns have another entry
 abbrev pub fault_of : Entry → Fault
 fault_of Blank = WrongEntry
 fault_of (OneOf allowed) = WrongEntry
@@ -91,7 +91,7 @@ fault_of (Number low high) = WrongNumber
 fault_of (MaybeNumber low high) = WrongNumber
 fault_of CodePosition = WrongNumber
 
--- ---- what is wrong with a card: 2, 3 and 4
+-- ---- the errors of a card: 2, 3 and 4
 abbrev pub no_faults : Faults
 no_faults = record { entry = false; name = false; number = false }
 
@@ -103,11 +103,11 @@ one_fault WrongNumber = record { entry = false; name = false; number = true }
 abbrev pub both_faults : Faults → Faults → Faults
 both_faults a b = record { entry = a.entry || b.entry; name = a.name || b.name; number = a.number || b.number }
 
--- what is wrong by one rule
+-- the errors by one rule
 unfoldable pub rule_faults : List ℕ → Rule → Faults
 rule_faults card rule = if allows rule.entry (columns_between card rule.from rule.to) then no_faults else one_fault (fault_of rule.entry)
 
--- what is wrong by some rules
+-- the errors by some rules
 abbrev pub broken_by : List Rule → List ℕ → Faults
 broken_by rules card = record {
   entry = list_any (λ rule. (rule_faults card rule).entry) rules;

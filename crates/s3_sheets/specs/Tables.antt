@@ -1,6 +1,5 @@
--- The rules of each kind of card, each for some of its columns alone.
--- Columns that stand in no rule are read together with others, in Combinations: 24 to 27 of an F card, 33 to 42 and 49 to 51 of a
--- C card, 16 to 18 of an output line.
+-- The rules of each kind of card, each for some of its columns. Columns without a rule are checked together with others, in Combinations:
+-- 24 to 27 of File Description cards, 33 to 42 and 49 to 51 of Calculation cards, 16 to 18 of output lines.
 use Rattle.std.specs.Prelude.{ℕ, List, [], ◌∷◌, codes}
 use Rattle.s3_cards.specs.declared.ebcdic.TheConstants.{LETTER_L, LETTER_M}
 use Rattle.s3_cards.specs.Codes.{ebcdic}
@@ -19,7 +18,7 @@ use Rattle.s3_sheets.specs.declared.kind.CardKind.TheVariants.{Comment, Unknown,
 abbrev pub rule : Span → Entry → Rule
 rule span entry = record { from = span.from; to = span.to; entry = entry }
 
--- columns that are no entry
+-- columns without an entry, which must be blank
 abbrev pub blank : ℕ → ℕ → Rule
 blank from to = record { from = from; to = to; entry = Blank }
 
@@ -30,7 +29,7 @@ text characters = ebcdic characters
 abbrev pub maybe : List ℕ → Entry
 maybe character = OneOf (text (codes " ") ∷ text character ∷ [])
 
--- the program identification; nothing else is read on the H card
+-- on a Control specification (H) only the program identification is read
 unfoldable pub header_rules : List Rule
 header_rules = rule header.PROGRAM MaybeName ∷ []
 
@@ -58,7 +57,7 @@ file_rules =
     ∷ blank 73 74
     ∷ []
 
--- the three codes of a record line, and the columns behind them
+-- the three codes of a record line, and the columns after them
 abbrev pub code_rules : List Rule
 code_rules =
     rule input.CODE_1 CodePosition

@@ -1,4 +1,4 @@
--- What compiling answers: a program that stands for the lines, or their diagnostics.
+-- The result of compiling: a correct program for the lines, or their diagnostics.
 use Rattle.std.specs.Prelude.{◌≡◌, ◌≢◌, ℕ, List, [], Result, Ok, Err}
 use Rattle.s3_lines.specs.declared.sheet.Line.{Line}
 use Rattle.s3_program.specs.declared.program.Program.{Program}
@@ -7,7 +7,7 @@ use Rattle.s3_diagnose.specs.Diagnostics.{compile_diagnostics}
 use Rattle.s3_compile.specs.declared.compiler.CompileFault.{CompileFault}
 use Rattle.s3_compile.specs.declared.compiler.CompileFault.TheVariants.{NoMemory, Diagnostics}
 
--- a program that stands for lines without diagnostics, or the diagnostics, unless memory ran out
+-- a correct program for lines without diagnostics; otherwise the diagnostics, unless memory runs out
 abbrev pub Compiles : List Line → ℕ → Result Program CompileFault → Type 0
 Compiles lines run_card (Ok program) = (compile_diagnostics run_card lines ≡ []) × StandsFor program lines
 Compiles lines run_card (Err NoMemory) = Unit {0}

@@ -1,4 +1,4 @@
--- Tables that hold what lines define.
+-- Tables of the definitions of a source's lines.
 use Rattle.std.specs.Prelude.{◌≡◌, List, [], ◌++◌, filter_map, option_map}
 use Rattle.s3_lines.specs.declared.sheet.CalculationLine.{CalculationLine}
 use Rattle.s3_lines.specs.declared.sheet.InputLine.{InputLine}
@@ -14,21 +14,21 @@ use Rattle.s3_diagnose.specs.declared.tables.KnownTables.{KnownTables}
 use Rattle.s3_diagnose.specs.Known.{meant_input, meant_calculation}
 use Rattle.s3_diagnose.specs.Lookups.{fields_given, tags_from, subroutines_from}
 
--- each name by the first line that defines it; the fields that the language has itself come first
+-- each name has its first definition; the reserved fields come first
 pub record Defines (known : Definitions) (lines : List Line) : Type 0 where
   pub files : known.files.entries ≡ firsts (files_given lines)
   pub fields : known.fields.entries ≡ firsts (reserved_shapes ++ fields_given lines)
   pub tags : known.tags.entries ≡ firsts (tags_from first_calculation (filter_map calculation_line lines))
   pub subroutines : known.subroutines.entries ≡ firsts (subroutines_from first_calculation (filter_map calculation_line lines))
 
--- the I lines and the C lines, with what they name by such tables
+-- the Input and Calculation specifications, with the meanings that these tables give their names
 abbrev pub inputs_known : Definitions → List Line → List (InputLine Meaning)
 inputs_known known lines = filter_map (λ line. option_map (meant_input (meaning_of (tables_in known))) (input_line line)) lines
 
 abbrev pub calculations_known : Definitions → List Line → List (CalculationLine Meaning)
 calculations_known known lines = filter_map (λ line. option_map (meant_calculation (meaning_of (tables_in known))) (calculation_line line)) lines
 
--- tables of no lines
+-- empty tables
 pub record AreEmpty (known : KnownTables) : Type 0 where
   pub files : known.definitions.files.entries ≡ []
   pub fields : known.definitions.fields.entries ≡ []

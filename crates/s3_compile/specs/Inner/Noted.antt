@@ -1,4 +1,4 @@
--- Tables in which the first entry of each key stays.
+-- Tables that keep the first entry of each key.
 use Rattle.std.specs.Prelude.{◌≡◌, ℕ, ◌+◌, Bool, ◌||◌, List, [], ◌∷◌, Option, Some, None}
 use Rattle.std.specs.Option.{option_or, option_to_list}
 use Rattle.std.specs.Map.{lookup}
@@ -25,23 +25,23 @@ use Rattle.s3_program.specs.declared.mark.TypeKey.{TypeKey}
 use Rattle.s3_program.specs.declared.standing.InputStanding.{InputStanding}
 use Rattle.s3_program.specs.Matching.{levels_of, has_type, marks_in_all, marks_in_some, marks_in_type}
 
--- a table finds what these entries give first
+-- a look-up finds the first of these entries with the key
 pub record Finds {K X S : Type 0} (same : K → K → Bool) (table : IndexMap K X S) (entries : List (K × X)) : Type 0 where
   pub at : (key : K) → get same table key ≡ lookup (same key) entries
 
--- a table finds what the one before finds, and else what these entries give first
+-- a look-up finds what the old table has, or else the first of these entries with the key
 pub record FindsMore {K X S : Type 0} (same : K → K → Bool) (old new : IndexMap K X S) (entries : List (K × X)) : Type 0 where
   pub at : (key : K) → get same new key ≡ option_or (get same old key) (lookup (same key) entries)
 
--- a set has these keys
+-- the set has exactly these keys
 pub record Has {K S : Type 0} (same : K → K → Bool) (set : IndexSet K S) (keys : List K) : Type 0 where
   pub at : (key : K) → contains same set key ≡ list_any (same key) keys
 
--- a set has the keys of the one before and these
+-- the set has the old set's keys and these
 pub record HasMore {K S : Type 0} (same : K → K → Bool) (old new : IndexSet K S) (keys : List K) : Type 0 where
   pub at : (key : K) → contains same new key ≡ contains same old key || list_any (same key) keys
 
--- what a line gives
+-- the marks that a line adds
 abbrev pub all_on : InputStanding → InputLine Meaning → List (GroupMark × ℕ)
 all_on at (FieldOfRecord field) = marks_in_all at.group at.place field.relation (levels_of field)
 all_on at _ = []
@@ -54,7 +54,7 @@ abbrev pub in_type_on : InputStanding → InputLine Meaning → List (TypeMark �
 in_type_on at (FieldOfRecord field) = marks_in_type at.group at.place field.relation (levels_of field)
 in_type_on at _ = []
 
--- ---- what a line of any sheet gives of tags and subroutines, and where the C line behind it stands
+-- ---- the tags and subroutines of a line, and the place of the next calculation line
 abbrev pub tags_of : CalculationStanding → Option (CalculationLine Name) → List (Name × TagPlace)
 tags_of at None = []
 tags_of at (Some line) = option_to_list (tag_given at line)
@@ -76,7 +76,7 @@ behind_given at (Some line) = behind_calculation at line
 abbrev pub calculation_behind : CalculationStanding → Line → CalculationStanding
 calculation_behind at line = behind_given at (calculation_line line)
 
--- ---- what a line of any sheet gives of files, and the place of the F line behind it
+-- ---- the files of a line, and the place of the next file
 abbrev pub places_of : (place : ℕ) → Option FileLine → List (Name × ℕ)
 places_of place None = []
 places_of place (Some file) = (file.name, place) ∷ []
@@ -91,7 +91,7 @@ place_after place (Some file) = place + 1
 abbrev pub place_behind : (place : ℕ) → Line → ℕ
 place_behind place line = place_after place (file_line line)
 
--- ---- what a line of any sheet gives of fields
+-- ---- the fields of a line
 abbrev pub fields_of : Option (InputLine Name) → List (Name × Shape)
 fields_of None = []
 fields_of (Some line) = option_to_list (input_given line)

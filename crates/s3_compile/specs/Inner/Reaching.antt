@@ -1,4 +1,4 @@
--- Callers by what they call, and the subroutines that are added on the way back.
+-- The callers of each subroutine, and a set that grows by callers.
 use Rattle.std.specs.Prelude.{◌≡◌, ℕ, nat_eq, Bool, not, ◌&&◌, ◌||◌, List, [], Vec}
 use Rattle.std.specs.Option.{option_map_or}
 use Rattle.std.specs.List.{list_any}
@@ -11,15 +11,15 @@ use Rattle.s3_program.specs.Jumps.{is_place}
 abbrev pub calls_it : List Call → (caller callee : ℕ) → Bool
 calls_it calls caller callee = list_any (λ call. is_place call.caller caller && nat_eq callee call.callee) calls
 
--- the callers that a table gives for a subroutine
+-- the callers that a table has for a subroutine
 abbrev pub callers_in : {A S : Type 0} → IndexMap ℕ (Vec ℕ A) S → (callee : ℕ) → List ℕ
 callers_in table callee = option_map_or (λ callers. callers.items) (get nat_eq table callee) []
 
--- a table gives for each subroutine those that call it
+-- the table has exactly the callers of each subroutine
 pub record HasCallers {A S : Type 0} (table : IndexMap ℕ (Vec ℕ A) S) (calls : List Call) : Type 0 where
   pub at : (callee caller : ℕ) → list_any (nat_eq caller) (callers_in table callee) ≡ calls_it calls caller callee
 
--- a set grows by these subroutines, and a list by those of them that the set lacked
+-- the set grows by these subroutines, and the list by those that the set lacked
 pub record Adds {S : Type 0} (old new : IndexSet ℕ S) (before after added : List ℕ) : Type 0 where
   pub all : (subroutine : ℕ) → contains nat_eq new subroutine ≡ (contains nat_eq old subroutine || list_any (nat_eq subroutine) added)
   pub fresh : (subroutine : ℕ)

@@ -1,4 +1,4 @@
--- Answers that fit.
+-- The kinds of answers that a request can have.
 use Rattle.std.specs.Prelude.{Bool, true, false}
 use Rattle.s3_lines.specs.declared.sheet.FileLine.{FileLine}
 use Rattle.s3_cycle.specs.declared.request.Answer.{Answer}

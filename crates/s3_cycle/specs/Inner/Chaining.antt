@@ -1,4 +1,4 @@
--- CHAIN: what it seeks, and what follows it.
+-- CHAIN: what it seeks, and how the run continues.
 use Rattle.std.specs.Prelude.{◌≡◌, ℕ, true, Option, Some, None}
 use Rattle.s3_cards.specs.declared.name.Name.{Name}
 use Rattle.s3_lines.specs.declared.sheet.CalculationLine.{CalculationLine}
@@ -23,20 +23,21 @@ use Rattle.s3_cycle.specs.Inner.Requests.{IsSoughtBy, sought_of}
 use Rattle.s3_cycle.specs.Inner.Rest.{calculating, line_at}
 use Rattle.s3_cycle.specs.Inner.Going.{GoesOn, IsRunning, here, held_by, own}
 
--- ---- what it seeks
--- a CHAIN of the program, as it is decoded
+-- ---- what CHAIN seeks
+-- a decoded CHAIN of the program
 pub record ChainsAt (c : Stepper) (chain : Chained) : Type 0 where
   pub line : CalculationLine Reference
   pub of_program : IsLineOf c.program line op.Chain
   pub is : IsChained c.program line chain
 
--- a key as long as that of the file, or a number where the file has none: what the line seeks with the values that the run holds
+-- A key of the file's key length, or a record number if the file has no key. Its value is the one that the semantics seeks with the run's
+-- values.
 pub record Seeks (c : Stepper) (line : CalculationLine Reference) (file : ℕ) (sought : Sought) : Type 0 where
   pub by : IsSoughtBy (file_at c.program file).key sought
   pub value : sought_of sought ≡ sought_in (own c) (held_by c) (named_line c.program line) (file_at c.program file)
 
--- ---- what follows it
--- the CHAIN at a place, and then the calculations
+-- ---- how the run continues
+-- the CHAIN at a place, then the calculations after it
 unfoldable pub chaining : ℕ → Source → Program → Progress → Rest
 chaining place source program progress = on (line_at program place)
   where
@@ -44,7 +45,7 @@ chaining place source program progress = on (line_at program place)
     on None = ended true
     on (Some line) = chained source (again source) line (file_named source (name_in line.factor2)) (calculating source program progress)
 
--- no record is sought or found, and the calculations go on
+-- CHAIN seeks or finds no record, and calculations continue
 pub record PassesChain (old new : Stepper) (place : ℕ) : Type 0 where
   pub program : new.program ≡ old.program
   pub progress : new.progress ≡ old.progress

@@ -11,15 +11,15 @@ use Rattle.s3_program.specs.declared.program.Program.{Program}
 use Rattle.s3_program.specs.declared.starts.TypeStart.{TypeStart}
 use Rattle.s3_match.specs.Inner.Types.{kind_at}
 
--- what is left of an indicator when these go off
+-- the state of an indicator after these types' indicators went off
 abbrev pub turned_off : List Indicator → Indicator → Bool → Bool
 turned_off types other on = if list_any (same_indicator other) types then false else on
 
--- those of the types that start there
+-- the indicators of the types that start at these places
 abbrev pub shown_by : Program → List TypeStart → List Indicator
 shown_by program starts = map (λ start. (kind_at program start).indicator) starts
 
--- those of one file go off
+-- the record identifying indicators of one file go off
 abbrev pub without_types_of : Name → Source → Environment → Environment
 without_types_of file source e =
     record e { on = λ other. e.on other && not (list_any (λ kind. same_name kind.file file && same_indicator other kind.indicator) source.types) }

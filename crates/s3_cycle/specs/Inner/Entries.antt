@@ -1,4 +1,4 @@
--- An indicator where there is one.
+-- Turns an indicator on or off, if the entry has one.
 use Rattle.std.specs.Prelude.{Bool, false, Option, Some, None}
 use Rattle.s3_lines.specs.declared.indicator.Indicator.{Indicator}
 use Rattle.s3_meaning.specs.Environment.{Environment, turn}

@@ -1,4 +1,4 @@
--- What a suspended run holds: its environment by names.
+-- The environment of a suspended run, by names.
 use Rattle.std.specs.Prelude.{pos, false, List, [], Option, option_and_then, slice_get}
 use Rattle.s3_cards.specs.declared.name.Name.{Name}
 use Rattle.s3_meaning.specs.declared.current.Current.{Current}
@@ -14,7 +14,7 @@ use Rattle.s3_cycle.specs.declared.state.State.{State}
 abbrev pub current_in : Program → List (Option Current) → Name → Option Current
 current_in program current name = option_and_then (λ entry. entry) (slice_get current (slot_in (tables program).files name))
 
--- all but the values
+-- the environment without its values
 abbrev pub others : Program → State → Environment
 others program state = record {
   numbers = λ name. pos 0;

@@ -1,4 +1,4 @@
--- Steps of a suspended run: from where it stands it goes on with the run that is meant.
+-- Steps of a suspended run: each continues as the semantics does.
 use Rattle.std.specs.Prelude.{◌≡◌, ◌≤◌, ◌<◌, ℕ, Bool, true, false, not, ◌||◌, List, length, Option, Some, is_some, slice_get}
 use Rattle.std.specs.List.{All, list_any, list_all}
 use Rattle.s3_lines.specs.Files.{is_card_reader}
@@ -53,40 +53,40 @@ use Rattle.s3_cycle.specs.Inner.Requests.{IsLine, FitsFile}
 use Rattle.s3_cycle.specs.Inner.Rest.{rest, inputs_in, moved_bytes, selected_bytes, fields_at}
 use Rattle.s3_cycle.specs.Inner.Environment.{environment}
 
--- ---- where a run stands
+-- ---- the state of a run
 abbrev pub own : Stepper → Source
 own c = source_named c.program
 
 abbrev pub held_by : Stepper → Environment
 held_by c = environment c.program c.state
 
--- what is meant from there
+-- the run that a continuation gives from the current state
 abbrev pub here : Stepper → (Source → Program → Progress → Rest) → Run
 here c meant = meant (own c) c.program c.progress (held_by c)
 
--- ---- soundness
+-- ---- representation invariants
 pub record AreSound (program : Program) (state : State) : Type 0 where
   pub values : AreValues program state.values
   pub current : length state.current.items ≡ length program.files.items
 
--- the fields of a group from a place on stand within a record
+-- the fields of a group, from a place on, lie within a record
 abbrev pub AreWithin : Program → List ℕ → ℕ → Type 0
 AreWithin program bytes place = All (λ (field : FieldLine Name). field.to ≤ length bytes) (fields_at program place)
 
--- the record that is processed: a type starts there, and its fields stand within the record
+-- the record being processed: a record type starts at its place, and its fields lie within the record
 pub record IsSelection (program : Program) (progress : Progress) (selection : Selection) : Type 0 where
   pub within : selection.place < length progress.reading.files.items
   pub starts : is_type_start program selection.start ≡ true
   pub fields : AreWithin program (selected_bytes progress selection) selection.start.fields
 
--- some file is to be read then, or none has a head
+-- some file is unread, or none has a head
 abbrev pub can_begin : List meaning.InputFile → Bool
 can_begin inputs = list_any meaning.is_unread inputs || list_all (λ input. not (is_some (meaning.head_of input))) inputs
 
 abbrev pub CanBegin : Program → Progress → Type 0
 CanBegin program progress = can_begin (inputs_in program progress) ≡ true
 
--- the record was taken, so its file is to be read in the next cycle
+-- the selected record was taken from its file, so the next cycle reads that file
 pub record IsTaken (program : Program) (progress : Progress) (selection : Selection) : Type 0 where
   pub record_there : IsSelection program progress selection
   pub begins : CanBegin program progress
@@ -96,11 +96,11 @@ IsTime program progress (time.Details selection) = IsTaken program progress sele
 IsTime program progress (time.Totals selection) = IsTaken program progress selection
 IsTime program progress time.Last = Unit {0}
 
--- the fields of the record at a head stand within it
+-- the fields of a file's head lie within its record
 pub record IsHeadWithin (program : Program) (input : InputFile) : Type 0 where
   pub within : (start : TypeStart) → input.standing ≡ Stands start → AreWithin program input.bytes start.fields
 
--- a run between two requests
+-- invariant of a run between two requests
 pub record IsRunning (c : Stepper) : Type 0 where
   pub overflow : c.overflow ≡ overflow_of c.program.files.items
   pub state : AreSound c.program c.state
@@ -111,13 +111,13 @@ pub record IsRunning (c : Stepper) : Type 0 where
   pub inputs : AreInputs c.program c.inputs.items
   pub outputs : AreOutputs c.program c.outputs
 
--- calculations go on
+-- calculations can continue
 pub record CanCalculate (program : Program) (progress : Progress) : Type 0 where
   pub time : IsTime program progress progress.time
   pub course : IsCourse program progress.course
 
--- ---- what waits for an answer
--- lines of a kind are put out at their time
+-- ---- what the run waits for
+-- whether lines of a kind can be written at this time
 abbrev pub IsOverflowTime : Program → Progress → Time → Type 0
 IsOverflowTime program progress (time.Details selection) = ⊥
 IsOverflowTime program progress (time.Totals selection) = IsTaken program progress selection
@@ -134,34 +134,34 @@ IsWalk program progress walk.Totals = IsTotalTime program progress progress.time
 IsWalk program progress walk.Exceptions = CanCalculate program progress
 IsWalk program progress walk.Overflow = IsOverflowTime program progress progress.time
 
--- a line with this operation stands at the place
+-- the line at this place has this operation
 pub record IsLineAt (program : Program) (place : ℕ) (bears : Operation) : Type 0 where
   pub line : CalculationLine Reference
   pub there : slice_get program.calculations.items place ≡ Some line
   pub operation : line.operation ≡ Some bears
 
--- the fields of the record that is processed are moved at the time of its details
+-- fields of a selected record are moved in detail time only
 abbrev pub IsDetailTime : Program → Progress → Time → Type 0
 IsDetailTime program progress (time.Details selection) = IsTaken program progress selection
 IsDetailTime program progress (time.Totals selection) = ⊥
 IsDetailTime program progress time.Last = ⊥
 
--- whose fields can be moved now
+-- whether fields can be moved now: of the selected record, or of a chained one
 abbrev pub AreMoves : Program → Progress → Moves → Type 0
 AreMoves program progress moves.Selected = IsDetailTime program progress progress.time
 AreMoves program progress moves.Chained = CanCalculate program progress
 
--- the fields from a place on stand within the record
+-- the fields from a place on can be moved, and lie within the record
 pub record CanMove (program : Program) (progress : Progress) (m : Moves) (place : ℕ) : Type 0 where
   pub moves : AreMoves program progress m
   pub within : AreWithin program (moved_bytes progress m) place
 
--- a field stands there
+-- the line at this place has a field
 pub record IsField (program : Program) (place : ℕ) : Type 0 where
   pub field : FieldLine Reference
   pub there : slice_get program.inputs.items place ≡ Some (InputField field)
 
--- what can follow reply 0
+-- what each continuation after reply 0 needs
 abbrev pub Continues : Program → Progress → Continuation → Type 0
 Continues program progress (after.Halts number) = (is_between 1 9 number ≡ true) × CanBegin program progress
 Continues program progress (after.Lines w next) = IsWalk program progress w
@@ -170,13 +170,13 @@ Continues program progress (after.Field m place) = IsField program place × CanM
 Continues program progress (after.Division place) = IsLineAt program place operation.Divide × CanCalculate program progress
 Continues program progress after.Calculations = CanCalculate program progress
 
--- a request that is answered by this alone
+-- a request whose only answer is Done
 abbrev pub is_print_or_jump : Request → Bool
 is_print_or_jump (asks.Print page line) = true
 is_print_or_jump asks.Jump = true
 is_print_or_jump request = false
 
--- a record is put into the file
+-- the call writes a record to the file
 abbrev pub puts_record : FileCall → Bool
 puts_record calls.Append = true
 puts_record calls.Add = true
@@ -187,13 +187,13 @@ abbrev pub is_record_request : Request → Bool
 is_record_request (asks.File file call) = puts_record call
 is_record_request request = false
 
--- the card, or the record of the file
+-- the request for the file's next head: a card, or a record of this length
 abbrev pub IsHeadRequest : Program → Progress → ℕ → Request → Type 0
 IsHeadRequest program progress place asks.Card = is_card_reader (input_at (inputs_in program progress) place).file.device ≡ true
 IsHeadRequest program progress place (asks.File file (calls.Read length)) = length ≡ (input_at (inputs_in program progress) place).file.record_length
 IsHeadRequest program progress place request = ⊥
 
--- a CHAIN of the program names the file, and has this indicator for no record
+-- a CHAIN of the program names the file, with this indicator for no record
 pub record IsChainOf (program : Program) (file : ℕ) (missing : Option Indicator) : Type 0 where
   pub place : ℕ
   pub line : CalculationLine Reference
@@ -220,20 +220,20 @@ Waits program progress request at.Calculations = (request ≡ asks.Jump) × CanC
 Waits program progress request (at.Reply next) = (is_ask request ≡ true) × Continues program progress next
 Waits program progress request (at.End at_once) = request ≡ asks.End at_once
 
--- a run that waits for an answer
+-- invariant of a run that waits for an answer
 pub record IsWaiting (c : Stepper) : Type 0 where
   pub running : IsRunning c
   pub waits : Waits c.program c.progress c.request c.point
   pub line : IsLine c.request c.composition
   pub fits : FitsFile c.program.files.items c.request c.composition
 
--- it goes on with this run, over the same program, to its next request
+-- the new run has the same program, waits for an answer, and continues as `run`
 pub record GoesOn (old new : Stepper) (run : Run) : Type 0 where
   pub program : new.program ≡ old.program
   pub sound : IsWaiting new
   pub runs : rest (own new) new ≡ run
 
--- ---- changes of the environment alone
+-- ---- updates of the environment only
 pub record Changes (old new : Stepper) (change : Source → Environment → Environment) : Type 0 where
   pub stays : new ≡ record old { state = new.state }
   pub sound : AreSound old.program new.state

@@ -1,10 +1,10 @@
--- Which of H1 to H9 halts next.
+-- Which of H1 to H9 halts the job next.
 use Rattle.std.specs.Prelude.{◌≡◌, ◌≤◌, ◌<◌, ℕ, true, false}
 use Rattle.s3_lines.specs.declared.indicator.Indicator.TheVariants.{Halt}
 use Rattle.s3_cycle.specs.declared.stepper.Stepper.{Stepper}
 use Rattle.s3_cycle.specs.Inner.Going.{held_by}
 
--- none from one number up to another is on
+-- none of the halt indicators of this range is on
 abbrev pub AreOff : Stepper → (from to : ℕ) → Type 0
 AreOff c from to = (n : ℕ) → from ≤ n → n < to → (held_by c).on (Halt n) ≡ false
 

@@ -1,4 +1,4 @@
--- The line that is composed, and the record that is put into its file.
+-- Composing an output line, and writing its record to a file.
 use Rattle.std.specs.Prelude.{◌≡◌, ℕ, true, List, Option, Some, is_some, not, length, replicate, slice_get}
 use Rattle.s3_lines.specs.Files.{is_printer}
 use Rattle.s3_meaning.specs.Environment.{Environment}
@@ -17,14 +17,14 @@ use Rattle.s3_cycle.specs.Inner.Requests.{IsDiskFile, TakesRecord}
 use Rattle.s3_cycle.specs.Inner.Environment.{environment}
 use Rattle.s3_cycle.specs.Inner.Going.{AreSound, own, held_by}
 
--- the line whose instruction stands there has a file
+-- the output line of this number has a file
 pub record CanCompose (c : Stepper) (number : ℕ) : Type 0 where
   pub start : OutputStart
   pub there : slice_get (own_starts c.program.starts) number ≡ Some start
   pub starts : IsStart c.program start
   pub file : is_some (file_of c.program start) ≡ true
 
--- values and the composed record alone have changed, as the meaning composes the line; one that is printed is blank at first
+-- Only values and the composed record have changed, as the semantics composes the line. A printed line begins blank.
 pub record ComposesLine (old new : Stepper) (start : OutputStart) : Type 0 where
   pub same : new ≡ record old { state = new.state; composition = new.composition }
   pub sound : AreSound old.program new.state
@@ -33,12 +33,12 @@ pub record ComposesLine (old new : Stepper) (start : OutputStart) : Type 0 where
       → composed (own old) line.fields (record { positions = replicate (file_at old.program start.file).record_length (first_position (not (is_printer (file_at old.program start.file).device))); after = held_by old })
       ≡ record { positions = new.composition; after = environment old.program new.state }
 
--- what a line asks for is this request of the file at a slot
+-- the line's request is this request to the file in a slot
 abbrev pub AsksFor : Program → (file : ℕ) → Output → DiskRequest → Type 0
 AsksFor program file line request =
     (positions : List (Option ℕ)) (e : Environment) → disk_request (file_at program file) line positions e ≡ disk.request_of request (file_at program file) positions e
 
--- the record that is composed goes into the file at a slot, which takes it
+-- the composed record can be written to the file in a slot
 pub record CanStore (c : Stepper) (file : ℕ) (request : DiskRequest) : Type 0 where
   pub line : Output
   pub asks : AsksFor c.program file line request

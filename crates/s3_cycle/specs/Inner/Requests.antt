@@ -1,4 +1,4 @@
--- Requests and answers as the meaning of a source has them.
+-- Requests and answers in the terms of the semantics.
 use Rattle.std.specs.Prelude.{◌≡◌, ℕ, ◌≤◌, true, false, List, length, slice_get, Option, Some, None, is_some}
 use Rattle.s3_cards.specs.declared.name.Name.{Name}
 use Rattle.s3_lines.specs.declared.sheet.Device.TheVariants.{Disk}
@@ -23,7 +23,7 @@ abbrev pub sought_of : Sought → Meant.Sought
 sought_of (Key key) = Meant.Key key.items
 sought_of (RecordNumber number) = Meant.RecordNumber number
 
--- what is asked of the file of this name; a text or a record is what is put at the positions of the composed one
+-- the request to the file of this name; its text or record has these positions
 abbrev pub request_to : Name → (positions : List (Option ℕ)) → FileCall → Meant.Request
 request_to name positions (Read length) = Meant.Read name length
 request_to name positions (Chain length sought) = Meant.Chain name length (sought_of sought)
@@ -46,52 +46,52 @@ answer_of Done = Meant.Done
 answer_of (Refused code) = Meant.Refused code
 answer_of (Reply digit) = Meant.Reply digit
 
--- a line that is to be printed has 1 to 132 positions
+-- a printed line has 1 to 132 positions
 abbrev pub IsLine : {X : Type 0} → Request → List X → Type 0
 IsLine (Print page line) text = (1 ≤ length text) × (length text ≤ 132)
 IsLine request text = Unit {0}
 
--- ---- the file that a request is for
--- a file on disk stands at the slot, with such an F line
+-- ---- the file of a request
+-- the file in this slot is on disk, and its File Description specification suits
 pub record IsDiskFile (files : List FileLine) (slot : ℕ) (Suits : FileLine → Type 0) : Type 0 where
   pub line : FileLine
   pub there : slice_get files slot ≡ Some line
   pub on_disk : line.device ≡ Disk
   pub suits : Suits line
 
--- records of this length are read by the cycle
+-- the cycle reads records of this length from the file
 pub record IsReadInOrder (size : ℕ) (line : FileLine) : Type 0 where
   pub long : size ≡ line.record_length
   pub selected : is_input line ≡ true
 
--- a key as long as that of the file, or a number where the file has no key
+-- a key of the file's key length, or a record number if the file has no key
 abbrev pub IsSoughtBy : Option KeyField → Sought → Type 0
 IsSoughtBy (Some field) (Key key) = length key.items ≡ field.length
 IsSoughtBy None (RecordNumber number) = Unit {0}
 IsSoughtBy field sought = ⊥
 
--- records of this length are got at by CHAIN
+-- CHAIN reads records of this length from the file
 pub record IsChainedBy (size : ℕ) (sought : Sought) (line : FileLine) : Type 0 where
   pub long : size ≡ line.record_length
   pub chained : is_chained line.designation ≡ true
   pub sought_by : IsSoughtBy line.key sought
 
--- records of this length are put into it
+-- records of this length can be written to the file
 pub record TakesRecord (size : ℕ) (line : FileLine) : Type 0 where
   pub long : size ≡ line.record_length
   pub put_out : is_only_read line ≡ false
 
--- and by a key that the file doesn't have yet
+-- records with a new key can be added to the file
 pub record TakesAddition (size : ℕ) (line : FileLine) : Type 0 where
   pub takes : TakesRecord size line
   pub keyed : is_some line.key ≡ true
 
--- and its records are changed
+-- the file's records can be updated
 pub record TakesChanges (size : ℕ) (line : FileLine) : Type 0 where
   pub takes : TakesRecord size line
   pub updated : is_updated line ≡ true
 
--- the F line of a file allows the call, which puts out so many positions
+-- the File Description specification allows the call, which writes this many positions
 abbrev pub Allows : FileCall → (positions : ℕ) → FileLine → Type 0
 Allows (Read size) positions = IsReadInOrder size
 Allows (Chain size sought) positions = IsChainedBy size sought
@@ -99,7 +99,7 @@ Allows Append positions = TakesRecord positions
 Allows Add positions = TakesAddition positions
 Allows (Update current) positions = TakesChanges positions
 
--- the F line of its file allows the request
+-- the File Description specification of its file allows the request
 abbrev pub FitsFile : {X : Type 0} → List FileLine → Request → List X → Type 0
 FitsFile files (File slot call) positions = IsDiskFile files slot (Allows call (length positions))
 FitsFile files request positions = Unit {0}

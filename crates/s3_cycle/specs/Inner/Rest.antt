@@ -1,4 +1,4 @@
--- The rest of a run from where it stands: what follows the answer to the pending request.
+-- The continuation of a suspended run: what follows the answer to the pending request.
 use Rattle.std.specs.Prelude.{ℕ, ◌+◌, ◌-◌, Bool, true, false, ◌||◌, List, [], ◌∷◌, map, filter_map, drop, slice_get, Option, Some, None, unwrap_or, option_map, if◌then◌else◌}
 use Rattle.s3_cards.specs.declared.name.Name.{Name}
 use Rattle.s3_lines.specs.declared.indicator.Indicator.{Indicator}
@@ -46,7 +46,7 @@ use Rattle.s3_cycle.specs.Inner.Requests.{request_of}
 use Rattle.s3_cycle.specs.Inner.Entries.{turn_entry}
 use Rattle.s3_cycle.specs.Inner.Environment.{environment}
 
--- ---- the record that is processed
+-- ---- the record being processed
 abbrev pub selected_input : Progress → Selection → Option code.InputFile
 selected_input progress selection = slice_get progress.reading.files.items selection.place
 
@@ -59,8 +59,8 @@ selected_of program progress selection = record {
   head = record { number = selection.number; bytes = selected_bytes progress selection; kind = kind_at program selection.start };
 }
 
--- ---- behind calculations
--- detail calculations: the next cycle
+-- ---- after calculations
+-- after detail calculations comes the next cycle
 unfoldable pub details_done : Source → Program → Progress → Selection → Rest
 details_done source program progress selection e =
     (again source).cycle (reading_in program progress.reading) (with_totals_due source (selected_of program progress selection) e)
@@ -71,24 +71,24 @@ record_moved source program progress selection e =
     detail_time source (again source) (selected_of program progress selection) ((again source).cycle (reading_in program progress.reading))
     (matched selection.is_matched (selected_of program progress selection) e)
 
--- step 8, and step 9
+-- after step 8: the job ends if LR is on, else step 9 follows
 unfoldable pub totals_done : Source → Program → Progress → Selection → Rest
 totals_done source program progress selection e =
     (if e.on LastRecord then ended false else overflow_lines source (again source) (record_moved source program progress selection)) e
 
--- behind T lines: of the last record, with which the job ends, or of the one before the selected one
+-- after T lines: the job ends after those of the last record; otherwise the selected record is processed
 abbrev pub totals_end : Source → Program → Progress → Time → Rest
 totals_end source program progress (time.Details selection) = totals_done source program progress selection
 totals_end source program progress (time.Totals selection) = totals_done source program progress selection
 totals_end source program progress time.Last = ended false
 
--- behind the lines at overflow
+-- after the overflow lines
 abbrev pub overflow_end : Source → Program → Progress → Time → Rest
 overflow_end source program progress (time.Details selection) = λ e. record_moved source program progress selection (without_overflow source e)
 overflow_end source program progress (time.Totals selection) = λ e. record_moved source program progress selection (without_overflow source e)
 overflow_end source program progress time.Last = ended false
 
--- the lines of the O sheet that are put out together, from one of them on
+-- the output lines of one walk: those that are tried in sequence
 abbrev pub starts_of : Starts → Walk → List OutputStart
 starts_of starts walk.Beginning = starts.beginning.items
 starts_of starts walk.Totals = starts.totals.items
@@ -113,30 +113,30 @@ is_at_overflow walk.Overflow = true
 unfoldable pub lines_then : Source → Program → Walk → ℕ → Rest → Rest
 lines_then source program w next go = lines_put source (again source) (is_wanted w) (is_at_overflow w) (outputs_from program w next) go
 
--- calculations that belong to this time, to their end
+-- after the calculations of this time
 abbrev pub after_calculations : Source → Program → Progress → Time → Rest
 after_calculations source program progress (time.Details selection) = details_done source program progress selection
 after_calculations source program progress (time.Totals selection) = lines_then source program walk.Totals 0 (totals_end source program progress (time.Totals selection))
 after_calculations source program progress time.Last = lines_then source program walk.Totals 0 (totals_end source program progress time.Last)
 
--- the calculations from where a run stands, those behind each EXSR that is not done, and what follows
+-- the remaining calculations, those after each EXSR that hasn't returned, and what follows
 abbrev pub calculating : Source → Program → Progress → Rest
 calculating source program progress =
     goes_through program (again source) (after_calculations source program progress progress.time) (spots_of progress.course)
 
 -- ---- the steps of the next cycle
--- step 2, and all that follows
+-- step 2 and everything after it
 unfoldable pub cycle_from : Source → Program → Progress → Rest
 cycle_from source program progress =
     cleared source
     (λ e. (if e.on LastRecord then last_time source (again source) else reading_time source (again source) (reading_in program progress.reading)) e)
 
--- those of H1 to H9 from a number on
+-- the halts from H`n` on
 abbrev pub halts_from : Source → Program → Progress → ℕ → Rest
 halts_from source program progress n =
     halts_shown (again source) (drop (n - 1) (1 ∷ 2 ∷ 3 ∷ 4 ∷ 5 ∷ 6 ∷ 7 ∷ 8 ∷ 9 ∷ [])) (cycle_from source program progress)
 
--- ---- behind lines
+-- ---- after output lines
 abbrev pub after_lines : Source → Program → Progress → Walk → Rest
 after_lines source program progress walk.Beginning = λ e. halts_from source program progress 1 (turn FirstPage false e)
 after_lines source program progress walk.Totals = totals_end source program progress progress.time
@@ -150,22 +150,22 @@ lines_from source program progress w next = lines_then source program w next (af
 abbrev pub inputs_in : Program → Progress → List InputFile
 inputs_in program progress = (reading_in program progress.reading).files
 
--- all files were read
+-- all files are read, and a record is selected
 unfoldable pub heads_read : Source → Program → Progress → List InputFile → Rest
 heads_read source program progress inputs =
     let heads : MeantReading = record { files = inputs; primary_key = (reading_in program progress.reading).primary_key } in
     selected_or_last source (again source) heads (select heads)
 
--- the file at a place was read, and those behind it are
+-- the file at a place has been read, and the files after it follow
 abbrev pub head_put : Source → Program → Progress → ℕ → InputFile → Rest
 head_put source program progress place = read_behind source (again source) (inputs_in program progress) place (heads_read source program progress)
 
--- the answer of the file at a place
+-- the file at a place answers
 abbrev pub head_answered : Source → Program → Progress → ℕ → Answer → Rest
 head_answered source program progress place answer =
     on_read source (again source) (input_at (inputs_in program progress) place) (head_put source program progress place) answer
 
--- the file at a place is read anew
+-- reads the file at a place again
 abbrev pub head_again : Source → Program → Progress → ℕ → Rest
 head_again source program progress place = (again source).read (input_at (inputs_in program progress) place) (head_put source program progress place)
 
@@ -173,7 +173,7 @@ head_again source program progress place = (again source).read (input_at (inputs
 abbrev pub fields_at : Program → ℕ → List (FieldLine Name)
 fields_at program place = group_fields (map (named_input (tables program)) (drop place program.inputs.items))
 
--- those of the record that is processed, at the time of its details
+-- the bytes of the record being processed, in detail time
 abbrev pub processed_bytes : Progress → Time → List ℕ
 processed_bytes progress (time.Details selection) = selected_bytes progress selection
 processed_bytes progress (time.Totals selection) = []
@@ -183,18 +183,18 @@ abbrev pub moved_bytes : Progress → Moves → List ℕ
 moved_bytes progress moves.Selected = processed_bytes progress progress.time
 moved_bytes progress moves.Chained = progress.«record»
 
--- the detail calculations of a record from their first line
+-- all detail calculations of a record
 abbrev pub first_details : Source → Program → Progress → Selection → Rest
 first_details source program progress selection =
     calculated source (again source) (detail_calculations source) (details_done source program progress selection) None (detail_calculations source)
 
--- those of the record that is processed
+-- after the fields of the record being processed come the detail calculations
 abbrev pub processed_then : Source → Program → Progress → Time → Rest
 processed_then source program progress (time.Details selection) = first_details source program progress selection
 processed_then source program progress (time.Totals selection) = ended false
 processed_then source program progress time.Last = ended false
 
--- the detail calculations, or those behind the CHAIN
+-- after fields come the detail calculations, or the calculations after the CHAIN
 abbrev pub after_fields : Source → Program → Progress → Moves → Rest
 after_fields source program progress moves.Selected = processed_then source program progress progress.time
 after_fields source program progress moves.Chained = calculating source program progress
@@ -203,7 +203,7 @@ unfoldable pub fields_from : Source → Program → Progress → Moves → ℕ �
 fields_from source program progress m place =
     fields_moved (again source) (fields_at program place) (moved_bytes progress m) (after_fields source program progress m)
 
--- the number of the field at a place is moved, its bad digits 0, and then the fields behind it
+-- moves the field at a place with its bad digits as 0, then the fields after it
 abbrev pub field_then : Source → Program → Progress → Moves → ℕ → Rest
 field_then source program progress m place = on (fields_at program place)
   where
@@ -212,7 +212,7 @@ field_then source program progress m place = on (fields_at program place)
     on (field ∷ fields) e =
         fields_from source program progress m (place + 1) (with_field field field.form (field_bytes field (moved_bytes progress m)) e)
 
--- ---- the rest
+-- ---- the continuation
 abbrev pub line_at : Program → ℕ → Option (CalculationLine Name)
 line_at program place = option_map (named_line program) (slice_get program.calculations.items place)
 
@@ -247,7 +247,7 @@ answered source program progress at.Calculations answer = calculating source pro
 answered source program progress (at.Reply next) answer = replied (again source) (continued source program progress next) answer
 answered source program progress (at.End at_once) answer = ended at_once
 
--- the request that stands after these answers more
+-- the next request after these further answers
 unfoldable pub rest : Source → Stepper → Run
 rest source c =
     ask (request_of c.program c.composition c.request) (λ answer. answered source c.program c.progress c.point answer (environment c.program c.state))

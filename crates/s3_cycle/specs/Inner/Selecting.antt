@@ -10,7 +10,7 @@ use Rattle.s3_cycle.specs.declared.stepper.Stepper.{Stepper}
 use Rattle.s3_cycle.specs.Inner.Rest.{selected_of}
 use Rattle.s3_cycle.specs.Inner.Going.{IsTaken, IsHeadWithin}
 
--- the head of the file at the place is taken, and is the record that is processed
+-- the head of the file at this place is taken, and becomes the record being processed
 pub record Takes (old new : Stepper) (place : ℕ) (selection : Selection) : Type 0 where
   pub same : new ≡ record old { progress = record old.progress { reading = new.progress.reading } }
   pub reading : IsReading old.program new.progress.reading
@@ -20,6 +20,6 @@ pub record Takes (old new : Stepper) (place : ℕ) (selection : Selection) : Typ
   pub rest : reading_in old.program new.progress.reading ≡ taken (reading_in old.program old.progress.reading) (selected_of old.program new.progress selection)
   pub matched : selection.is_matched ≡ is_matched (reading_in old.program old.progress.reading) (selected_of old.program new.progress selection)
 
--- steps 4 and 5
+-- steps 4 and 5: the record identifying indicator goes on, and control breaks are detected
 abbrev pub identified : Selected → Environment → Environment
 identified selected e = broken selected.head (turn selected.head.kind.indicator true e)

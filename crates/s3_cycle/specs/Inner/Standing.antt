@@ -1,4 +1,4 @@
--- Where a run that halts stands in its source, and what it holds there.
+-- The source line and the data at which a job halts.
 use Rattle.std.specs.Prelude.{◌≡◌, ◌⊎◌, ℕ, ◌-◌, ◌∷◌, Bool, true, false, List, [], slice_get, Option, Some, None, option_map, if◌then◌else◌}
 use Rattle.std.specs.Option.{option_and_then}
 use Rattle.s3_lines.specs.declared.sheet.CalculationLine.{CalculationLine}
@@ -41,8 +41,8 @@ use Rattle.s3_cycle.specs.declared.stepper.Stepper.{Stepper}
 use Rattle.s3_cycle.specs.Inner.Going.{IsField, IsLineAt, own, held_by}
 use Rattle.s3_cycle.specs.Inner.Rest.{calculating, division_then, field_then, head_again, lines_from, moved_bytes, rest, selected_bytes, selected_input, starts_of}
 
--- ---- where it stands
--- the output line before the next one of those that are put out together
+-- ---- the place of a halt
+-- the output line before the next one of a walk
 abbrev pub output_before : Program → Walk → ℕ → Stand
 output_before program w next = on (slice_get (starts_of program.starts w) (next - 1))
   where
@@ -50,7 +50,7 @@ output_before program w next = on (slice_get (starts_of program.starts w) (next 
     on None = Nowhere
     on (Some start) = Output start.file start.place
 
--- the record that was read last of the file at a place among those that are read
+-- the last record read from the file at a place
 abbrev pub head_at : Progress → ℕ → Stand
 head_at progress place = on (slice_get progress.reading.files.items place)
   where
@@ -58,7 +58,7 @@ head_at progress place = on (slice_get progress.reading.files.items place)
     on None = Nowhere
     on (Some input) = Head input.file input.reads
 
--- a field of the record that is processed
+-- a field of the record being processed
 abbrev pub field_at : Progress → ℕ → Stand
 field_at progress place = by progress.time
   where
@@ -71,7 +71,7 @@ field_at progress place = by progress.time
     by (time.Totals selection) = Nowhere
     by time.Last = Nowhere
 
--- what reply 0 goes on from
+-- the place that reply 0 continues from
 abbrev pub stand_before : Program → Progress → Continuation → Stand
 stand_before program progress (after.Halts number) = Nowhere
 stand_before program progress (after.Lines w next) = output_before program w next
@@ -88,16 +88,16 @@ stand_of c = on c.point
     on (at.Reply next) = stand_before c.program c.progress next
     on point = Nowhere
 
--- ---- the record that it stands at
--- the one whose field it is, or the one that is put out
+-- ---- the record at the halt
+-- the record whose field is moved, or the record that is written
 abbrev pub record_at : Stepper → Stand → List ℕ
 record_at c (Field place file number) = moved_bytes c.progress moves.Selected
 record_at c (ChainedField place) = moved_bytes c.progress moves.Chained
 record_at c (Output file place) = filled c.composition
 record_at c stand = []
 
--- ---- the totals that it is at
--- those before a record
+-- ---- the totals at the halt
+-- the totals before this record
 abbrev pub totals_before : Progress → Selection → Totals
 totals_before progress selection = on (selected_input progress selection)
   where
@@ -110,18 +110,18 @@ totals_of progress (time.Details selection) = totals.Elsewhere
 totals_of progress (time.Totals selection) = totals_before progress selection
 totals_of progress time.Last = totals.Last
 
--- the record that they come before
+-- the record that follows the totals
 abbrev pub record_behind : Progress → Time → List ℕ
 record_behind progress (time.Details selection) = []
 record_behind progress (time.Totals selection) = selected_bytes progress selection
 record_behind progress time.Last = []
 
--- ---- the CHAIN that it stands at
+-- ---- the CHAIN at the halt
 abbrev pub is_chain : Option Operation → Bool
 is_chain (Some op.Chain) = true
 is_chain operation = false
 
--- the line at a place, where it is a CHAIN
+-- the line at a place, if it is a CHAIN
 abbrev pub chain_at : Program → ℕ → Option (CalculationLine Reference)
 chain_at program place = on (slice_get program.calculations.items place)
   where
@@ -129,7 +129,7 @@ chain_at program place = on (slice_get program.calculations.items place)
     on None = None
     on (Some line) = if is_chain line.operation then Some line else None
 
--- the same, as it is decoded
+-- the decoded CHAIN at a place
 pub record IsChainAt (program : Program) (place : ℕ) (chain : Chained) : Type 0 where
   pub line : CalculationLine Reference
   pub there : chain_at program place ≡ Some line
@@ -140,21 +140,21 @@ abbrev pub chained_in : Asked → Option Chained
 chained_in (asked.Chain chain) = Some chain
 chained_in request = None
 
--- it is found, where one is there
+-- the decoded CHAIN at a place, if the line there is a CHAIN
 abbrev pub FindsChain : Program → (place : ℕ) → Option Chained → Type 0
 FindsChain program place (Some chain) = IsChainAt program place chain
 FindsChain program place None = chain_at program place ≡ None
 
--- the one that it stands at
+-- the CHAIN at which the job halts
 abbrev pub chain_of : Program → Stand → Option (CalculationLine Reference)
 chain_of program (Calculation place) = chain_at program place
 chain_of program stand = None
 
--- what a line seeks with the values that the run holds
+-- what a CHAIN line seeks with the run's values
 unfoldable pub sought_by : Stepper → CalculationLine Reference → Option Meant.Sought
 sought_by c line = option_map (sought_in (own c) (held_by c) (named_line c.program line)) (file_sought c.program line)
 
--- ---- the file that it stands at
+-- ---- the file at the halt
 abbrev pub slot_named : Option (Factor Reference) → Option ℕ
 slot_named (Some (Named (File slot))) = Some slot
 slot_named factor = None
@@ -167,12 +167,12 @@ file_of program (Output file place) = Some file
 file_of program (Calculation place) = option_and_then (λ (line : CalculationLine Reference). slot_named line.factor2) (chain_at program place)
 file_of program stand = None
 
--- ---- the card that it stands at, and the line at which its request was made
--- what follows reply 0
+-- ---- the halting line and the continuation after reply 0
+-- after reply 0 the run continues as this continuation
 abbrev pub GoesOnAs : Source → Stepper → Rest → Type 0
 GoesOnAs source c meant = (answers : List Meant.Answer) → rest source c (Meant.Reply 0 ∷ answers) ≡ meant (held_by c) answers
 
--- the next record of the file, that read last having this number
+-- The halt is at the last record of this file, which has this number. After reply 0 the file is read again.
 pub record AsksHead (source : Source) (c : Stepper) (file number : ℕ) : Type 0 where
   pub place : ℕ
   pub input : InputFile
@@ -181,12 +181,12 @@ pub record AsksHead (source : Source) (c : Stepper) (file number : ℕ) : Type 0
   pub is_number : input.reads ≡ number
   pub goes_on : GoesOnAs source c (head_again source c.program c.progress place)
 
--- the field of the I sheet at the place has bad digits: its number is moved, and the fields behind it
+-- The halt is at the field of this line, which has bad digits. After reply 0 the field is moved, then the fields after it.
 pub record AsksField (source : Source) (c : Stepper) (m : Moves) (place : ℕ) : Type 0 where
   pub is_field : IsField c.program place
   pub goes_on : GoesOnAs source c (field_then source c.program c.progress m place)
 
--- the line of the C sheet at the place is a DIV by zero, whose quotient becomes 0, or the one behind which calculations go on
+-- The halt is at this line. It is a DIV by zero, whose quotient becomes 0 after reply 0, or (`AsksBehind`) calculations continue after it.
 pub record AsksDivision (source : Source) (c : Stepper) (place : ℕ) : Type 0 where
   pub is_division : IsLineAt c.program place op.Divide
   pub goes_on : GoesOnAs source c (division_then source c.program c.progress place)
@@ -195,7 +195,7 @@ pub record AsksBehind (source : Source) (c : Stepper) (place : ℕ) : Type 0 whe
   pub is_behind : place ≡ c.progress.course.here.place - 1
   pub goes_on : GoesOnAs source c (calculating source c.program c.progress)
 
--- the line of the O sheet that starts at the place is passed over, and those behind it are put out
+-- The halt is at the output line that starts at this place. After reply 0 the line is skipped, and the lines after it follow.
 pub record AsksLine (source : Source) (c : Stepper) (file place : ℕ) : Type 0 where
   pub lines : Walk
   pub next : ℕ

@@ -1,4 +1,4 @@
--- The beginning of a run.
+-- The start of a run.
 use Rattle.std.specs.Prelude.{◌≡◌, ℕ, List}
 use Rattle.std.specs.List.{All}
 use Rattle.s3_meaning.specs.Environment.{at_first}
@@ -29,7 +29,7 @@ pub record BeginsProgress (program : Program) (switches : ℕ) (progress : Progr
   pub begins : CanBegin program progress
   pub first : (date : List ℕ) → reading_in program progress.reading ≡ first_reading (source_named program) (at_first (source_named program) switches date)
 
--- its sheets are decoded
+-- the decoded instructions of the program's specifications
 pub record AreInstructions (program : Program) (instructions : Instructions) : Type 0 where
   pub calculations : AreCalculations program instructions.calculations.items
   pub totals_guard : IsTotalsGuard program instructions.totals_guard
@@ -41,7 +41,7 @@ pub record BeginsRun (program : Program) (switches : ℕ) (date : List ℕ) (beg
   pub progress : BeginsProgress program switches beginning.progress
   pub instructions : AreInstructions program beginning.instructions
 
--- a run has just these parts
+-- the run consists of exactly these parts
 pub record IsBegun (begun : Program) (beginning : Beginning) (c : Stepper) : Type 0 where
   pub program : c.program ≡ begun
   pub overflow : c.overflow ≡ overflow_of begun.files.items
@@ -52,7 +52,7 @@ pub record IsBegun (begun : Program) (beginning : Beginning) (c : Stepper) : Typ
   pub inputs : c.inputs ≡ beginning.instructions.inputs
   pub outputs : c.outputs ≡ beginning.instructions.outputs
 
--- a job at its first request
+-- the run at the job's first request
 pub record Starts (program : Program) (switches : ℕ) (date : List ℕ) (c : Stepper) : Type 0 where
   pub same : c.program ≡ program
   pub sound : IsWaiting c

@@ -1,4 +1,4 @@
--- Standings whose places are far from the largest number, as those of lines in memory are.
+-- Places of lines far below the largest number, as for all lines in memory.
 use Rattle.std.specs.Prelude.{ℕ, ◌+◌, ◌^◌, ◌<◌, ◌≤◌, Option, Some, None}
 use Rattle.s3_program.specs.declared.standing.CalculationStanding.{CalculationStanding}
 use Rattle.s3_diagnose.specs.declared.standing.Standing.{Standing}
@@ -16,7 +16,7 @@ pub record IsEarlyLine (at : Standing) : Type 0 where
   pub inputs : at.inputs.place + 8 < 2 ^ 64
   pub calculations : IsEarly at.calculations
 
--- no place is past that of so many lines
+-- the place is one of the first n
 abbrev pub IsPlacedWithin : ℕ → Option ℕ → Type 0
 IsPlacedWithin n None = Unit {0}
 IsPlacedWithin n (Some place) = place < n

@@ -1,5 +1,5 @@
--- Diagnostic 11 once more, as a condition on a whole source: match or control fields that disagree, stand twice in a type or on a chained
--- file, and types of record with different sets of match fields. Where an I line stands is said by the nearest record line above it.
+-- Diagnostic 11 as a condition on a whole source: match or control fields that disagree, and types with different sets of match fields.
+-- It also covers a field that a type has twice or a chained file has. The nearest earlier record line gives the group of a line.
 use Rattle.std.specs.Prelude.{ℕ, ◌==◌, nat_lt, Bool, true, false, not, ◌&&◌, ◌||◌, List, [], ◌∷◌, Option, Some, None, length, map, find, flat_map, filter_map, option_map, unwrap_or, if◌then◌else◌}
 use Rattle.std.specs.Bool.{beq}
 use Rattle.std.specs.List.{list_any}
@@ -29,7 +29,7 @@ use Rattle.s3_diagnose.specs.Lookups.{meanings_of}
 use Rattle.s3_diagnose.specs.Inner.Whole.{Spot, StandsOnThose}
 use Rattle.s3_diagnose.specs.Inner.Misplaced.{follows_record}
 
--- ---- each I line with the I lines above it, the nearest first
+-- ---- each Input line with the Input lines before it, nearest first
 abbrev pub PlacedInput : Type 0
 PlacedInput = InputLine Name × List (InputLine Name)
 
@@ -37,7 +37,7 @@ abbrev pub inputs_from : (above lines : List (InputLine Name)) → List PlacedIn
 inputs_from above [] = []
 inputs_from above (line ∷ below) = (line, above) ∷ inputs_from (line ∷ above) below
 
--- ---- the nearest record line above: its place, by which the group is known, and its file
+-- ---- the nearest earlier record line: its place, which identifies the group, and its file
 abbrev pub group_above : List (InputLine Name) → Option ℕ
 group_above [] = None
 group_above (Record file indicator codes ∷ above) = Some (length above)
@@ -52,7 +52,7 @@ file_above meanings (AndCodes codes ∷ above) = file_above meanings above
 file_above meanings (OrCodes indicator codes ∷ above) = file_above meanings above
 file_above meanings (FieldOfRecord field ∷ above) = file_above meanings above
 
--- ---- the types, by group and indicator: a record line begins one, and so does an OR line that goes on with it
+-- ---- the types, by group and indicator: a record line begins one, and so does an OR line that continues it
 abbrev pub type_key : Indicator → (group : ℕ) → TypeKey
 type_key indicator group = record { group = group; indicator = indicator }
 
@@ -67,7 +67,7 @@ type_of placed = on placed.0
 abbrev pub types_of : List PlacedInput → List TypeKey
 types_of all = filter_map type_of all
 
--- ---- fields with an Mn or Ln
+-- ---- fields with a match level (Mn) or control level (Ln)
 abbrev pub has_level : Level → FieldLine Name → Bool
 has_level level field = list_any (same_level level) (levels_of field)
 
@@ -75,7 +75,7 @@ abbrev pub is_in : (group : ℕ) → Option ℕ → Bool
 is_in group None = false
 is_in group (Some other) = group == other
 
--- a field counts in all types of its group; with a relation in those of that indicator alone
+-- a field belongs to all types of its group, or with a field record relation only to the types with that indicator
 abbrev pub is_of : Indicator → (relation : Option Indicator) → Bool
 is_of indicator None = true
 is_of indicator (Some relation) = same_indicator indicator relation
@@ -87,14 +87,14 @@ gives level kind placed = on placed.0
     on (FieldOfRecord field) = is_in kind.group (group_above placed.1) && (is_of kind.indicator field.relation && has_level level field)
     on _ = false
 
--- ---- sets of match fields: which of M1 to M9 a type has
+-- ---- the set of match fields of a type: those of M1 to M9 that it has
 abbrev pub set_of : List PlacedInput → TypeKey → List Bool
 set_of all kind = map (λ number. list_any (gives (level key.Match number) kind) all) match_numbers
 
 abbrev pub empty_set : List Bool
 empty_set = map (λ number. false) match_numbers
 
--- the first type that has match fields says which all such types have
+-- the set of the first type with match fields, which all such types must have
 abbrev pub first_set : List PlacedInput → List Bool
 first_set all = unwrap_or (find has_any (map (set_of all) (types_of all))) empty_set
 
@@ -102,17 +102,17 @@ abbrev pub has_other_set : List PlacedInput → TypeKey → Bool
 has_other_set all kind = has_any (set_of all kind) && not (pointwise beq (set_of all kind) (first_set all))
 
 -- ---- the same Mn or Ln twice in a type
--- a field of a group counts in some type, unless its relation is to an indicator that no type of the group has
+-- a field counts in some type of its group, unless no type of the group has the indicator of its relation
 abbrev pub counts : List TypeKey → (group : ℕ) → (relation : Option Indicator) → Bool
 counts types group None = true
 counts types group (Some indicator) = list_any (same_type (type_key indicator group)) types
 
--- two fields of a group that count do so in one type, unless their relations are to different indicators
+-- two fields that count are in a common type, unless their relations have different indicators
 abbrev pub meet : (relation other : Option Indicator) → Bool
 meet None other = true
 meet (Some indicator) other = is_of indicator other
 
--- a field of a group, with this level, that meets one with this relation
+-- another field of the group with this level that is in a common type
 abbrev pub is_rival : List TypeKey → (group : ℕ) → (relation : Option Indicator) → Level → PlacedInput → Bool
 is_rival types group relation level other = on other.0
   where
@@ -121,18 +121,18 @@ is_rival types group relation level other = on other.0
         is_in group (group_above other.1) && (counts types group field.relation && (meet relation field.relation && has_level level field))
     on _ = false
 
--- a field above, of the group, counts with this level in a type in which one with this relation counts, too
+-- an earlier field of the group has this level in a type in which a field with this relation counts too
 abbrev pub is_given_above : List PlacedInput → (group : Option ℕ) → (place : ℕ) → (relation : Option Indicator) → Level → Bool
 is_given_above all None place relation level = false
 is_given_above all (Some group) place relation level =
     counts (types_of all) group relation
     && list_any (λ (other : PlacedInput). nat_lt (length other.1) place && is_rival (types_of all) group relation level other) all
 
--- ---- the kind and length that the first field of the sheet with an Mn or Ln gives it
+-- ---- the kind and length of an Mn or Ln, from the first field that has it
 abbrev pub first_shape : List (InputLine Name) → Level → Option Shape
 first_shape lines level = lookup (same_level level) (flat_map shapes_on lines)
 
--- ---- all of it
+-- ---- the whole condition
 abbrev pub is_bad_key : Meanings → (lines above : List (InputLine Name)) → FieldLine Name → Level → Bool
 is_bad_key meanings lines above field level =
     is_chained_meant (file_above meanings above)
@@ -157,6 +157,6 @@ is_mismatched_in lines spot = on spot.line.sheet
     on (sheet.Calculation line) = false
     on (sheet.Output line) = false
 
--- 11 stands on just those lines, whatever the lines are
+-- for any lines, exactly the lines of this condition get diagnostic 11
 abbrev pub ElevenIsForMismatchedLines : Type 0
 ElevenIsForMismatchedLines = StandsOnThose 11 is_mismatched_in

@@ -1,4 +1,4 @@
--- Lines whose fields have lengths in their ranges.
+-- Lines whose fields have lengths within the allowed ranges.
 use Rattle.std.specs.Prelude.{Bool, true, List}
 use Rattle.std.specs.List.{list_all}
 use Rattle.s3_lines.specs.declared.sheet.FieldLine.{FieldLine}

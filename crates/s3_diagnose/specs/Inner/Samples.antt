@@ -1,4 +1,4 @@
--- Small sources with the diagnostics that they have, taken from the rules by hand: numbers that are met, and near ones that aren't.
+-- Small sources with their diagnostics, worked by hand from the rules: some that a rule applies to, and near ones that it doesn't.
 use Rattle.std.specs.Prelude.{ℕ, ◌+◌, true, false, pos, List, [], ◌∷◌, ◌++◌, Option, Some, None}
 use Rattle.s3_edit.specs.declared.code.EditCode.TheVariants.{Date, Suppressed}
 use Rattle.s3_cards.specs.declared.name.Name.{Name}
@@ -38,7 +38,7 @@ use Rattle.s3_lines.specs.declared.sheet.SheetLine.TheVariants as sheet
 use Rattle.s3_lines.specs.declared.sheet.Line.{Line}
 
 -- ---- cards
--- on these cards, from a number on
+-- these lines on consecutive cards, from a card number on
 abbrev pub cards_from : ℕ → List SheetLine → List Line
 cards_from card [] = []
 cards_from card (line ∷ lines) = record { card = card; sheet = line } ∷ cards_from (card + 1) lines
@@ -47,7 +47,7 @@ cards_from card (line ∷ lines) = record { card = card; sheet = line } ∷ card
 abbrev pub letter : ℕ → Name
 letter code = name_of (code ∷ [])
 
--- A, a number of 3 digits; T, a text of 4; X and Y, which the common cards don't define; R, the card file; P, the print file
+-- names: A, a number of 3 digits; T, a text of 4; X and Y, not defined by the common cards; R, the card file; P, the print file
 abbrev pub name_a : Name
 name_a = letter 0xc1
 
@@ -66,7 +66,7 @@ name_r = letter 0xd9
 abbrev pub name_p : Name
 name_p = letter 0xd7
 
--- D, a disk file
+-- name D, a disk file
 abbrev pub name_d : Name
 name_d = letter 0xc4
 
@@ -93,7 +93,7 @@ card_file = plain_file name_r usage.Input (Some file.Primary) device.CardReader
 abbrev pub print_file : FileLine
 print_file = plain_file name_p usage.Output None device.Printer
 
--- by record number
+-- a file chained by record number
 abbrev pub chained_file : FileLine
 chained_file = record (plain_file name_d usage.Input (Some file.Chained) device.Disk) { is_random = true }
 
@@ -118,7 +118,7 @@ field_line name from to form = record {
 abbrev pub field : Name → ℕ → ℕ → FieldForm → SheetLine
 field name from to form = sheet.Input (input.Field (field_line name from to form))
 
--- Mn, or Ln, in the types of an indicator or in all
+-- a field with Mn or Ln, in the types with an indicator or in all types
 abbrev pub match_field : Name → ℕ → ℕ → (number : ℕ) → Option Indicator → SheetLine
 match_field name from to number relation =
     sheet.Input (input.Field (record (field_line name from to form.Alphanumeric) { match_level = Some number; relation = relation }))
@@ -149,7 +149,7 @@ named name = Some (Named name)
 abbrev pub marked : Indicator → List (Option Indicator)
 marked indicator = Some indicator ∷ None ∷ None ∷ []
 
--- a line with an operation alone, with factor 1, with factor 2
+-- lines with an operation only, with factor 1, and with factor 2
 abbrev pub bare : CalculationTime → Operation → CalculationLine Name
 bare time operation = line time None (Some operation) None None
 
@@ -187,14 +187,14 @@ put_field name form end = sheet.Output (output.Field (record {
   «end» = end;
 }))
 
--- ---- sources, each with the pairs of a card and a number that it has, where 99 is the RUN card
+-- ---- sources, each with its diagnostics as card and number; 99 is the RUN card
 abbrev pub Sample : Type 0
 Sample = List SheetLine × List Diagnostic
 
 abbrev pub on_card : ℕ → ℕ → Diagnostic
 on_card card number = record { card = card; number = number }
 
--- cards 1 to 5; what a sample has of its own begins at card 6
+-- cards 1 to 5; the cards of a sample begin at card 6
 abbrev pub common : List SheetLine
 common =
     sheet.File card_file
@@ -206,31 +206,31 @@ common =
 
 abbrev pub undefined : List Sample
 undefined =
-    -- the common cards
+    -- the common cards only
     (common ++ [], [])
     ∷
-    -- all are defined
+    -- all names are defined
     (common ++ c (add time.Detail name_a name_a name_a) ∷ [], [])
     ∷
-    -- a factor
+    -- an undefined factor
     (common ++ c (add time.Detail name_a name_x name_a) ∷ [], on_card 6 5 ∷ [])
     ∷
-    -- a result
+    -- an undefined result
     (common ++ c (add time.Detail name_a name_a name_x) ∷ [], on_card 6 5 ∷ [])
     ∷
-    -- a tag
+    -- an undefined tag
     (common ++ c (second time.Detail op.GoTo name_x) ∷ [], on_card 6 5 ∷ [])
     ∷
-    -- a subroutine
+    -- an undefined subroutine
     (common ++ c (second time.Detail op.ExecuteSubroutine name_x) ∷ [], on_card 6 5 ∷ [])
     ∷
-    -- a surplus factor that names nothing is 8 alone
+    -- an undefined surplus factor gets 8 only
     (common ++ c (line time.Detail (named name_x) (Some op.GoTo) (named name_y) None) ∷ c (first time.Detail name_y op.Tag) ∷ [], on_card 6 8 ∷ [])
     ∷
-    -- a file, and a line card that takes it over
+    -- an undefined file, and a line card that takes it from the previous line
     (common ++ line_card (Some name_x) ∷ line_card None ∷ [], on_card 6 5 ∷ on_card 7 5 ∷ [])
     ∷
-    -- a field that is put out
+    -- an undefined output field
     (common ++ line_card (Some name_p) ∷ put_field name_x put.Plain 9 ∷ [], on_card 7 5 ∷ [])
     ∷ []
 
@@ -239,37 +239,37 @@ redefined =
     -- a file defined twice counts twice
     (sheet.File card_file ∷ sheet.File print_file ∷ sheet.File card_file ∷ [], on_card 3 6 ∷ on_card 3 12 ∷ on_card 99 12 ∷ [])
     ∷
-    -- another length
+    -- a field defined again with another length
     (common ++ field name_t 4 8 form.Alphanumeric ∷ [], on_card 6 6 ∷ [])
     ∷
-    -- the same length
+    -- a field defined again with the same length
     (common ++ field name_t 10 13 form.Alphanumeric ∷ [], [])
     ∷
-    -- other digits
+    -- a field defined again with other digits
     (common ++ c (record (add time.Detail name_a name_a name_a) { definition = Some (Numeric 4 0) }) ∷ [], on_card 6 6 ∷ [])
     ∷
-    -- the same digits
+    -- a field defined again with the same digits
     (common ++ c (record (add time.Detail name_a name_a name_a) { definition = Some (Numeric 3 0) }) ∷ [], [])
     ∷
-    -- the date is never changed
+    -- a result of UDATE: the date can't be changed
     (common ++ c (add time.Detail name_a name_a udate) ∷ [], on_card 6 6 ∷ [])
     ∷
-    -- PAGE may be changed
+    -- a result of PAGE: it may be changed
     (common ++ c (record (add time.Detail name_a name_a page) { definition = Some (Numeric 4 0) }) ∷ [], [])
     ∷
     -- PAGE with 5 digits
     (common ++ c (record (add time.Detail name_a name_a page) { definition = Some (Numeric 5 0) }) ∷ [], on_card 6 6 ∷ [])
     ∷
-    -- a tag twice
+    -- a tag defined twice
     (common ++ c (first time.Detail name_x op.Tag) ∷ c (first time.Detail name_x op.Tag) ∷ [], on_card 7 6 ∷ [])
     ∷
-    -- a subroutine twice
+    -- a subroutine defined twice
     (common ++ c (first time.Subroutine name_x op.BeginSubroutine) ∷ c (bare time.Subroutine op.EndSubroutine) ∷ c (first time.Subroutine name_x op.BeginSubroutine) ∷ c (bare time.Subroutine op.EndSubroutine) ∷ [], on_card 8 6 ∷ [])
     ∷
-    -- a tag and a subroutine of one name
+    -- a tag and a subroutine of the same name
     (common ++ c (first time.Detail name_x op.Tag) ∷ c (first time.Subroutine name_x op.BeginSubroutine) ∷ c (bare time.Subroutine op.EndSubroutine) ∷ [], [])
     ∷
-    -- an unknown operation is 8 alone
+    -- an unknown operation gets 8 only
     (common ++ c (record (line time.Detail None (Some op.Unknown) None (Some name_a)) { definition = Some (Numeric 4 0) }) ∷ [], on_card 6 8 ∷ [])
     ∷ []
 
@@ -278,25 +278,25 @@ indicated =
     -- SETON of OA
     (common ++ c (record (bare time.Detail op.SetOn) { indicators = marked (Overflow 1) }) ∷ [], [])
     ∷
-    -- OA after ADD
+    -- OA as a resulting indicator of ADD
     (common ++ c (record (add time.Detail name_a name_a name_a) { indicators = marked (Overflow 1) }) ∷ [], on_card 6 7 ∷ [])
     ∷
-    -- an indicator of the group
+    -- a field record relation to an indicator of the group
     (common ++ sheet.Input (input.Field (record (field_line name_x 1 2 form.Alphanumeric) { relation = Some (General 1) })) ∷ [], [])
     ∷
-    -- an indicator of no type of the group
+    -- a field record relation to an indicator that no type of the group has
     (common ++ sheet.Input (input.Field (record (field_line name_x 1 2 form.Alphanumeric) { relation = Some (General 2) })) ∷ [], on_card 6 7 ∷ [])
     ∷
-    -- plus for a text
+    -- a plus indicator for a text
     (common ++ sheet.Input (input.Field (record (field_line name_x 1 2 form.Alphanumeric) { indicators = marked (General 5) })) ∷ [], on_card 6 7 ∷ [])
     ∷
-    -- plus for a number
+    -- a plus indicator for a number
     (common ++ sheet.Input (input.Field (record (field_line name_x 1 2 (form.Zoned 0)) { indicators = marked (General 5) })) ∷ [], [])
     ∷ []
 
 abbrev pub unfit : List Sample
 unfit =
-    -- a text for a number
+    -- a text instead of a number
     (common ++ c (add time.Detail name_a name_t name_a) ∷ [], on_card 6 8 ∷ [])
     ∷
     -- factor 1 is missing
@@ -305,7 +305,7 @@ unfit =
     -- factor 1 is surplus
     (common ++ c (line time.Detail (named name_a) (Some op.ZeroAdd) (named name_a) (Some name_a)) ∷ [], on_card 6 8 ∷ [])
     ∷
-    -- a number with a text
+    -- a number compared with a text
     (common ++ c (record (line time.Detail (named name_a) (Some op.Compare) (named name_t) None) { indicators = marked (General 10) }) ∷ [], on_card 6 8 ∷ [])
     ∷
     -- COMP without indicators
@@ -314,7 +314,7 @@ unfit =
     -- H with MOVE
     (common ++ c (record (line time.Detail None (Some op.Move) (named name_a) (Some name_t)) { half_adjust = true }) ∷ [], on_card 6 8 ∷ [])
     ∷
-    -- MOVE of a number into a text
+    -- MOVE of a number to a text
     (common ++ c (line time.Detail None (Some op.Move) (named name_a) (Some name_t)) ∷ [], [])
     ∷
     -- MOVEL of a number
@@ -326,7 +326,7 @@ unfit =
     -- a length without a result
     (common ++ c (record (bare time.Detail op.Except) { definition = Some (Numeric 4 0) }) ∷ [], on_card 6 8 ∷ [])
     ∷
-    -- CHAIN to a file that is not chained
+    -- CHAIN to a file that isn't chained
     (common ++ c (line time.Detail (named name_a) (Some op.Chain) (named name_r) None) ∷ [], on_card 6 8 ∷ [])
     ∷
     -- CHAIN by record number
@@ -335,124 +335,124 @@ unfit =
     -- a record number with decimals
     (sheet.File card_file ∷ sheet.File chained_file ∷ c (line time.Detail (Some (Number (record { value = pos 15; digits = 2; decimals = 1 }))) (Some op.Chain) (named name_d) None) ∷ [], on_card 3 8 ∷ [])
     ∷
-    -- an operation that is not known
+    -- an unknown operation
     (common ++ c (bare time.Detail op.Unknown) ∷ [], on_card 6 8 ∷ [])
     ∷
-    -- a line without operation with which none goes on
+    -- a line without an operation that no line continues
     (common ++ c (line time.Detail None None None None) ∷ c (set_on time.Detail) ∷ [], on_card 6 8 ∷ [])
     ∷
-    -- it begins at position 1
+    -- a field that begins at position 1
     (common ++ line_card (Some name_p) ∷ put_field name_a put.Plain 3 ∷ [], [])
     ∷
-    -- it would begin before position 1
+    -- a field that would begin before position 1
     (common ++ line_card (Some name_p) ∷ put_field name_a put.Plain 2 ∷ [], on_card 7 8 ∷ [])
     ∷
-    -- an edit code on a text
+    -- an edit code for a text
     (common ++ line_card (Some name_p) ∷ put_field name_t (put.Edited Suppressed) 9 ∷ [], on_card 7 8 ∷ [])
     ∷
-    -- Y on 3 digits
+    -- edit code Y for 3 digits
     (common ++ line_card (Some name_p) ∷ put_field name_a (put.Edited Date) 9 ∷ [], on_card 7 8 ∷ [])
     ∷
-    -- Y on 6 digits
+    -- edit code Y for 6 digits
     (common ++ line_card (Some name_p) ∷ put_field udate (put.Edited Date) 8 ∷ [], [])
     ∷
-    -- 8 characters up to position 7
+    -- 8 characters that end at position 7
     (common ++ line_card (Some name_p) ∷ put_field udate (put.Edited Date) 7 ∷ [], on_card 7 8 ∷ [])
     ∷ []
 
 abbrev pub misplaced : List Sample
 misplaced =
-    -- OR behind a field card
+    -- an OR line after a field line
     (common ++ or_record 2 ∷ [], on_card 6 9 ∷ [])
     ∷
-    -- a field card without a record line
+    -- a field line without a record line
     (sheet.File card_file ∷ field name_a 1 3 (form.Zoned 0) ∷ [], on_card 2 9 ∷ [])
     ∷
-    -- AND first on its sheet
+    -- an AND card first in the Output specifications
     (common ++ and_card ∷ [], on_card 6 9 ∷ [])
     ∷
-    -- AND behind a field card
+    -- an AND card after a field card
     (common ++ line_card (Some name_p) ∷ and_card ∷ put_field name_a put.Plain 3 ∷ and_card ∷ [], on_card 9 9 ∷ [])
     ∷
     -- a field card without a line card
     (common ++ put_field name_a put.Plain 3 ∷ [], on_card 6 9 ∷ [])
     ∷
-    -- a detail line behind a total line
+    -- a detail line after a total line
     (common ++ c (set_on (time.Total (Level 1))) ∷ c (set_on time.Detail) ∷ [], on_card 7 9 ∷ [])
     ∷
-    -- an unknown operation moves the order of sections
+    -- a line with an unknown operation counts for the order of sections
     (common ++ c (bare (time.Total (Level 1)) op.Unknown) ∷ c (set_on time.Detail) ∷ [], on_card 6 8 ∷ on_card 7 9 ∷ [])
     ∷
-    -- AN first on its sheet
+    -- an AN line first in the Calculation specifications
     (common ++ c (set_on time.And) ∷ [], on_card 6 9 ∷ [])
     ∷
-    -- a group that no line begins
+    -- a group without a first line
     (common ++ c (line time.And None None None None) ∷ c (set_on time.And) ∷ [], on_card 6 9 ∷ on_card 7 9 ∷ [])
     ∷
-    -- a group
+    -- a group of two lines
     (common ++ c (line time.Detail None None None None) ∷ c (set_on time.And) ∷ [], [])
     ∷
-    -- a group left open at the end of the sheet
+    -- a group left open at the end of the Calculation specifications
     (common ++ c (line time.Detail None None None None) ∷ [], on_card 6 9 ∷ [])
     ∷
-    -- before the end it is 8
+    -- a group left open before the end gets 8
     (common ++ c (line time.Detail None None None None) ∷ c (set_on time.Detail) ∷ [], on_card 6 8 ∷ [])
     ∷
-    -- BEGSR and ENDSR
+    -- BEGSR with ENDSR
     (common ++ c (first time.Subroutine name_x op.BeginSubroutine) ∷ c (bare time.Subroutine op.EndSubroutine) ∷ [], [])
     ∷
     -- BEGSR without ENDSR
     (common ++ c (first time.Subroutine name_x op.BeginSubroutine) ∷ [], on_card 6 9 ∷ [])
     ∷
-    -- BEGSR before BEGSR
+    -- BEGSR after BEGSR without ENDSR between
     (common ++ c (first time.Subroutine name_x op.BeginSubroutine) ∷ c (first time.Subroutine name_y op.BeginSubroutine) ∷ c (bare time.Subroutine op.EndSubroutine) ∷ [], on_card 6 9 ∷ [])
     ∷
     -- ENDSR without BEGSR
     (common ++ c (bare time.Subroutine op.EndSubroutine) ∷ [], on_card 6 9 ∷ [])
     ∷
-    -- a subroutine line in none
+    -- an SR line outside subroutines
     (common ++ c (set_on time.Subroutine) ∷ [], on_card 6 9 ∷ [])
     ∷
     -- BEGSR on a detail line
     (common ++ c (first time.Detail name_x op.BeginSubroutine) ∷ [], on_card 6 9 ∷ [])
     ∷
-    -- MVR behind DIV
+    -- MVR after DIV
     (common ++ c (divide) ∷ c (remainder time.Detail) ∷ [], [])
     ∷
-    -- MVR behind DIV with H
+    -- MVR after DIV with H
     (common ++ c (record divide { half_adjust = true }) ∷ c (remainder time.Detail) ∷ [], on_card 7 9 ∷ [])
     ∷
-    -- MVR not next to DIV
+    -- MVR that doesn't directly follow DIV
     (common ++ c (divide) ∷ c (set_on time.Detail) ∷ c (remainder time.Detail) ∷ [], on_card 8 9 ∷ [])
     ∷
-    -- MVR in another section
+    -- MVR in another section than DIV
     (common ++ c (divide) ∷ c (remainder (time.Total (Level 1))) ∷ [], on_card 7 9 ∷ [])
     ∷
-    -- MVR at the end of the group next to DIV
+    -- MVR at the end of the group that directly follows DIV
     (common ++ c (divide) ∷ c (line time.Detail None None None None) ∷ c (remainder time.And) ∷ [], [])
     ∷ []
 
 abbrev pub strayed : List Sample
 strayed =
-    -- a tag of the same section
+    -- GOTO to a tag of the same section
     (common ++ c (second time.Detail op.GoTo name_x) ∷ c (first time.Detail name_x op.Tag) ∷ [], [])
     ∷
-    -- a tag of another section
+    -- GOTO to a tag of another section
     (common ++ c (second time.Detail op.GoTo name_x) ∷ c (first (time.Total (Level 1)) name_x op.Tag) ∷ [], on_card 6 10 ∷ [])
     ∷
-    -- a tag of another subroutine
+    -- GOTO to a tag of another subroutine
     (common ++ c (first time.Subroutine name_x op.BeginSubroutine) ∷ c (first time.Subroutine name_a op.Tag) ∷ c (bare time.Subroutine op.EndSubroutine) ∷ c (first time.Subroutine name_y op.BeginSubroutine) ∷ c (second time.Subroutine op.GoTo name_a) ∷ c (bare time.Subroutine op.EndSubroutine) ∷ [], on_card 10 10 ∷ [])
     ∷
-    -- a circle of two; the call from outside does not lie on it
+    -- two subroutines that call each other; the call from outside isn't in the cycle
     (common ++ c (second time.Detail op.ExecuteSubroutine name_x) ∷ c (first time.Subroutine name_x op.BeginSubroutine) ∷ c (second time.Subroutine op.ExecuteSubroutine name_y) ∷ c (bare time.Subroutine op.EndSubroutine) ∷ c (first time.Subroutine name_y op.BeginSubroutine) ∷ c (second time.Subroutine op.ExecuteSubroutine name_x) ∷ c (bare time.Subroutine op.EndSubroutine) ∷ [], on_card 8 10 ∷ on_card 11 10 ∷ [])
     ∷
-    -- a circle of one
+    -- a subroutine that calls itself
     (common ++ c (first time.Subroutine name_x op.BeginSubroutine) ∷ c (second time.Subroutine op.ExecuteSubroutine name_x) ∷ c (bare time.Subroutine op.EndSubroutine) ∷ [], on_card 7 10 ∷ [])
     ∷
-    -- a chain of 8 calls
+    -- calls nested 8 deep
     (common ++ c (second time.Detail op.ExecuteSubroutine (letter 194)) ∷ c (first time.Subroutine (letter 194) op.BeginSubroutine) ∷ c (second time.Subroutine op.ExecuteSubroutine (letter 195)) ∷ c (bare time.Subroutine op.EndSubroutine) ∷ c (first time.Subroutine (letter 195) op.BeginSubroutine) ∷ c (second time.Subroutine op.ExecuteSubroutine (letter 196)) ∷ c (bare time.Subroutine op.EndSubroutine) ∷ c (first time.Subroutine (letter 196) op.BeginSubroutine) ∷ c (second time.Subroutine op.ExecuteSubroutine (letter 197)) ∷ c (bare time.Subroutine op.EndSubroutine) ∷ c (first time.Subroutine (letter 197) op.BeginSubroutine) ∷ c (second time.Subroutine op.ExecuteSubroutine (letter 198)) ∷ c (bare time.Subroutine op.EndSubroutine) ∷ c (first time.Subroutine (letter 198) op.BeginSubroutine) ∷ c (second time.Subroutine op.ExecuteSubroutine (letter 199)) ∷ c (bare time.Subroutine op.EndSubroutine) ∷ c (first time.Subroutine (letter 199) op.BeginSubroutine) ∷ c (second time.Subroutine op.ExecuteSubroutine (letter 200)) ∷ c (bare time.Subroutine op.EndSubroutine) ∷ c (first time.Subroutine (letter 200) op.BeginSubroutine) ∷ c (second time.Subroutine op.ExecuteSubroutine (letter 201)) ∷ c (bare time.Subroutine op.EndSubroutine) ∷ c (first time.Subroutine (letter 201) op.BeginSubroutine) ∷ c (bare time.Subroutine op.EndSubroutine) ∷ [], [])
     ∷
-    -- the ninth call of a chain
+    -- the ninth call of nested calls
     (common ++ c (second time.Detail op.ExecuteSubroutine (letter 194)) ∷ c (first time.Subroutine (letter 194) op.BeginSubroutine) ∷ c (second time.Subroutine op.ExecuteSubroutine (letter 195)) ∷ c (bare time.Subroutine op.EndSubroutine) ∷ c (first time.Subroutine (letter 195) op.BeginSubroutine) ∷ c (second time.Subroutine op.ExecuteSubroutine (letter 196)) ∷ c (bare time.Subroutine op.EndSubroutine) ∷ c (first time.Subroutine (letter 196) op.BeginSubroutine) ∷ c (second time.Subroutine op.ExecuteSubroutine (letter 197)) ∷ c (bare time.Subroutine op.EndSubroutine) ∷ c (first time.Subroutine (letter 197) op.BeginSubroutine) ∷ c (second time.Subroutine op.ExecuteSubroutine (letter 198)) ∷ c (bare time.Subroutine op.EndSubroutine) ∷ c (first time.Subroutine (letter 198) op.BeginSubroutine) ∷ c (second time.Subroutine op.ExecuteSubroutine (letter 199)) ∷ c (bare time.Subroutine op.EndSubroutine) ∷ c (first time.Subroutine (letter 199) op.BeginSubroutine) ∷ c (second time.Subroutine op.ExecuteSubroutine (letter 200)) ∷ c (bare time.Subroutine op.EndSubroutine) ∷ c (first time.Subroutine (letter 200) op.BeginSubroutine) ∷ c (second time.Subroutine op.ExecuteSubroutine (letter 201)) ∷ c (bare time.Subroutine op.EndSubroutine) ∷ c (first time.Subroutine (letter 201) op.BeginSubroutine) ∷ c (second time.Subroutine op.ExecuteSubroutine (letter 209)) ∷ c (bare time.Subroutine op.EndSubroutine) ∷ c (first time.Subroutine (letter 209) op.BeginSubroutine) ∷ c (bare time.Subroutine op.EndSubroutine) ∷ [], on_card 29 10 ∷ [])
     ∷ []
 
@@ -461,7 +461,7 @@ mismatched =
     -- M1 twice in one type
     (common ++ match_field name_x 1 2 1 None ∷ match_field name_y 3 4 1 None ∷ [], on_card 7 11 ∷ [])
     ∷
-    -- M1 and M2
+    -- M1 and M2 in one type
     (common ++ match_field name_x 1 2 1 None ∷ match_field name_y 3 5 2 None ∷ [], [])
     ∷
     -- L1 twice in one type
@@ -470,10 +470,10 @@ mismatched =
     -- M1 once in each of two types
     (sheet.File card_file ∷ record_of name_r 1 ∷ or_record 2 ∷ match_field name_x 1 2 1 (Some (General 1)) ∷ match_field name_y 3 4 1 (Some (General 2)) ∷ [], [])
     ∷
-    -- M1 in all types and in one
+    -- M1 in all types and again in one
     (sheet.File card_file ∷ record_of name_r 1 ∷ or_record 2 ∷ match_field name_x 1 2 1 None ∷ match_field name_y 3 4 1 (Some (General 2)) ∷ [], on_card 5 11 ∷ [])
     ∷
-    -- M1 of another length
+    -- M1 with another length
     (sheet.File card_file ∷ record_of name_r 1 ∷ match_field name_x 1 2 1 None ∷ record_of name_r 2 ∷ match_field name_y 3 5 1 None ∷ [], on_card 5 11 ∷ [])
     ∷
     -- a type with another set of match fields
@@ -482,31 +482,31 @@ mismatched =
     -- a type without match fields
     (sheet.File card_file ∷ record_of name_r 1 ∷ match_field name_x 1 2 1 None ∷ record_of name_r 2 ∷ field name_y 3 4 form.Alphanumeric ∷ [], [])
     ∷
-    -- a chained file
+    -- a match field of a chained file
     (sheet.File card_file ∷ sheet.File chained_file ∷ record_of name_d 1 ∷ match_field name_x 1 2 1 None ∷ [], on_card 4 11 ∷ [])
     ∷ []
 
 abbrev pub misused : List Sample
 misused =
-    -- no P: on the RUN card
+    -- no primary file: the RUN card gets 12
     (sheet.File print_file ∷ [], on_card 99 12 ∷ [])
     ∷
     -- a second card file
     (sheet.File card_file ∷ sheet.File (plain_file name_x usage.Input (Some file.Secondary) device.CardReader) ∷ [], on_card 2 12 ∷ [])
     ∷
-    -- two P: on the RUN card
+    -- two primary files: the RUN card gets 12
     (sheet.File card_file ∷ sheet.File (plain_file name_x usage.Input (Some file.Primary) device.Disk) ∷ [], on_card 99 12 ∷ [])
     ∷
     -- a second print file
     (sheet.File card_file ∷ sheet.File print_file ∷ sheet.File (plain_file name_x usage.Output None device.Printer) ∷ [], on_card 3 12 ∷ [])
     ∷
-    -- A without I
+    -- A in 31 without I in 32
     (sheet.File card_file ∷ sheet.File (record (plain_file name_x usage.Input (Some file.Secondary) device.Disk) { is_keyed = true }) ∷ [], on_card 2 12 ∷ [])
     ∷
-    -- C without R
+    -- C in 16 without R in 28
     (sheet.File card_file ∷ sheet.File (plain_file name_x usage.Input (Some file.Chained) device.Disk) ∷ [], on_card 2 12 ∷ [])
     ∷
-    -- read in order and changed
+    -- a file read in order and updated
     (sheet.File card_file ∷ sheet.File (plain_file name_x usage.Update (Some file.Secondary) device.Disk) ∷ [], [])
     ∷
     -- a record line of an output file
@@ -521,13 +521,13 @@ misused =
     -- ADD for a print file
     (common ++ sheet.Output (output.Line (record (output_card (Some name_p)) { is_addition = true })) ∷ [], on_card 6 12 ∷ [])
     ∷
-    -- ADD is needed
+    -- a line without ADD for a file with additions
     (sheet.File card_file ∷ sheet.File (record (plain_file name_d usage.Output None device.Disk) { has_additions = true }) ∷ line_card (Some name_d) ∷ [], on_card 3 12 ∷ [])
     ∷
-    -- a space on disk
+    -- spacing for a disk file
     (sheet.File card_file ∷ sheet.File (plain_file name_d usage.Output None device.Disk) ∷ sheet.Output (output.Line (record (output_card (Some name_d)) { spacing = record no_spacing { space_after = Some 1 } })) ∷ [], on_card 3 12 ∷ [])
     ∷
-    -- packed data of a card
+    -- packed data on a card
     (common ++ field name_x 1 2 (form.Packed 0) ∷ [], on_card 6 12 ∷ [])
     ∷
     -- packed data on the print file

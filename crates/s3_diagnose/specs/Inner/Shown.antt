@@ -1,4 +1,4 @@
--- What the compiler's tables say of the lines, as look-ups.
+-- The compiler's tables of the lines, as look-up functions.
 use Rattle.indexmap.specs.IndexMap.{get}
 use Rattle.indexmap.specs.IndexSet.{contains}
 use Rattle.s3_cards.specs.Names.{same_name}

@@ -1,5 +1,5 @@
--- Diagnostic 10 once more, as a condition on a whole source: a GOTO to a tag of another section, and subroutines called in a circle or
--- more than 8 deep.
+-- Diagnostic 10 as a condition on a whole source: a GOTO to a tag of another section, recursive subroutine calls, and calls nested more
+-- than 8 deep.
 use Rattle.std.specs.Prelude.{ℕ, ◌==◌, Bool, true, false, not, ◌&&◌, ◌||◌, List, [], ◌∷◌, Option, Some, None, length, find, filter_map, option_map}
 use Rattle.std.specs.Option.{option_and_then}
 use Rattle.s3_cards.specs.declared.name.Name.{Name}
@@ -18,7 +18,7 @@ use Rattle.s3_program.specs.Jumps.{subroutine_of, is_forbidden}
 use Rattle.s3_diagnose.specs.Lookups.{name_given}
 use Rattle.s3_diagnose.specs.Inner.Whole.{Spot, StandsOnThose, section_of_last}
 
--- ---- each C line with the C lines above it, the nearest first
+-- ---- each calculation line with the calculation lines before it, nearest first
 abbrev pub Placed : Type 0
 Placed = CalculationLine Name × List (CalculationLine Name)
 
@@ -61,7 +61,7 @@ abbrev pub named_by_jump : Option Operation → Option (Factor Name) → Option 
 named_by_jump (Some GoTo) factor = name_given factor
 named_by_jump _ factor = None
 
--- that there is a tag, and it is of another section than this
+-- the tag exists and is in another section than this
 abbrev pub is_elsewhere : (section : ℕ) → Option Placed → Bool
 is_elsewhere section None = false
 is_elsewhere section (Some tag) = not (section_of tag == section)
@@ -69,7 +69,7 @@ is_elsewhere section (Some tag) = not (section_of tag == section)
 abbrev pub jumps_out : List Placed → Placed → Bool
 jumps_out all placed = is_elsewhere (section_of placed) (option_and_then (the_tag all) (named_by_jump placed.0.operation placed.0.factor2))
 
--- ---- EXSR: a call goes from the subroutine in which it stands, or from none, to the first one of its name
+-- ---- EXSR: a call goes from its own subroutine, or from none, to the first subroutine of the called name
 abbrev pub named_by_call : Option Operation → Option (Factor Name) → Option Name
 named_by_call (Some ExecuteSubroutine) factor = name_given factor
 named_by_call _ factor = None
@@ -87,7 +87,7 @@ abbrev pub is_bad : List Call → Option Call → Bool
 is_bad calls None = false
 is_bad calls (Some call) = is_forbidden calls call
 
--- ---- all of it
+-- ---- the whole condition
 abbrev pub goes_astray : List Placed → Placed → Bool
 goes_astray all placed = jumps_out all placed || is_bad (calls_of all) (call_of all placed)
 
@@ -101,6 +101,6 @@ strays_in lines spot = on spot.line.sheet
     on (sheet.Calculation line) = goes_astray (calculations_of lines) (line, filter_map calculation_line spot.above)
     on (sheet.Output line) = false
 
--- 10 stands on just those lines, whatever the lines are
+-- for any lines, exactly the lines of this condition get diagnostic 10
 abbrev pub TenIsForLinesThatStray : Type 0
 TenIsForLinesThatStray = StandsOnThose 10 strays_in

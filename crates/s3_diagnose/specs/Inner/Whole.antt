@@ -1,5 +1,5 @@
--- A source as a whole: nothing goes from line to line here. A line is judged by the lines above it, the nearest first, and by those
--- below it.
+-- Conditions on a whole source, without state from line to line: each line is checked by the lines before it, nearest first, and the lines
+-- after it.
 use Rattle.std.specs.Prelude.{◌≡◌, ℕ, ◌+◌, ◌==◌, Bool, ◌&&◌, List, [], ◌∷◌, Option, Some, None, is_some, length, map, filter, if◌then◌else◌}
 use Rattle.std.specs.List.{list_any}
 use Rattle.s3_cards.specs.declared.name.Name.{Name}
@@ -15,7 +15,7 @@ use Rattle.s3_diagnose.specs.Known.{first_standing}
 use Rattle.s3_diagnose.specs.Lookups.{known_of}
 use Rattle.s3_diagnose.specs.Diagnostics.{diagnostic_of, diagnostics_from, compile_diagnostics}
 
--- ---- each line with those above it, the nearest first, and those below it
+-- ---- each line with the lines before it, nearest first, and the lines after it
 pub record Spot : Type 0 where
   pub above : List Line
   pub line : Line
@@ -28,31 +28,31 @@ spots_from above (line ∷ below) = record { above = above; line = line; below =
 abbrev pub spots : List Line → List Spot
 spots lines = spots_from [] lines
 
--- a number on the card of each line of which a condition holds
+-- the number on the card of each line for which a condition holds
 abbrev pub on_those : ℕ → (Spot → Bool) → List Line → List Diagnostic
 on_those number holds lines = map (λ (spot : Spot). diagnostic_of spot.line.card number) (filter holds (spots lines))
 
--- those of a number among diagnostics
+-- the diagnostics with this number
 abbrev pub those_of : ℕ → List Diagnostic → List Diagnostic
 those_of number found = filter (λ (diagnostic : Diagnostic). diagnostic.number == number) found
 
--- whether a card has a number among diagnostics
+-- whether a card has a diagnostic with this number
 abbrev pub has_number : (card number : ℕ) → List Diagnostic → Bool
 has_number card number found = list_any (λ (diagnostic : Diagnostic). diagnostic.card == card) (those_of number found)
 
--- whether a card is that of a line of which a condition holds
+-- whether a line for which a condition holds is on this card
 abbrev pub is_card_of : (card : ℕ) → (Spot → Bool) → List Line → Bool
 is_card_of card holds lines = list_any (λ (spot : Spot). (spot.line.card == card) && holds spot) (spots lines)
 
--- a number stands on just the lines of which a condition holds, in their order, among what the walk gives; and so a card has it among
--- all diagnostics of a source just where it is the card of such a line
+-- The walk over the lines gives a number to exactly the lines for which the condition holds, in order.
+-- So a card gets the number in `compile_diagnostics` exactly if it is the card of such a line.
 pub record StandsOnThose (number : ℕ) (holds : List Line → Spot → Bool) : Type 0 where
   pub walked : (lines : List Line) → those_of number (diagnostics_from (known_of lines) first_standing lines) ≡ on_those number (holds lines) lines
   pub told : (run_card card : ℕ) (lines : List Line)
       → has_number card number (compile_diagnostics run_card lines) ≡ is_card_of card (holds lines) lines
 
--- ---- the C sheet
--- the level entry that an AN or OR line below these has: that of the line above it, if that one has no operation; AN where there is none
+-- ---- Calculation specifications
+-- the level entry that a next AN or OR line gets: the level of the previous line if that has no operation, else AN
 abbrev pub level_above : List (CalculationLine Name) → CalculationTime
 level_above [] = And
 level_above (line ∷ above) =
@@ -64,14 +64,14 @@ level_above (line ∷ above) =
 abbrev pub level_of : List (CalculationLine Name) → CalculationLine Name → CalculationTime
 level_of above line = if goes_on line.time then level_above above else line.time
 
--- whether a line is the BEGSR, or the ENDSR, of a subroutine
+-- whether a line is the BEGSR of a subroutine; below, whether it is an ENDSR
 abbrev pub begins : List (CalculationLine Name) → CalculationLine Name → Bool
 begins above line = is_begin (level_of above line) line.operation
 
 abbrev pub finishes : List (CalculationLine Name) → CalculationLine Name → Bool
 finishes above line = is_finish (level_of above line) line.operation
 
--- the subroutine that is open below these lines: the last BEGSR or ENDSR among them is a BEGSR, and has this place
+-- the subroutine still open after these lines, by the place of its BEGSR; none if the last BEGSR or ENDSR is an ENDSR
 abbrev pub open_subroutine : List (CalculationLine Name) → Option ℕ
 open_subroutine [] = None
 open_subroutine (line ∷ above) =
@@ -79,8 +79,8 @@ open_subroutine (line ∷ above) =
     else if finishes above line then None
     else open_subroutine above
 
--- the section of the last of these lines: 0 detail, 1 total, 2 outside of every subroutine, and 3 more than the place of its BEGSR in
--- a subroutine; a group that no line begins is of the section of the line above
+-- The section of the last of these lines: 0 detail, 1 total, 2 outside subroutines, in a subroutine 3 plus the place of its BEGSR.
+-- A group without a first line is in the section of the line before it.
 abbrev pub section_of_subroutine : Option ℕ → ℕ
 section_of_subroutine None = 2
 section_of_subroutine (Some place) = place + 3

@@ -1,4 +1,4 @@
--- Small runs: calculations, their conditions, and where they go on.
+-- Worked examples: calculations, their conditions, jumps and subroutines.
 use Rattle.std.specs.Prelude.{ℕ, pos, negsuc, List, [], ◌∷◌, Option, Some, None, length, codes}
 use Rattle.s3_cards.specs.declared.name.Name.{Name}
 use Rattle.s3_cards.specs.Codes.{ebcdic}
@@ -22,7 +22,7 @@ use Rattle.s3_meaning.specs.Inner.SheetWords.{Corner, on, unless, resulting, thr
 abbrev pub text : List ℕ → Option (Factor Name)
 text characters = Some (Text (record { codes = padded_to 8 (ebcdic characters); length = length characters }))
 
--- 3 less 5, 3 times 5, and the negative of 4: a negative number ends with zone D
+-- 3 - 5, 3 x 5, and the negative of 4: a negative number ends with zone D
 abbrev pub arithmetic : Corner
 arithmetic = record {
   sheets =
@@ -35,7 +35,7 @@ arithmetic = record {
   requests = Card ∷ printed_at 1 1 (codes "K15M") ∷ Card ∷ [];
 }
 
--- 7 by 2 leaves 1 for MVR; a DIV whose conditions don't hold leaves 0
+-- 7 divided by 2 leaves 1 for MVR; a DIV that isn't performed leaves 0
 abbrev pub remainders : Corner
 remainders = record {
   sheets =
@@ -49,7 +49,7 @@ remainders = record {
   requests = Card ∷ printed_at 1 1 (codes "310") ∷ Card ∷ [];
 }
 
--- after a division by zero and reply 0 the result is 0, and so is the remainder
+-- after a division by zero and reply 0, both the result and the remainder are 0
 abbrev pub zero_divisor : Corner
 zero_divisor = record {
   sheets =
@@ -62,7 +62,7 @@ zero_divisor = record {
   requests = Card ∷ Ask ZeroDivisor ∷ printed_at 1 1 (codes "00") ∷ Card ∷ [];
 }
 
--- -0.4 cut to no decimals is plus zero: the third indicator comes on, and not the second
+-- -0.4 truncated to no decimals is plus zero: the zero indicator comes on, the minus indicator doesn't
 abbrev pub minus_zero : Corner
 minus_zero = record {
   sheets =
@@ -75,8 +75,8 @@ minus_zero = record {
   requests = Card ∷ printed_at 1 1 (codes "0") ∷ Card ∷ [];
 }
 
--- numbers compare by value: 2.0 is 2, and 5 is lower than 7; texts by their codes, the shorter with blanks: A is AB's lower one,
--- and the field of a blank card is the text of one blank
+-- Numbers compare by value: 2.0 equals 2, and 5 is less than 7. Texts compare by their codes, the shorter padded with blanks: A is less
+-- than AB. A field read from a blank card equals a text of one blank.
 abbrev pub comparisons : Corner
 comparisons = record {
   sheets =
@@ -94,8 +94,8 @@ comparisons = record {
       Card ∷ printed_at 1 1 (codes "1") ∷ printed_at 1 2 (codes "2") ∷ printed_at 1 3 (codes "3") ∷ printed_at 1 4 (codes "4") ∷ Card ∷ [];
 }
 
--- MOVE from the right, MOVEL from the left, what is further stays; into a number each byte gives its digit, and the last one
--- the sign: AP over 500 is -517
+-- MOVE moves from the right and MOVEL from the left; other bytes stay. Into a number, each byte gives its digit and the last byte the sign:
+-- AP over 500 gives -517.
 abbrev pub moves : Corner
 moves = record {
   sheets =
@@ -109,7 +109,7 @@ moves = record {
   requests = Card ∷ printed_at 1 1 (codes "ABXYXYCD51P") ∷ Card ∷ [];
 }
 
--- 01 and not 05, or 02: 05 is on where position 2 is blank
+-- (01 and not 05) or 02; 05 is on if position 2 is blank
 abbrev pub groups_of_a_calculation : Corner
 groups_of_a_calculation = record {
   sheets =
@@ -123,7 +123,7 @@ groups_of_a_calculation = record {
   requests = Card ∷ printed_at 1 1 (codes "0") ∷ Card ∷ printed_at 1 2 (codes "1") ∷ Card ∷ printed_at 1 3 (codes "2") ∷ Card ∷ [];
 }
 
--- SETON and then SETOF
+-- SETON, then SETOF
 abbrev pub set_off_again : Corner
 set_off_again = record {
   sheets =
@@ -136,7 +136,7 @@ set_off_again = record {
   requests = Card ∷ printed_at 1 1 (codes "2") ∷ Card ∷ [];
 }
 
--- a GOTO to a tag below passes over the lines between and asks for nothing; EXSR is a jump, and its section goes on behind it
+-- a GOTO to a later tag skips the lines between and makes no request; EXSR is a jump, and its section continues after it
 abbrev pub subroutines : Corner
 subroutines = record {
   sheets =
@@ -154,7 +154,7 @@ subroutines = record {
   requests = Card ∷ Jump ∷ printed_at 1 1 (codes "3") ∷ Card ∷ [];
 }
 
--- EXCPT is a jump, and then its lines; a GOTO to a tag above is one, too
+-- EXCPT is a jump, followed by its lines; a GOTO to an earlier tag is a jump too
 abbrev pub jumps : Corner
 jumps = record {
   sheets =

@@ -1,4 +1,4 @@
--- Small runs: records that are chained, updated, added and loaded.
+-- Worked examples: CHAIN, update, add and load.
 use Rattle.std.specs.Prelude.{ℕ, pos, true, false, List, [], ◌∷◌, Option, Some, None, codes}
 use Rattle.s3_cards.specs.Codes.{ebcdic}
 use Rattle.s3_lines.specs.Inner.Blanks.{none_of_three}
@@ -25,8 +25,8 @@ chain number = calculation DetailTime none_of_three (digit number) Chain (field_
 abbrev pub asks_for : ℕ → Request
 asks_for number = ChainRequest (name (codes "C")) 4 (RecordNumber (pos number))
 
--- by record number with an indicator in 54-55: it goes off for a record that is found, whose type goes on and whose fields are
--- moved at once; and on where none is found
+-- CHAIN by record number with an indicator in 54-55. If a record is found, the indicator goes off, the record's type goes on, and its
+-- fields are moved at once. If none is found, the indicator goes on.
 abbrev pub chained_with_indicator : Corner
 chained_with_indicator = record {
   sheets =
@@ -38,7 +38,7 @@ chained_with_indicator = record {
   requests = Card ∷ asks_for 3 ∷ printed_at 1 1 (codes "N") ∷ Card ∷ asks_for 3 ∷ printed_at 1 2 (codes "PQ") ∷ Card ∷ [];
 }
 
--- the file's types go off at a CHAIN, so a second one that finds nothing leaves none on; the fields stay
+-- CHAIN turns the file's types off, so after a second CHAIN that finds no record, none is on; the fields keep their values
 abbrev pub chained_twice : Corner
 chained_twice = record {
   sheets =
@@ -50,7 +50,7 @@ chained_twice = record {
   requests = Card ∷ asks_for 3 ∷ asks_for 4 ∷ printed_at 1 1 (codes "PQ") ∷ Card ∷ [];
 }
 
--- in a file whose condition is off CHAIN finds nothing, without a request
+-- CHAIN finds no record in a file whose condition is off, and makes no request
 abbrev pub chained_switched_off : Corner
 chained_switched_off = record {
   sheets =
@@ -62,8 +62,8 @@ chained_switched_off = record {
 }
 
 -- ---- updates
--- an update changes what is put out and nothing else, in the record that CHAIN found last; after a CHAIN that found none there
--- is no such record; the key is a field of a card
+-- An update changes only the positions that the line writes, in the record that the last CHAIN found. After a CHAIN that found none there
+-- is no record to update. The key is a field of a card.
 abbrev pub chained_and_updated : Corner
 chained_and_updated = record {
   sheets =
@@ -78,7 +78,7 @@ chained_and_updated = record {
       ∷ UpdateRequest (name (codes "C")) None (None ∷ None ∷ Some 0xe9 ∷ None ∷ []) ∷ Ask NothingToUpdate ∷ Card ∷ [];
 }
 
--- of a file read in order the current record is the one whose fields were moved last: at total time still the one before
+-- in a file read in order, the current record is the one whose fields were moved last: at total time, the previous record
 abbrev pub read_and_updated : Corner
 read_and_updated = record {
   sheets =
@@ -100,7 +100,7 @@ read_and_updated = record {
     at_last : List (Option ℕ)
     at_last = None ∷ None ∷ None ∷ Some 0xe3 ∷ []
 
--- before any record was read there is none to update
+-- before the first record is read, there is no record to update
 abbrev pub updated_too_early : Corner
 updated_too_early = record {
   sheets =
@@ -112,8 +112,8 @@ updated_too_early = record {
 }
 
 -- ---- new records
--- a line with ADD adds by key where its file has one, and else at the end; one without is an append for a load, and for a
--- direct load an update; where nothing is put a new record is blank; -12 packed
+-- A line with ADD adds by key if its file has a key, else at the end. A line without ADD appends to a load file, and updates a direct load.
+-- Positions that no field writes are blank. The packed field is -12.
 abbrev pub new_records : Corner
 new_records = record {
   sheets =
@@ -130,7 +130,7 @@ new_records = record {
       ∷ UpdateRequest (name (codes "D")) None (Some 0xc5 ∷ None ∷ None ∷ None ∷ []) ∷ Card ∷ [];
 }
 
--- a record that is refused was put out: blank after has acted, also where reply 0 passes it over
+-- blank after acts on a refused record too, because its fields were written; so also if reply 0 skips it
 abbrev pub refused_and_blanked : Corner
 refused_and_blanked = record {
   sheets =

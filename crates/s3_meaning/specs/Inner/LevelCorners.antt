@@ -1,4 +1,4 @@
--- Small runs: control levels, the first step, and the end of a job.
+-- Worked examples: control levels, the first step, and the end of a job.
 use Rattle.std.specs.Prelude.{false, List, [], ◌∷◌, Some, None, codes}
 use Rattle.s3_lines.specs.Inner.Blanks.{none_of_three}
 use Rattle.s3_lines.specs.declared.indicator.Indicator.TheVariants.{General, Level, LastRecord, FirstPage}
@@ -14,8 +14,8 @@ use Rattle.s3_meaning.specs.Requests.{Card, End, Nothing, Done}
 use Rattle.s3_meaning.specs.Inner.SheetWords.{Corner, on, unless, resulting, card_file, print_file, one_type, type_by, plain_field, field_at, control_field_at, calculation, digit, field_named, set_on, line, constant, value, card_of, printed_at}
 
 -- ---- control levels
--- a break sets its level and all below it, and T lines stand in the order of the sheet; the first record breaks at its highest
--- level, but total time is passed over; LR sets L1 to L9
+-- A break sets its level and all lower levels; T lines print in the order of their cards. The first record breaks at its highest level, but
+-- total time is skipped. LR sets L1 to L9.
 abbrev pub two_levels : Corner
 two_levels = record {
   sheets =
@@ -31,7 +31,7 @@ two_levels = record {
       ∷ Card ∷ printed_at 1 4 (codes "THREE") ∷ printed_at 1 5 (codes "ONE") ∷ printed_at 1 6 (codes "TWO") ∷ End false ∷ [];
 }
 
--- a total calculation is done where its level is on, L0 each time: T sums the groups of A, A and B, and C counts
+-- total calculations run if their level is on, L0 always: T sums the groups of A, and of A and B; C counts
 abbrev pub totals_by_level : Corner
 totals_by_level = record {
   sheets =
@@ -46,8 +46,8 @@ totals_by_level = record {
   requests = Card ∷ Card ∷ Card ∷ printed_at 1 1 (codes "0302") ∷ Card ∷ printed_at 1 2 (codes "0803") ∷ End false ∷ [];
 }
 
--- with control fields in the program total time is passed over until a record with some was processed in an earlier cycle:
--- cards with * have none
+-- In a program with control fields, total time is skipped until an earlier cycle has processed a record with control fields.
+-- Cards with * have none.
 abbrev pub totals_passed_over : Corner
 totals_passed_over = record {
   sheets =
@@ -59,7 +59,7 @@ totals_passed_over = record {
   requests = Card ∷ Card ∷ Card ∷ Card ∷ printed_at 1 1 (codes "T") ∷ Card ∷ printed_at 1 2 (codes "T") ∷ End false ∷ [];
 }
 
--- a record type has only the levels that it names: a card of 2 leaves what L2 holds
+-- a record type breaks only the levels that it names: a card of type 2 leaves the saved L2 field unchanged
 abbrev pub levels_of_types : Corner
 levels_of_types = record {
   sheets =
@@ -72,7 +72,7 @@ levels_of_types = record {
   requests = Card ∷ Card ∷ Card ∷ Card ∷ printed_at 1 1 (codes "ONE") ∷ printed_at 1 2 (codes "TWO") ∷ Card ∷ [];
 }
 
--- a numeric control field compares by its digits, without the sign: K is 2 with a minus
+-- a numeric control field compares by its digits without sign: K is -2
 abbrev pub levels_by_digits : Corner
 levels_by_digits = record {
   sheets =
@@ -83,7 +83,7 @@ levels_by_digits = record {
   requests = Card ∷ Card ∷ Card ∷ printed_at 1 1 (codes "ONE") ∷ Card ∷ [];
 }
 
--- a control field with a relation is one of the type with that indicator alone: X in position 2 after A, in position 3 after B
+-- a control field with a field record relation belongs only to the type with that indicator: column 2 after A, column 3 after B
 abbrev pub levels_by_relation : Corner
 levels_by_relation = record {
   sheets =
@@ -96,7 +96,7 @@ levels_by_relation = record {
   requests = Card ∷ Card ∷ Card ∷ printed_at 1 1 (codes "ONE") ∷ Card ∷ [];
 }
 
--- L1 to L9 stay on to the detail lines of the record that broke, and go off before the next one is read
+-- L1 to L9 stay on through the detail lines of the record that broke, and go off before the next record is read
 abbrev pub levels_at_detail : Corner
 levels_at_detail = record {
   sheets =
@@ -108,7 +108,7 @@ levels_at_detail = record {
 }
 
 -- ---- the first step
--- H and D lines in the order of the sheet, before any record is read; 1P and L0 are on, and 1P is off from then on
+-- H and D lines print in the order of their cards before any record is read; 1P and L0 are on, then 1P goes off for good
 abbrev pub first_step : Corner
 first_step = record {
   sheets =
@@ -121,7 +121,7 @@ first_step = record {
 }
 
 -- ---- the end
--- a deck without a card: LR comes first, and sets L1 to L9
+-- an empty deck: LR goes on at once and sets L1 to L9
 abbrev pub no_card : Corner
 no_card = record {
   sheets = card_file ∷ print_file ∷ one_type ∷ line Total (on (Level 3)) ∷ constant 3 (codes "SUM") ∷ line Total (on LastRecord) ∷ constant 3 (codes "END") ∷ [];
@@ -129,7 +129,7 @@ no_card = record {
   requests = Card ∷ printed_at 1 1 (codes "SUM") ∷ printed_at 1 2 (codes "END") ∷ End false ∷ [];
 }
 
--- SETON LR: the next cycle reads no card; L1 to L9 come with LR
+-- SETON LR: the next cycle reads no card, and L1 to L9 go on with LR
 abbrev pub last_set_on : Corner
 last_set_on = record {
   sheets = card_file ∷ print_file ∷ one_type ∷ set_on none_of_three LastRecord None ∷ line Total (on (Level 9)) ∷ constant 3 (codes "SUM") ∷ [];
@@ -137,7 +137,7 @@ last_set_on = record {
   requests = Card ∷ printed_at 1 1 (codes "SUM") ∷ End false ∷ [];
 }
 
--- a program without control fields passes over total time in its first cycle alone
+-- a program without control fields skips total time in its first cycle only
 abbrev pub first_totals : Corner
 first_totals = record {
   sheets = card_file ∷ print_file ∷ one_type ∷ line Total none_of_three ∷ constant 1 (codes "T") ∷ [];
@@ -145,7 +145,7 @@ first_totals = record {
   requests = Card ∷ Card ∷ printed_at 1 1 (codes "T") ∷ Card ∷ printed_at 1 2 (codes "T") ∷ End false ∷ [];
 }
 
--- where total calculations set LR, the job ends after the total lines
+-- if total calculations set LR, the job ends after the total lines
 abbrev pub last_in_totals : Corner
 last_in_totals = record {
   sheets =
@@ -156,7 +156,7 @@ last_in_totals = record {
   requests = Card ∷ Card ∷ printed_at 1 1 (codes "T") ∷ End false ∷ [];
 }
 
--- LR that was on before the totals ends the job, also where they set it off
+-- if LR was on before the totals, the job ends after them, even if they turn LR off
 abbrev pub last_set_off : Corner
 last_set_off = record {
   sheets =

@@ -1,4 +1,4 @@
--- Small runs: records and their fields as they are moved, output lines, and the carriage.
+-- Worked examples: records and their fields, output lines, and the carriage.
 use Rattle.std.specs.Prelude.{ℕ, pos, true, false, List, [], ◌∷◌, Some, None, codes}
 use Rattle.s3_edit.specs.declared.code.EditCode.TheVariants.{Date}
 use Rattle.s3_lines.specs.Inner.Blanks.{none_of_three}
@@ -22,7 +22,7 @@ use Rattle.s3_meaning.specs.Inner.Samples.{cards, padded_to}
 use Rattle.s3_meaning.specs.Inner.SheetWords.{Corner, on, unless, three_from, third_alone, field_named, file, card_file, print_file, overflow_file, one_type, type_by, field_at, related_field_at, marked_field_at, calculation, set_on, line, line_spaced, constant, constant_on, value, value_cleared, skip_to, card_of, printed_at}
 
 -- ---- records
--- the first type whose codes hold: zone D in position 1, which a - has, too; digit 1 there and no blank in position 2
+-- The first type whose codes hold applies. Its codes: zone D in position 1, which - also has; digit 1 there and no blank in position 2.
 abbrev pub record_codes : Corner
 record_codes = record {
   sheets =
@@ -38,7 +38,7 @@ record_codes = record {
       ∷ Ask UnidentifiedRecord ∷ [];
 }
 
--- a card of no type halts; reply 0 reads the next one
+-- a card of no type halts the job; reply 0 reads the next card
 abbrev pub unknown_card : Corner
 unknown_card = record {
   sheets =
@@ -48,7 +48,7 @@ unknown_card = record {
   requests = Card ∷ Ask UnidentifiedRecord ∷ Card ∷ printed_at 1 1 (codes "A") ∷ Card ∷ [];
 }
 
--- a bad digit halts once for a field; reply 0 goes on with its bad digits 0
+-- a field with bad digits halts the job once; after reply 0 these digits are 0
 abbrev pub bad_digits : Corner
 bad_digits = record {
   sheets = card_file ∷ print_file ∷ one_type ∷ field_at 1 3 (Zoned 0) (codes "N") ∷ line Detail (on (General 1)) ∷ value 3 (codes "N") Plain ∷ [];
@@ -56,7 +56,7 @@ bad_digits = record {
   requests = Card ∷ Ask BadDigit ∷ printed_at 1 1 (codes "050") ∷ Card ∷ [];
 }
 
--- plus, minus and zero of a number, where minus zero and a blank are zero; blank of a text
+-- a number sets plus, minus or zero; minus zero and blanks count as zero; a text sets blank
 abbrev pub field_indicators : Corner
 field_indicators = record {
   sheets =
@@ -76,7 +76,7 @@ field_indicators = record {
       ∷ Card ∷ printed_at 1 5 (codes "Z") ∷ Card ∷ [];
 }
 
--- a field with a relation counts where that indicator is on, and stays as it is else: X on cards with A, Y on all others
+-- a field with a field record relation is moved only if that indicator is on: X from cards with A, Y from all others
 abbrev pub field_relations : Corner
 field_relations = record {
   sheets =
@@ -90,8 +90,8 @@ field_relations = record {
   requests = Card ∷ printed_at 1 1 (codes "B 1") ∷ Card ∷ printed_at 1 2 (codes "BD2") ∷ Card ∷ [];
 }
 
--- ---- when lines hold
--- 01 and not 05, or 02: 05 is on where position 2 is blank
+-- ---- when lines are printed
+-- (01 and not 05) or 02; 05 is on if position 2 is blank
 abbrev pub groups_of_a_line : Corner
 groups_of_a_line = record {
   sheets =
@@ -103,7 +103,7 @@ groups_of_a_line = record {
   requests = Card ∷ Card ∷ printed_at 1 1 (codes "D") ∷ Card ∷ printed_at 1 2 (codes "D") ∷ Card ∷ [];
 }
 
--- EXCPT writes the E lines whose conditions hold, and no other time does
+-- only EXCPT writes E lines, those whose conditions hold
 abbrev pub exceptions : Corner
 exceptions = record {
   sheets =
@@ -130,7 +130,7 @@ switches = record {
   requests = printed_at 1 1 (codes "1") ∷ printed_at 1 2 (codes "N") ∷ Card ∷ [];
 }
 
--- output to a file whose condition is off is passed over
+-- output to a file whose condition is off is skipped
 abbrev pub print_switched_off : Corner
 print_switched_off = record {
   sheets =
@@ -140,8 +140,8 @@ print_switched_off = record {
   requests = Card ∷ Card ∷ Card ∷ [];
 }
 
--- ---- what lines put out
--- later fields lie over earlier ones, and one whose conditions don't hold puts nothing
+-- ---- what lines write
+-- a later field replaces an earlier one; a field whose conditions don't hold writes nothing
 abbrev pub laid_over : Corner
 laid_over = record {
   sheets =
@@ -151,7 +151,7 @@ laid_over = record {
   requests = Card ∷ printed_at 1 1 (codes "AXC") ∷ Card ∷ [];
 }
 
--- blank after: the field is put out first, and then it is 0
+-- blank after a number: the field is written, then it becomes 0
 abbrev pub blank_after : Corner
 blank_after = record {
   sheets =
@@ -163,7 +163,7 @@ blank_after = record {
   requests = Card ∷ printed_at 1 1 (codes "0700") ∷ Card ∷ printed_at 1 2 (codes "0200") ∷ Card ∷ [];
 }
 
--- blank after: a text becomes blanks for what follows on the line, and for the next line
+-- blank after a text: it becomes blanks for later fields of the line and for the next line
 abbrev pub text_blank_after : Corner
 text_blank_after = record {
   sheets =
@@ -174,7 +174,7 @@ text_blank_after = record {
   requests = Card ∷ printed_at 1 1 (codes "AB  1") ∷ printed_at 1 2 (codes "    2") ∷ Card ∷ [];
 }
 
--- PAGE adds 1 each time before it is put out, leading zeros blank
+-- PAGE adds 1 each time before it is written, with leading zeros as blanks
 abbrev pub pages : Corner
 pages = record {
   sheets = card_file ∷ print_file ∷ one_type ∷ line Detail (on (General 1)) ∷ value 4 (codes "PAGE") Plain ∷ value 9 (codes "PAGE") Plain ∷ [];
@@ -182,7 +182,7 @@ pages = record {
   requests = Card ∷ printed_at 1 1 (codes "   1    2") ∷ Card ∷ printed_at 1 2 (codes "   3    4") ∷ Card ∷ [];
 }
 
--- 0 comes after 9999, all blank; with blank after PAGE is 1 each time
+-- PAGE wraps to 0 after 9999, which prints blank; with blank after, PAGE is 1 each time
 abbrev pub page_after_9999 : Corner
 page_after_9999 = record {
   sheets =
@@ -194,7 +194,7 @@ page_after_9999 = record {
   requests = Card ∷ printed_at 1 1 (codes "9999         1    1") ∷ Card ∷ [];
 }
 
--- the date of the job, and its month, day and year
+-- UDATE, UMONTH, UDAY and UYEAR
 abbrev pub dates : Corner
 dates = record {
   sheets =
@@ -211,7 +211,8 @@ line_corners =
     ∷ blank_after ∷ text_blank_after ∷ pages ∷ page_after_9999 ∷ dates ∷ []
 
 -- ---- the carriage
--- skip before, space before, print, skip after, space after: at 10 and 2 on, then at 20 and 1 on; line 10 is above that
+-- skip before, space before, print, skip after, space after: the line prints at 12, then the carriage skips to 20 and spaces to 21.
+-- The second card's skip to 10 goes to the next page.
 abbrev pub order_of_movements : Corner
 order_of_movements = record {
   sheets =
@@ -225,7 +226,7 @@ order_of_movements = record {
       Card ∷ printed_at 1 12 (codes "A") ∷ printed_at 1 24 (codes "B") ∷ Card ∷ printed_at 2 12 (codes "A") ∷ printed_at 2 24 (codes "B") ∷ Card ∷ [];
 }
 
--- line 1 of the next page comes after line 66, and a skip to the line where the carriage stands stays there
+-- line 1 of the next page follows line 66; a skip to the current line moves nothing
 abbrev pub end_of_a_page : Corner
 end_of_a_page = record {
   sheets =
@@ -238,8 +239,8 @@ end_of_a_page = record {
 }
 
 -- ---- overflow
--- a line that names the overflow indicator stands at overflow time alone: OA is on in the second cycle's first step, and the line
--- comes after the second card, once
+-- A line that names the overflow indicator prints at overflow time only. OA is on in the first step of the second cycle, and the line
+-- prints once, after the second card.
 abbrev pub overflow_set_on : Corner
 overflow_set_on = record {
   sheets =
@@ -250,7 +251,7 @@ overflow_set_on = record {
   requests = Card ∷ Card ∷ printed_at 1 1 (codes "H") ∷ Card ∷ Card ∷ End false ∷ [];
 }
 
--- a line for each card that stands at this place of its page, with one space after it, and a heading by overflow
+-- each card prints a line at this line of a page, with one space after it; a heading prints at overflow
 abbrev pub overflow_at : ℕ → List Answer → List Request → Corner
 overflow_at place answers requests = record {
   sheets =
@@ -261,7 +262,7 @@ overflow_at place answers requests = record {
   requests = requests;
 }
 
--- one space from 59 doesn't set the overflow indicator, a line printed at 60 does, and a skip to 61 passes 60
+-- one space from 59 sets no overflow, printing at line 60 does, and a skip to 61 passes 60
 abbrev pub overflow_at_59 : Corner
 overflow_at_59 =
     overflow_at 59 (card_of (codes "A") ∷ Done ∷ card_of (codes "B") ∷ Done ∷ [])
@@ -277,7 +278,7 @@ overflow_at_61 =
     overflow_at 61 (card_of (codes "A") ∷ Done ∷ card_of (codes "B") ∷ Done ∷ [])
     (Card ∷ printed_at 1 61 (codes "D") ∷ Card ∷ printed_at 2 1 (codes "H") ∷ printed_at 2 61 (codes "D") ∷ [])
 
--- a skip to a line above on the page goes to the next page, and sets nothing
+-- a skip to an earlier line goes to the next page and sets no overflow
 abbrev pub skipped_over : Corner
 skipped_over = record {
   sheets =
@@ -290,7 +291,7 @@ skipped_over = record {
       Card ∷ printed_at 1 59 (codes "D") ∷ printed_at 2 3 (codes "E") ∷ Card ∷ printed_at 2 59 (codes "D") ∷ printed_at 3 3 (codes "E") ∷ [];
 }
 
--- a space from 59 to 61 passes 60, also one after the print, and one to line 60 doesn't
+-- a space from 59 to 61 passes 60, before or after printing; a space to line 60 doesn't
 abbrev pub spaces_past_60 : Corner
 spaces_past_60 = record {
   sheets =
@@ -301,7 +302,7 @@ spaces_past_60 = record {
   requests = Card ∷ printed_at 1 59 (codes "D") ∷ Card ∷ printed_at 2 1 (codes "H") ∷ printed_at 2 59 (codes "D") ∷ Card ∷ [];
 }
 
--- a skip after the print that stays on the page passes 60, too; from above 60 nothing does
+-- a skip after printing within the page passes 60 too; from a line after 60, no movement sets overflow
 abbrev pub skips_past_60 : Corner
 skips_past_60 = record {
   sheets =
@@ -315,8 +316,8 @@ skips_past_60 = record {
       ∷ printed_at 2 61 (codes "D") ∷ [];
 }
 
--- NOA is a condition as others are, and T lines come by overflow, too: OA is on from the first card's calculations to the
--- second card's overflow time; E lines never come by it
+-- NOA is an ordinary condition. T lines print at overflow too: OA is on from the first card's calculations to the second card's overflow
+-- time. E lines never print at overflow.
 abbrev pub without_overflow : Corner
 without_overflow = record {
   sheets =

@@ -1,4 +1,4 @@
--- Small runs: matching records and the end of files.
+-- Worked examples: matching records and the end of files.
 use Rattle.std.specs.Prelude.{ℕ, Bool, true, false, ◌++◌, List, [], ◌∷◌, Some, codes}
 use Rattle.s3_lines.specs.declared.indicator.Indicator.TheVariants.{General, Matching}
 use Rattle.s3_lines.specs.declared.sheet.Designation.TheVariants.{Primary, Secondary}
@@ -14,16 +14,16 @@ use Rattle.s3_meaning.specs.Requests.{Request, Ask, End, Answer, Found, Nothing,
 use Rattle.s3_meaning.specs.Inner.Samples.{padded_to}
 use Rattle.s3_meaning.specs.Inner.SheetWords.{Corner, on, print_file, disk_file, type_of_all, type_by, plain_field, match_field_at, line, constant, constant_on, value, record_of, read_from, printed_at}
 
--- a file whose records are of a type with this indicator, with M1 in positions 1 to 2
+-- a record type of a file with this indicator, with M1 in positions 1 to 2
 abbrev pub matched_type : List ℕ → ℕ → List SheetLine
 matched_type file indicator = type_of_all file indicator ∷ match_field_at 1 2 Alphanumeric (codes "K") 1 ∷ []
 
--- its records print the file's name and M1, and M where MR is on
+-- records of this type print the file's name and M1, and M if MR is on
 abbrev pub matched_line : List ℕ → ℕ → List SheetLine
 matched_line file indicator =
     line Detail (on (General indicator)) ∷ constant 1 file ∷ value 3 (codes "K") Plain ∷ constant_on (on Matching) 4 (codes "M") ∷ []
 
--- P and S, where records of P that begin with X have no match fields; P may have E
+-- a primary P and a secondary S; records of P that begin with X have no match fields; P may have E
 abbrev pub primary_and_secondary : (primary_ends : Bool) → List Answer → List Request → Corner
 primary_and_secondary primary_ends answers requests = record {
   sheets =
@@ -35,7 +35,7 @@ primary_and_secondary primary_ends answers requests = record {
   requests = requests;
 }
 
--- where P has E, its end ends the job, but secondary records with the last primary key are taken before
+-- if P has E, its end ends the job after the secondary records with the last primary key
 abbrev pub with_end : Corner
 with_end =
     primary_and_secondary true
@@ -43,7 +43,7 @@ with_end =
     (read_from (codes "P") ∷ read_from (codes "S") ∷ printed_at 1 1 (codes "P10") ∷ read_from (codes "P") ∷ printed_at 1 2 (codes "P20M")
     ∷ read_from (codes "P") ∷ printed_at 1 3 (codes "S20M") ∷ read_from (codes "S") ∷ End false ∷ [])
 
--- without E all records of both are taken
+-- without E, all records of both files are processed
 abbrev pub without_end : Corner
 without_end =
     primary_and_secondary false
@@ -52,7 +52,7 @@ without_end =
     ∷ read_from (codes "P") ∷ printed_at 1 3 (codes "S20M") ∷ read_from (codes "S") ∷ printed_at 1 4 (codes "S30") ∷ read_from (codes "S")
     ∷ End false ∷ [])
 
--- a record without match fields is taken at once, without MR
+-- a record without match fields is processed at once, with MR off
 abbrev pub without_key : Corner
 without_key =
     primary_and_secondary false
@@ -61,7 +61,7 @@ without_key =
     ∷ read_from (codes "P") ∷ printed_at 1 3 (codes "PX") ∷ read_from (codes "P") ∷ printed_at 1 4 (codes "P20") ∷ read_from (codes "P")
     ∷ End false ∷ [])
 
--- a record out of sequence is passed over by reply 0
+-- reply 0 skips a record out of sequence
 abbrev pub passed_over : Corner
 passed_over =
     primary_and_secondary false
@@ -69,7 +69,7 @@ passed_over =
     (read_from (codes "P") ∷ read_from (codes "S") ∷ printed_at 1 1 (codes "P20") ∷ read_from (codes "P") ∷ Ask OutOfSequence
     ∷ read_from (codes "P") ∷ End false ∷ [])
 
--- M1 in positions 1 to 2, and M2 in position 3, which counts first
+-- M1 in positions 1 to 2, and M2 in position 3, which compares first
 abbrev pub highest_first : Corner
 highest_first = record {
   sheets =
@@ -81,7 +81,8 @@ highest_first = record {
   requests = read_from (codes "P") ∷ read_from (codes "S") ∷ printed_at 1 1 (codes "S20") ∷ [];
 }
 
--- a tie goes to the primary, and then to F order; a secondary matches the last primary key
+-- if keys are equal, the primary comes first, then the order of the File Description specifications; a secondary matches the last primary
+-- key
 abbrev pub ties : Corner
 ties = record {
   sheets =
@@ -96,7 +97,7 @@ ties = record {
       ∷ read_from (codes "T") ∷ End false ∷ [];
 }
 
--- numeric match fields compare by their digits, without the sign: 010 zoned, and 010 packed with a minus
+-- numeric match fields compare by their digits without sign: 010 zoned, and -010 packed
 abbrev pub matched_by_digits : Corner
 matched_by_digits = record {
   sheets =
@@ -110,7 +111,7 @@ matched_by_digits = record {
       ∷ read_from (codes "S") ∷ End false ∷ [];
 }
 
--- a match field with a relation is one of the type with that indicator alone: M1 in positions 2 to 3 after A, in 3 to 4 after B
+-- a match field with a field record relation belongs only to the type with that indicator: M1 in 2 to 3 after A, in 3 to 4 after B
 abbrev pub matched_by_relation : Corner
 matched_by_relation = record {
   sheets =
@@ -122,7 +123,7 @@ matched_by_relation = record {
   requests = read_from (codes "P") ∷ read_from (codes "P") ∷ read_from (codes "P") ∷ Ask OutOfSequence ∷ [];
 }
 
--- a record that was passed over counts for nothing: 15 is lower than 20 as well, and 20 isn't
+-- a skipped record doesn't change the last key: after 20, 10 is out of sequence and 15 too, but a second 20 isn't
 abbrev pub passed_over_twice : Corner
 passed_over_twice = record {
   sheets = disk_file (codes "P") Primary false ∷ print_file ∷ matched_type (codes "P") 1 ++ matched_line (codes "P") 1;
@@ -133,7 +134,7 @@ passed_over_twice = record {
       ∷ Ask OutOfSequence ∷ read_from (codes "P") ∷ printed_at 1 2 (codes "P20") ∷ read_from (codes "P") ∷ [];
 }
 
--- LR comes when the files with E have no head: here the secondary alone, and a primary record is left
+-- LR goes on when the files with E have no head: here only the secondary has E, and a primary record is left
 abbrev pub end_of_the_secondary : Corner
 end_of_the_secondary = record {
   sheets =
@@ -145,7 +146,7 @@ end_of_the_secondary = record {
       ∷ read_from (codes "S") ∷ End false ∷ [];
 }
 
--- with E on both, all records of both are taken
+-- with E on both files, all records of both are processed
 abbrev pub end_of_both : Corner
 end_of_both = record {
   sheets =

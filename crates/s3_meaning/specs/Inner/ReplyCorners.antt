@@ -1,4 +1,4 @@
--- Small runs: replies 0, 2 and 3 to each halt of a job, at each place where it can come.
+-- Worked examples: replies 0, 2 and 3 to each halt of a job, at each place it can occur.
 use Rattle.std.specs.Prelude.{pos, true, false, ◌++◌, List, [], ◌∷◌, Some, None, codes}
 use Rattle.s3_cards.specs.Codes.{ebcdic}
 use Rattle.s3_lines.specs.Inner.Blanks.{none_of_three}
@@ -18,14 +18,14 @@ use Rattle.s3_meaning.specs.declared.current.Current.TheVariants.{LastChained}
 use Rattle.s3_meaning.specs.Inner.Samples.{padded_to}
 use Rattle.s3_meaning.specs.Inner.SheetWords.{Corner, name, unless, on, card_file, print_file, disk_file, chained_file, keyed_file, load_file, keyed_load_file, one_type, type_of_all, type_by, field_at, match_field_at, calculation, digit, field_named, set_on, line, disk_line, addition, constant, value, card_of, record_of, read_from, printed_at}
 
--- ---- what each reply does
--- a source, the answers before a halt, and the requests up to it
+-- ---- the effect of each reply
+-- a source, the answers before a halt, and the requests up to the halt
 pub record Halting : Type 0 where
   pub sheets : List SheetLine
   pub answers : List Answer
   pub requests : List Request
 
--- the same run, with these answers more and what it asks then
+-- the same run with further answers and further requests
 abbrev pub answered : Halting → List Answer → List Request → Corner
 answered halting answers requests =
     record { sheets = halting.sheets; answers = halting.answers ++ answers; requests = halting.requests ++ requests }
@@ -34,17 +34,17 @@ answered halting answers requests =
 abbrev pub totals : List SheetLine
 totals = line Total (on (Level 5)) ∷ constant 1 (codes "T") ∷ []
 
--- reply 2 sets LR and L1 to L9 and goes to the totals, reply 3 ends the job at once
+-- reply 2 sets LR and L1 to L9 and goes to the totals; reply 3 ends the job at once
 abbrev pub ending : Halting → List Corner
 ending halting =
     answered halting (Reply 2 ∷ Done ∷ []) (printed_at 1 1 (codes "T") ∷ End false ∷ [])
     ∷ answered halting (Reply 3 ∷ []) (End true ∷ []) ∷ []
 
--- and reply 0 goes on, to this request
+-- reply 0 continues with this request
 abbrev pub going_on : Request → Halting → List Corner
 going_on next halting = answered halting (Reply 0 ∷ []) (next ∷ []) ∷ ending halting
 
--- where LR is on, reply 2 acts as 3
+-- if LR is on, reply 2 acts like reply 3
 abbrev pub going_on_at_last : Request → Halting → List Corner
 going_on_at_last next halting =
     answered halting (Reply 0 ∷ []) (next ∷ [])
@@ -52,7 +52,7 @@ going_on_at_last next halting =
     ∷ answered halting (Reply 3 ∷ []) (End true ∷ []) ∷ []
 
 -- ---- in the cycle
--- H1 to H9 halt in the first step
+-- H1 to H9 halt the job in the first step
 abbrev pub indicator_on : Halting
 indicator_on = record {
   sheets = card_file ∷ print_file ∷ one_type ∷ set_on none_of_three (Halt 3) None ∷ totals;
@@ -60,7 +60,7 @@ indicator_on = record {
   requests = Card ∷ Ask (HaltIndicator 3) ∷ [];
 }
 
--- a card of no type: reply 0 reads the next
+-- a card of no type: reply 0 reads the next card
 abbrev pub of_no_type : Halting
 of_no_type = record {
   sheets = card_file ∷ print_file ∷ type_by (codes "CARDS") 1 0xc1 ∷ totals;
@@ -68,7 +68,7 @@ of_no_type = record {
   requests = Card ∷ Ask UnidentifiedRecord ∷ [];
 }
 
--- a record out of sequence: reply 0 passes it over and reads the next
+-- a record out of sequence: reply 0 skips it and reads the next record
 abbrev pub out_of_sequence : Halting
 out_of_sequence = record {
   sheets =
@@ -105,7 +105,7 @@ divided_in_totals = record {
   requests = Card ∷ Card ∷ Ask ZeroDivisor ∷ [];
 }
 
--- LR is on from detail calculations: in the totals, and in the first step before them
+-- detail calculations set LR: the halts are in the totals, and in the first step before them
 abbrev pub divided_at_last : Halting
 divided_at_last = record {
   sheets =
@@ -124,7 +124,7 @@ indicator_on_at_last = record {
   requests = Card ∷ Ask (HaltIndicator 3) ∷ [];
 }
 
--- H1 to H9 that are on halt in their order, and reply 0 sets each off
+-- those of H1 to H9 that are on halt the job in order, and reply 0 turns each off
 abbrev pub halts_in_order : Corner
 halts_in_order = record {
   sheets = card_file ∷ print_file ∷ one_type ∷ set_on none_of_three (Halt 7) (Some (Halt 2)) ∷ [];
@@ -132,7 +132,7 @@ halts_in_order = record {
   requests = Card ∷ Ask (HaltIndicator 2) ∷ Ask (HaltIndicator 7) ∷ Card ∷ End false ∷ [];
 }
 
--- once LR is on, reply 2 ends the job as reply 3 does: here at a division in the totals of an earlier reply 2
+-- if LR is on, reply 2 ends the job like reply 3: here at a division in the totals after an earlier reply 2
 abbrev pub reply_two_twice : Corner
 reply_two_twice = record {
   sheets =
@@ -144,7 +144,7 @@ reply_two_twice = record {
   requests = Card ∷ Ask (HaltIndicator 1) ∷ Ask ZeroDivisor ∷ End true ∷ [];
 }
 
--- reply 2 in the totals begins them again from their first line: 1 is added twice
+-- reply 2 in the totals restarts them at their first line: 1 is added twice
 abbrev pub totals_begin_again : Corner
 totals_begin_again = record {
   sheets =
@@ -156,7 +156,7 @@ totals_begin_again = record {
   requests = Card ∷ Card ∷ Ask ZeroDivisor ∷ printed_at 1 1 (codes "2") ∷ End false ∷ [];
 }
 
--- only reply 0 makes the result of a division by zero 0: after reply 2 it is as it was
+-- only reply 0 sets the result of a division by zero to 0; after reply 2 it is unchanged
 abbrev pub result_stays : Corner
 result_stays = record {
   sheets =
@@ -181,7 +181,7 @@ reply_corners =
     ++ halts_in_order ∷ reply_two_twice ∷ totals_begin_again ∷ result_stays ∷ []
 
 -- ---- at files
--- CHAIN by record number 5 without an indicator in 54-55
+-- CHAIN to record number 5 without an indicator in 54-55
 abbrev pub chain_five : SheetLine
 chain_five = calculation DetailTime none_of_three (digit 5) Chain (field_named (codes "C")) None None none_of_three
 
@@ -211,7 +211,7 @@ chained_bad_digit = record {
   requests = Card ∷ asks_five ∷ Ask BadDigit ∷ [];
 }
 
--- a file that no CHAIN has found a record of
+-- a file in which no CHAIN has found a record
 abbrev pub nothing_to_update : Halting
 nothing_to_update = record {
   sheets =
@@ -221,7 +221,7 @@ nothing_to_update = record {
   requests = Card ∷ UpdateRequest (name (codes "C")) None (Some 0xe7 ∷ None ∷ None ∷ None ∷ []) ∷ Ask NothingToUpdate ∷ [];
 }
 
--- the record of key AB is given the key XB
+-- an update that changes the record's key from AB to XB
 abbrev pub key_changed : Halting
 key_changed = record {
   sheets =
@@ -234,7 +234,7 @@ key_changed = record {
       ∷ UpdateRequest (name (codes "C")) (Some LastChained) (Some 0xe7 ∷ None ∷ None ∷ None ∷ []) ∷ Ask KeyChanged ∷ [];
 }
 
--- AB is added by its key
+-- adds a record with the key AB
 abbrev pub added : Answer → Request → Halting
 added refused asked = record {
   sheets =
@@ -244,7 +244,7 @@ added refused asked = record {
   requests = Card ∷ AddRequest (name (codes "L")) (ebcdic (codes "AB  ")) ∷ asked ∷ [];
 }
 
--- AB is loaded into a file
+-- loads AB into a file
 abbrev pub loaded : SheetLine → Answer → Request → Halting
 loaded file refused asked = record {
   sheets =
@@ -254,7 +254,7 @@ loaded file refused asked = record {
   requests = Card ∷ Append (name (codes "L")) (ebcdic (codes "AB  ")) ∷ asked ∷ [];
 }
 
--- an E line whose record is refused: reply 0 passes it over, and goes on to the next E line
+-- an E line whose record is refused: reply 0 skips it and continues with the next E line
 abbrev pub refused_exception : Halting
 refused_exception = record {
   sheets =

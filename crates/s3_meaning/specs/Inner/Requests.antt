@@ -1,4 +1,4 @@
--- Which answers fit which request: records of their length, what a file can refuse, and the replies that a halt allows.
+-- Which answers fit which request: records of the right length, the refusals of a file, and the replies that a halt allows.
 use Rattle.std.specs.Prelude.{ℕ, ◌==◌, Bool, true, false, length}
 use Rattle.s3_operator.specs.declared.halt_code.HaltCode.{HaltCode}
 use Rattle.s3_operator.specs.declared.halt_code.HaltCode.TheVariants.{DuplicateKey, KeyChanged, NothingToUpdate, FileFull, KeyNotAscending}
@@ -6,19 +6,19 @@ use Rattle.s3_operator.specs.Replies.{is_allowed}
 use Rattle.s3_meaning.specs.Requests.{Request, Answer, Add, Append, Ask, Card, Chain, Done, End, Found, Jump, Nothing, Print, Read, Refused, Reply, Update}
 
 -- ---- which answers fit which request
--- a record of so many bytes, or none
+-- a record of the right length, or none
 abbrev pub fits_record : (record_length : ℕ) → Answer → Bool
 fits_record record_length (Found bytes) = length bytes == record_length
 fits_record record_length Nothing = true
 fits_record record_length _ = false
 
--- done, or refused for a code of these
+-- done, or refused with one of these codes
 abbrev pub fits_done : (refuses : HaltCode → Bool) → Answer → Bool
 fits_done refuses Done = true
 fits_done refuses (Refused code) = refuses code
 fits_done refuses _ = false
 
--- nothing refuses a printed line or a jump
+-- a printed line and a jump are never refused
 abbrev pub refuses_never : HaltCode → Bool
 refuses_never code = false
 

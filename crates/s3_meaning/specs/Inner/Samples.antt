@@ -1,4 +1,4 @@
--- Two sources of worked rows, as typed lines: the card lister, and totals by a control field.
+-- Two sources for worked examples, as typed lines: the card lister, and totals by a control field.
 use Rattle.std.specs.Prelude.{ℕ, ◌-◌, ◌++◌, true, false, List, [], ◌∷◌, length, replicate, Option, Some, None}
 use Rattle.s3_edit.specs.declared.code.EditCode.TheVariants.{Suppressed}
 use Rattle.s3_cards.specs.declared.name.Name.{Name}
@@ -37,7 +37,7 @@ on_general n = Some (record { negated = false; indicator = General n }) ∷ None
 abbrev pub on_level : ℕ → List (Option Condition)
 on_level n = Some (record { negated = false; indicator = Level n }) ∷ None ∷ None ∷ []
 
--- CARDS, PRINT, TEXT, KEY, QTY, TOT
+-- the names CARDS, PRINT, TEXT, KEY, QTY and TOT
 abbrev pub cards : Name
 cards = named (0xc3 ∷ 0xc1 ∷ 0xd9 ∷ 0xc4 ∷ 0xe2 ∷ [])
 
@@ -72,7 +72,8 @@ card_lister =
     ∷ line_at 9 (Output (FieldCard (record { conditions = none_of_three; content = FieldContent (record { name = text; form = Plain; blank_after = false }); end = 3 })))
     ∷ []
 
--- KEY of L1 in column 1, QTY in 2 to 3; TOT ADD QTY gives TOT, 4 digits; a T line under L1 puts TOT under Z, blank after, at 4
+-- KEY is L1 in column 1, QTY columns 2 to 3. TOT ADD QTY gives TOT, 4 digits. A T line at L1 prints TOT with edit code Z and blank after,
+-- To 4.
 abbrev pub level_totals : List Line
 level_totals =
     file_lines ++
@@ -90,6 +91,6 @@ card codes = padded_to 96 codes
 abbrev pub print_line : List ℕ → List ℕ
 print_line codes = padded_to 132 codes
 
--- 000000
+-- the date 000000
 abbrev pub no_date : List ℕ
 no_date = replicate 6 0xf0

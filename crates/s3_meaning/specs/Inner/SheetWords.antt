@@ -1,4 +1,4 @@
--- Short words for small runs: lines of the sheets, cards, records and printed lines, and what it is that runs come out.
+-- Abbreviations for worked examples: specification lines, cards, records and printed lines, and the check of their requests.
 use Rattle.std.specs.Prelude.{◌≡◌, ℕ, Bool, pos, true, false, List, [], ◌∷◌, length, map, Option, Some, None, codes}
 use Rattle.s3_cards.specs.declared.name.Name.{Name}
 use Rattle.s3_cards.specs.Codes.{ebcdic}
@@ -39,7 +39,7 @@ use Rattle.s3_meaning.specs.Cycle.{Req}
 use Rattle.s3_meaning.specs.Inner.Samples.{padded_to, named, line_at, cards}
 
 -- ---- runs
--- the request after each of the answers
+-- the requests of a run: the first, and the one after each answer
 unfoldable pub asked : Run → List Answer → List Request
 asked run [] = run [] ∷ []
 asked run (answer ∷ answers) = run [] ∷ asked (λ later. run (answer ∷ later)) answers
@@ -50,11 +50,11 @@ pub record Corner : Type 0 where
   pub answers : List Answer
   pub requests : List Request
 
--- 15 June 1976, and U1 alone is on
+-- the date is 15 June 1976, and only U1 is on
 abbrev pub requests_of : Corner → List Request
 requests_of corner = asked (Req (source_of (map (line_at 0) corner.sheets)) 0x80 (ebcdic (codes "061576"))) corner.answers
 
--- each makes the requests that it must
+-- each source makes exactly the expected requests
 abbrev pub ComeOut : List Corner → Type 0
 ComeOut corners = map requests_of corners ≡ map (λ corner. corner.requests) corners
 
@@ -71,11 +71,11 @@ unless indicator = Some (record { negated = true; indicator = indicator }) ∷ N
 abbrev pub resulting : Option Indicator → Option Indicator → Option Indicator → List (Option Indicator)
 resulting first second third = first ∷ second ∷ third ∷ []
 
--- three indicators, the numbers next to each other
+-- three resulting indicators by number
 abbrev pub three_from : ℕ → ℕ → ℕ → List (Option Indicator)
 three_from first second third = resulting (Some (General first)) (Some (General second)) (Some (General third))
 
--- the third alone
+-- only the third indicator
 abbrev pub third_alone : ℕ → List (Option Indicator)
 third_alone third = resulting None None (Some (General third))
 
@@ -103,7 +103,7 @@ card_file = File (file (codes "CARDS") InputUse (Some Primary) CardReader 96)
 abbrev pub print_file : SheetLine
 print_file = File (file (codes "PRINT") OutputUse None Printer 132)
 
--- with OA
+-- a print file with the overflow indicator OA
 abbrev pub overflow_file : SheetLine
 overflow_file = File (record (file (codes "PRINT") OutputUse None Printer 132) { overflow = Some (Overflow 1) })
 
@@ -111,16 +111,16 @@ overflow_file = File (record (file (codes "PRINT") OutputUse None Printer 132) {
 abbrev pub disk_file : List ℕ → Designation → (ends_job : Bool) → SheetLine
 disk_file text designation ends_job = File (record (file text InputUse (Some designation) Disk 4) { ends_job = ends_job })
 
--- by record number
+-- a file chained by record number
 abbrev pub chained_file : List ℕ → FileUse → SheetLine
 chained_file text usage = File (record (file text usage (Some Chained) Disk 4) { is_random = true })
 
--- the key stands in the first 2 bytes
+-- the key is the first 2 bytes
 abbrev pub keyed_file : List ℕ → FileUse → SheetLine
 keyed_file text usage =
     File (record (file text usage (Some Chained) Disk 4) { is_random = true; is_keyed = true; is_indexed = true; key = Some (record { length = 2; start = 1 }) })
 
--- made by the job, or added to
+-- a file that the job loads, or adds to
 abbrev pub load_file : List ℕ → (has_additions : Bool) → SheetLine
 load_file text has_additions = File (record (file text OutputUse None Disk 4) { has_additions = has_additions })
 
@@ -133,15 +133,15 @@ keyed_load_file text has_additions =
 abbrev pub one_type : SheetLine
 one_type = Input (Record cards (General 1) none_of_three)
 
--- a type without codes
+-- a record type without codes
 abbrev pub type_of_all : List ℕ → ℕ → SheetLine
 type_of_all text indicator = Input (Record (name text) (General indicator) none_of_three)
 
--- this character stands at this position
+-- a code that compares one character at a position
 abbrev pub character_at : ℕ → ℕ → List (Option RecordCode)
 character_at position character = Some (record { position = position; negated = false; part = Character; character = character }) ∷ None ∷ None ∷ []
 
--- a type with a character in position 1
+-- a record type that one character in position 1 identifies
 abbrev pub type_by : List ℕ → ℕ → ℕ → SheetLine
 type_by text indicator character = Input (Record (name text) (General indicator) (character_at 1 character))
 
@@ -190,7 +190,7 @@ calculation time conditions factor1 operation factor2 result definition indicato
     named_result None = None
     named_result (Some text) = Some (name text)
 
--- a line whose group goes on
+-- a line without an operation, which the next line of its group continues
 abbrev pub conditions_alone : CalculationTime → List (Option Condition) → SheetLine
 conditions_alone time conditions = Calculation (record {
   time = time;
@@ -210,7 +210,7 @@ digit n = Some (Number (record { value = pos n; digits = 1; decimals = 0 }))
 abbrev pub field_named : List ℕ → Option (Factor Name)
 field_named text = Some (Named (name text))
 
--- SETON in detail time
+-- SETON in detail calculations
 abbrev pub set_on : List (Option Condition) → Indicator → Option Indicator → SheetLine
 set_on conditions first second = calculation DetailTime conditions None SetOn None None None (resulting (Some first) second None)
 
@@ -225,7 +225,7 @@ line_spaced kind spacing conditions = line_of (codes "PRINT") kind false spacing
 abbrev pub line : OutputKind → List (Option Condition) → SheetLine
 line kind conditions = line_spaced kind no_spacing conditions
 
--- a record that is written back or loaded, and one that is added
+-- a record that is updated or loaded, and a record that is added
 abbrev pub disk_line : List ℕ → OutputKind → List (Option Condition) → SheetLine
 disk_line text kind conditions = line_of text kind false no_spacing conditions
 

@@ -1,21 +1,21 @@
--- What the calls on a deck may answer: the place of the next job, and that job or its fault, where it lies in the deck.
+-- Results of calls on a deck: the place of the next job, and that job or its error, with its place in the deck.
 use Rattle.std.specs.Prelude.{◌≡◌, ◌<◌, ◌≤◌, ℕ, List, Option, Some, None, Result, Ok, Err, length, nat_lt, if◌then◌else◌}
 use Rattle.s3_ocl.specs.declared.faults.FaultyJob.{FaultyJob}
 use Rattle.s3_ocl.specs.declared.jobs.OclFault.{OclFault}
 use Rattle.s3_ocl.specs.declared.jobs.OclFault.TheVariants.{NoMemory, Faulty}
 use Rattle.s3_ocl.specs.Jobs.{Job, next_job}
 
--- the place of the next job from a place on, none where there is no job
+-- the place of the next job, from a place on; none if there is no further job
 abbrev pub job_place : List (List ℕ) → ℕ → Option ℕ
 job_place cards from = if nat_lt (next_job cards from) (length cards) then Some (next_job cards from) else None
 
--- what a call answered is this job or its fault, unless memory ran out
+-- the result is this job or its error, unless memory runs out
 abbrev pub Gives : Result Job OclFault → Result Job FaultyJob → Type 0
 Gives (Err NoMemory) meant = Unit {0}
 Gives (Err (Faulty faulty)) meant = meant ≡ Err faulty
 Gives (Ok job) meant = meant ≡ Ok job
 
--- where a job that begins at a place lies in the deck, and the card at fault in it
+-- a job that begins at a place, and its card in error, are within the deck
 abbrev pub LiesWithin : List (List ℕ) → ℕ → Result Job OclFault → Type 0
 LiesWithin cards place (Err NoMemory) = Unit {0}
 LiesWithin cards place (Err (Faulty faulty)) =

@@ -1,4 +1,4 @@
--- How the reader goes on. None of this says what a job is: that stands in the other files, and the proofs tie the two.
+-- Steps of the reader. They don't define what a job is: other files do, and proofs connect the two.
 use Rattle.std.specs.Prelude.{◌≡◌, ℕ, ◌||◌, List, [], ◌++◌, Bool, false, Option, Some, None, length, nat_lt, if◌then◌else◌}
 use Rattle.std.specs.Option.{option_or, option_to_list}
 use Rattle.s3_cards.specs.declared.name.Name.{Name}
@@ -15,12 +15,12 @@ use Rattle.s3_ocl.specs.Faults.{earlier}
 use Rattle.s3_ocl.specs.Parameters.{parts_of}
 use Rattle.s3_ocl.specs.Statements.{Statement, is_verb, pieces_in}
 
--- the parameters in one more text of a statement that has these
+-- the parameters in one more text of a statement that already has these
 abbrev pub pieces_more : Option Verb → ℕ → List Piece → List ℕ → List Piece
 pieces_more None number pieces text = []
 pieces_more (Some verb) number pieces text = pieces_in verb number (length pieces) (parts_of text)
 
--- what the reader keeps of the statements that it has read
+-- the data that the reader keeps of the statements read so far
 pub record Contents : Type 0 where
   pub program : Option Name
   pub date : Option (List ℕ)
@@ -41,7 +41,7 @@ contents_of statements = record {
   is_switched = has verb.Switch statements;
 }
 
--- the same with one more statement
+-- the data kept after one more statement
 abbrev pub contents_with : Contents → Statement → Contents
 contents_with contents statement = record {
   program = option_or contents.program (name_in Program statement.pieces);
@@ -53,24 +53,24 @@ contents_with contents statement = record {
   is_switched = contents.is_switched || is_verb verb.Switch statement.verb;
 }
 
--- P holds of any statements of which the reader keeps this
+-- P holds for all statements of which the reader keeps these data
 abbrev pub KeptOf : Contents → (List Statement → Type 0) → Type 0
 KeptOf contents P = (statements : List Statement) → contents ≡ contents_of statements → P statements
 
--- P holds behind any such statements without RUN
+-- P holds for all earlier statements without RUN of which the reader keeps these data
 abbrev pub Behind : Contents → (List Statement → Type 0) → Type 0
 Behind contents P = (before : List Statement) → contents ≡ contents_of before → has verb.Run before ≡ false → P before
 
--- there are statements, without RUN, of which the reader keeps this
+-- the reader keeps these data of some statements without RUN
 abbrev pub IsKept : Contents → Type 0
 IsKept contents = (before : List Statement) × (contents ≡ contents_of before) × (has verb.Run before ≡ false)
 
--- the fault of the deck's end, where a statement that is no RUN ends there
+-- the error at the end of the deck, if the last statement there isn't RUN
 abbrev pub last_fault : List (List ℕ) → Option Verb → ℕ → Option Mark
 last_fault cards named end =
     if is_verb verb.Run named || nat_lt end (length cards) then None else Some (record { card = length cards; fault = NoRun })
 
--- the first of a statement's fault, if it has one, and that of the deck's end
+-- the earlier of a statement's error and the error at the end of the deck; none if the statement has no error
 abbrev pub with_last : Option Mark → Option Mark → Option Mark
 with_last None last = None
 with_last (Some mark) last = earlier (Some mark) last

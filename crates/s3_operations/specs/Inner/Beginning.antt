@@ -12,14 +12,14 @@ use Rattle.s3_program.specs.Inner.Stands.{source_named}
 use Rattle.s3_operations.specs.Inner.Held.{digits_and_decimals, form_in_shape, held, IsSound}
 use Rattle.s3_operations.specs.declared.values.Values.{Values}
 
--- Each part of the date fits its field of two digits. Bytes whose low half is above 9 may write more, up to 165, which no
--- such field holds; six digits always fit.
+-- Each part of the date fits its field of two digits. Six digits always fit. Bytes whose low half is above 9 may give more, up to 165,
+-- which a field of two digits can't hold.
 pub record IsDate (date : List ℕ) : Type 0 where
   pub month : date_part date 0 < 100
   pub day : date_part date 2 < 100
   pub year : date_part date 4 < 100
 
--- each byte writes a digit in its low half
+-- each byte has a digit in its low half
 abbrev pub are_digits : List ℕ → Bool
 are_digits date = list_all (λ byte. nat_lt (byte % 16) 10) date
 
@@ -39,11 +39,11 @@ pub record IsZeros (fields : List (Defined Shape)) (zeros : List ℤ) (of : List
   pub numbers : zeros ≡ replicate (length fields) (pos 0)
   pub forms : map digits_and_decimals of ≡ map (λ field. form_in_shape field.meaning) fields
 
--- with the fields, the indicators and what a division leaves of another environment
+-- the environment `e` with the fields, the indicators and the remainder of another environment
 abbrev pub with_values : Environment → Environment → Environment
 with_values values e = record e { numbers = values.numbers; texts = values.texts; on = values.on; remainder = values.remainder }
 
--- a job begins: all that values hold is as its first environment has it
+-- at the start of a job, values are as in its first environment
 pub record Begins (program : Program) (switches : ℕ) (date : List ℕ) (values : Values) : Type 0 where
   pub sound : IsSound program values
   pub held : (rest : Environment) → held program values rest ≡ with_values (at_first (source_named program) switches date) rest

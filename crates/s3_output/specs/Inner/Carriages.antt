@@ -1,4 +1,4 @@
--- Where the carriage stands, as the meaning has it.
+-- The position of the carriage, in the terms of the semantics.
 use Rattle.std.specs.Prelude.{◌≡◌, Bool, false}
 use Rattle.s3_lines.specs.declared.sheet.Spacing.{Spacing}
 use Rattle.s3_meaning.specs.Carriage.{Carriage as Place, after_print, to_print}
@@ -12,7 +12,7 @@ place carriage overflow = record { page = carriage.page; line = carriage.line; o
 abbrev pub place_moved : Moved → Place
 place_moved moved = place moved.carriage moved.overflow
 
--- the place of print, and where the carriage is behind the line
+-- the page and line where the line prints, and the carriage after it
 pub record IsPrinted (spacing : Spacing) (carriage : Carriage) (printed : Printed) : Type 0 where
   pub there : place_moved printed.place ≡ to_print spacing (place carriage false)
   pub behind : place_moved printed.behind ≡ after_print spacing (place_moved printed.place)

@@ -1,4 +1,4 @@
--- What a number is put out as.
+-- The bytes that a number is written as.
 use Rattle.std.specs.Prelude.{ℕ, ◌+◌, ◌/◌, ℤ, Bool, true, unsigned_abs, List, nat_le, Option, Some, None, is_some, unwrap_or, if◌then◌else◌}
 use Rattle.s3_decimal.specs.Exact.{is_negative}
 use Rattle.s3_decimal.specs.Records.{zoned_bytes, packed_bytes}
@@ -10,19 +10,19 @@ use Rattle.s3_lines.specs.declared.sheet.OutputForm.{OutputForm}
 use Rattle.s3_lines.specs.declared.sheet.OutputForm.TheVariants.{Plain, Packed, Edited}
 use Rattle.s3_meaning.specs.Output.{edited}
 
--- a number of so many digits and decimals; PAGE without an edit code as under Z
+-- a number of this many digits and decimals; PAGE without an edit code is written with Z
 abbrev pub number_put : OutputForm → (is_page : Bool) → (digits decimals : ℕ) → ℤ → List ℕ
 number_put Packed is_page digits decimals value = packed_bytes (is_negative value) (digits / 2 + 1) (unsigned_abs value)
 number_put (Edited code) is_page digits decimals value = edited code digits decimals value
 number_put Plain is_page digits decimals value =
     if is_page then edited Suppressed 4 0 value else zoned_bytes (is_negative value) digits (unsigned_abs value)
 
--- PAGE without an edit code is put out as under Z
+-- PAGE without an edit code is written with Z
 abbrev pub shown_form : OutputForm → (is_page : Bool) → OutputForm
 shown_form Plain is_page = if is_page then Edited Suppressed else Plain
 shown_form form is_page = form
 
--- how many bytes that are, where its form has a width
+-- the width of an edited number; 0 if its form has none
 abbrev pub edited_width : EditCode → (digits decimals : ℕ) → ℕ
 edited_width code digits decimals = unwrap_or (width_of code digits decimals) 0
 
@@ -35,7 +35,7 @@ abbrev pub has_width : OutputForm → (digits decimals : ℕ) → Bool
 has_width (Edited code) digits decimals = is_some (width_of code digits decimals)
 has_width _ digits decimals = true
 
--- the style of an amount of up to six decimals
+-- the style of an edited amount of at most six decimals
 abbrev pub amount_of : OutputForm → (decimals : ℕ) → Option Amount
 amount_of (Edited (EditedCode style)) decimals = if nat_le decimals 6 then Some style else None
 amount_of _ decimals = None

@@ -1,4 +1,4 @@
--- The output lines of a program, by where they start among its O lines.
+-- The output lines of a program, by the place of their first card.
 use Rattle.std.specs.Prelude.{◌≡◌, ℕ, Option, Some, slice_get, option_map}
 use Rattle.s3_lines.specs.declared.sheet.FileLine.{FileLine}
 use Rattle.s3_meaning.specs.OutputLines.{Output}
@@ -12,7 +12,7 @@ use Rattle.s3_operations.specs.Inner.Fits.{tables}
 abbrev pub IsLineAt : Program → OutputStart → Output → Type 0
 IsLineAt program start line = output_at (tables program) program.outputs.items start ≡ Some line
 
--- one of the program's output lines starts there
+-- an output line of the program starts there
 pub record IsStart (program : Program) (start : OutputStart) : Type 0 where
   pub number : ℕ
   pub there : slice_get (output_starts program.files.items program.outputs.items) number ≡ Some start
@@ -21,6 +21,6 @@ pub record IsStart (program : Program) (start : OutputStart) : Type 0 where
 abbrev pub file_of : Program → OutputStart → Option FileLine
 file_of program start = slice_get program.files.items start.file
 
--- and its record length, in bytes
+-- the record length of a line's file, in bytes
 abbrev pub length_of : Program → OutputStart → Option ℕ
 length_of program start = option_map (λ file. file.record_length) (file_of program start)

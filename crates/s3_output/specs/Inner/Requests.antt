@@ -7,7 +7,7 @@ use Rattle.s3_meaning.specs.Output.{filled}
 use Rattle.s3_output.specs.declared.requests.DiskRequest.{DiskRequest}
 use Rattle.s3_output.specs.declared.requests.DiskRequest.TheVariants.{Update, Add, Append}
 
--- of these positions, with the current record
+-- the request that writes these positions, to the current record if it is an update
 abbrev pub request_of : DiskRequest → FileLine → List (Option ℕ) → Environment → meaning.Request
 request_of Update file positions e = meaning.Update file.name (e.current file.name) positions
 request_of Add file positions e = meaning.Add file.name (filled positions)

@@ -1,4 +1,4 @@
--- Worked rows: the carriage, and numbers as they are put out.
+-- Worked examples: the carriage, and written numbers.
 use Rattle.std.specs.Prelude.{ℕ, zero, suc, false, true, [], Some, None}
 use Rattle.s3_edit.specs.declared.code.EditCode.{EditCode}
 use Rattle.s3_edit.specs.declared.code.EditCode.TheVariants.{Edited}
@@ -14,19 +14,19 @@ at page line = record { page = page; line = line; overflow = false }
 abbrev pub past : (page line : ℕ) → Carriage
 past page line = record { page = page; line = line; overflow = true }
 
--- skips before printing to a line
+-- skips to a line before printing
 abbrev pub skip_to : ℕ → Spacing
 skip_to line = record { space_before = None; space_after = None; skip_before = Some line; skip_after = None }
 
--- so many lines are printed one below the other
+-- this many lines are printed one after another
 abbrev pub printed : ℕ → Carriage → Carriage
 printed zero c = c
 printed (suc n) c = printed n (after_print no_spacing (to_print no_spacing c))
 
--- code A
+-- edit code A
 abbrev pub credit : EditCode
 credit = Edited (record { commas = true; zero_printed = true; sign = Credit })
 
--- a source without lines, which has the fields of the language itself: PAGE has four digits, UMONTH two
+-- a source without lines has only the reserved fields: PAGE has four digits, UMONTH two
 abbrev pub no_lines : Source
 no_lines = source_from [] [] [] []

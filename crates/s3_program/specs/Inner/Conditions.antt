@@ -1,4 +1,4 @@
--- Lines of meanings of which no condition of 5 to 12 holds, sheet by sheet, with exactly one primary file.
+-- Lines for which no condition of 5 to 12 holds, by kind of specification, with exactly one primary file.
 use Rattle.std.specs.Prelude.{ℕ, Bool, true, not, ◌&&◌, List, [], ◌∷◌, Option, map}
 use Rattle.std.specs.List.{list_any}
 use Rattle.s3_cards.specs.declared.name.Name.{Name}

@@ -1,4 +1,4 @@
--- Tags and subroutines: each is known by the place of its line.
+-- Tags and subroutines, identified by the places of their lines.
 use Rattle.std.specs.Prelude.{ℕ, ◌+◌, ◌==◌, nat_eq, Bool, ◌&&◌, List, [], ◌∷◌, Option, Some, None, map}
 use Rattle.std.specs.List.{cons_option}
 use Rattle.std.specs.Map.{keys_of}
@@ -16,7 +16,7 @@ use Rattle.s3_program.specs.Jumps.{section_of}
 use Rattle.s3_program.specs.Inner.Distinct.{are_distinct}
 
 -- ---- places
--- a TAG, by its place and its section
+-- the place and section of a TAG
 abbrev pub tag_on : CalculationStanding → CalculationLine Meaning → Option TagPlace
 tag_on at line = on line.operation
   where
@@ -24,12 +24,12 @@ tag_on at line = on line.operation
     on (Some op.Tag) = Some (record { place = at.place; section = section_of at line })
     on _ = None
 
--- the tags of these lines, the first of which stands here
+-- the tags of these lines, the first line at this place
 unfoldable pub tags_from : CalculationStanding → List (CalculationLine Meaning) → List TagPlace
 tags_from at [] = []
 tags_from at (line ∷ lines) = cons_option (tag_on at line) (tags_from (behind_calculation at line) lines)
 
--- a BEGSR, by its place
+-- the place of a BEGSR
 abbrev pub subroutine_on : (place : ℕ) → CalculationLine Meaning → Option ℕ
 subroutine_on place line = on line.operation
   where
@@ -45,7 +45,7 @@ subroutines_from place (line ∷ lines) = cons_option (subroutine_on place line)
 abbrev pub same_tag : TagPlace → TagPlace → Bool
 same_tag one two = one.place == two.place && one.section == two.section
 
--- no name stands twice, and they are those of the lines, in order
+-- no name occurs twice, and the tables have the tags and subroutines of the lines, in order
 unfoldable pub labels_stand : List (Name × TagPlace) → List (Name × SubroutinePlace) → List (CalculationLine Meaning) → Bool
 labels_stand tags subroutines lines =
     are_distinct (keys_of tags)

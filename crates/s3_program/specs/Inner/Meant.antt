@@ -1,4 +1,4 @@
--- Lines of meanings: the lines of a source, or of a program, with what is known of each thing in place of its name or its slot.
+-- The lines of a source or program, with the meaning of each name or slot in its place.
 use Rattle.std.specs.Prelude.{Bool, true, false, ◌&&◌, List, Option, Some, None}
 use Rattle.std.specs.List.{list_all}
 use Rattle.s3_lines.specs.declared.sheet.FileLine.{FileLine}
@@ -35,7 +35,7 @@ is_of kind.Tag (a.Tag tag) = true
 is_of kind.Subroutine (a.Subroutine subroutine) = true
 is_of _ _ = false
 
--- all that a line names passes a test by its kind
+-- all names of a line pass a test that depends on their kind
 abbrev pub factor_passes : (Meaning → Bool) → Option (Factor Meaning) → Bool
 factor_passes test (Some (Named meaning)) = test meaning
 factor_passes test _ = true
@@ -67,10 +67,10 @@ output_passes test _ = true
 abbrev pub all_pass : (Kind → Meaning → Bool) → Meant → Bool
 all_pass test lines = list_all (input_passes test) lines.inputs && list_all (calculation_passes test) lines.calculations && list_all (output_passes test) lines.outputs
 
--- all that lines name is defined
+-- all names of the lines are defined
 unfoldable pub are_defined : Meant → Bool
 are_defined lines = all_pass (λ kind meaning. is_defined meaning) lines
 
--- and is of the kind that its entry asks for
+-- all names have the kind that their entry requires
 unfoldable pub are_of_kinds : Meant → Bool
 are_of_kinds lines = all_pass is_of lines

@@ -1,4 +1,4 @@
--- Positions within their records, and entries in their ranges, on lines of meanings.
+-- Positions within records, and entries in range, on lines with meanings.
 use Rattle.std.specs.Prelude.{ℕ, Bool, true, ◌&&◌, List, [], ◌∷◌, Option, Some, None}
 use Rattle.std.specs.List.{list_all}
 use Rattle.s3_lines.specs.declared.sheet.InputLine.{InputLine}
@@ -15,7 +15,7 @@ abbrev pub record_length : Meaning → Option ℕ
 record_length (a.File file) = Some file.record_length
 record_length _ = None
 
--- ---- the I sheet: the record length by which field lines go behind a line
+-- ---- Input specifications: the record length for the field lines after a line
 abbrev pub input_length_behind : Option ℕ → InputLine Meaning → Option ℕ
 input_length_behind last (Record file indicator codes) = record_length file
 input_length_behind last _ = last
@@ -30,7 +30,7 @@ unfoldable pub inputs_within : Option ℕ → List (InputLine Meaning) → Bool
 inputs_within last [] = true
 inputs_within last (line ∷ lines) = input_within last line && inputs_within (input_length_behind last line) lines
 
--- ---- the O sheet: a line card without a name takes the file of the line before
+-- ---- Output specifications: a line card without a name has the file of the previous line
 abbrev pub output_length_behind : Option ℕ → OutputLine Meaning → Option ℕ
 output_length_behind last (LineCard card) = on card.file
   where

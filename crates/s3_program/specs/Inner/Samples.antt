@@ -1,4 +1,4 @@
--- Worked programs: one with every sheet and every operation, and wrong ones beside it.
+-- Worked examples: a program with every specification and operation, and invalid variants of it.
 use Rattle.std.specs.Prelude.{ℕ, pos, ◌-◌, ◌++◌, Bool, true, false, List, [], ◌∷◌, length, replicate, slice_set, Option, Some, None}
 use Rattle.s3_edit.specs.declared.code.EditCode.TheVariants.{Edited as EditedAmount, Date as DateCode, Suppressed}
 use Rattle.s3_edit.specs.declared.code.Sign.TheVariants.{Minus}
@@ -65,7 +65,7 @@ two = Some (Number (record { value = pos 2; digits = 1; decimals = 0 }))
 abbrev pub text_ab : Option (Factor Reference)
 text_ab = Some (Text (record { codes = 0xc1 ∷ 0xc2 ∷ 0x40 ∷ 0x40 ∷ 0x40 ∷ 0x40 ∷ 0x40 ∷ 0x40 ∷ []; length = 2 }))
 
--- ---- the F sheet: CARDS, PRINT, MASTER by keys of 5, STOCK that is updated, NEW that is loaded
+-- ---- File Description specifications: CARDS, PRINT, MASTER with keys of 5, STOCK to update, NEW to load
 abbrev pub file : List ℕ → FileUse → Option Designation → Device → ℕ → FileLine
 file name usage designation device record_length = record {
   name = word name;
@@ -92,7 +92,7 @@ files =
     ∷ file (0xd5 ∷ 0xc5 ∷ 0xe6 ∷ []) OutputUse None Disk 30
     ∷ []
 
--- ---- fields, by slot: the reserved ones, then KEY, QTY, NAME, TOT, REM, TEXT
+-- ---- fields by slot: the reserved fields, then KEY, QTY, NAME, TOT, REM, TEXT
 abbrev pub defined : {T : Type 0} → Name → T → Defined T
 defined name meaning = record { name = name; meaning = meaning }
 
@@ -111,7 +111,7 @@ fields =
     ∷ defined (word (0xe7 ∷ [])) (Alphanumeric 8)
     ∷ []
 
--- ---- the I sheet
+-- ---- Input specifications
 abbrev pub code : ℕ → ℕ → List (Option RecordCode)
 code position character = Some (record { position = position; negated = false; part = Character; character = character }) ∷ None ∷ None ∷ []
 
@@ -141,7 +141,7 @@ inputs =
     ∷ InputField (field 8 6 9 (Packed 2))
     ∷ []
 
--- ---- the C sheet
+-- ---- Calculation specifications
 abbrev pub line : CalculationTime → Option (Factor Reference) → Operation → Option (Factor Reference) → Option Reference → CalculationLine Reference
 line when first operation second result = record {
   time = when;
@@ -164,7 +164,7 @@ detail first operation second result = line time.Detail first operation second r
 abbrev pub subroutine : Option (Factor Reference) → Operation → Option (Factor Reference) → CalculationLine Reference
 subroutine first operation second = line time.Subroutine first operation second None
 
--- 0 to 19
+-- places 0 to 19
 abbrev pub details : List (CalculationLine Reference)
 details =
     record (marked 21 (detail (field_slot 6) op.Add (field_slot 8) (into 8))) { definition = Some (Numeric 7 2); half_adjust = true }
@@ -189,7 +189,7 @@ details =
     ∷ detail None op.ExecuteSubroutine (Some (Named (slot.Subroutine 1))) None
     ∷ []
 
--- 20 to 27
+-- places 20 to 27
 abbrev pub totals : List (CalculationLine Reference)
 totals =
     line (time.Total (Level 1)) None op.ZeroAdd two (into 9)
@@ -202,7 +202,7 @@ totals =
     ∷ subroutine None op.EndSubroutine None
     ∷ []
 
--- ---- the O sheet
+-- ---- Output specifications
 abbrev pub card : Option ℕ → OutputKind → OutputLine Reference
 card None kind = LineCard (record { file = None; kind = kind; is_addition = false; spacing = no_spacing; conditions = none_of_three })
 card (Some k) kind = LineCard (record { file = Some (slot.File k); kind = kind; is_addition = false; spacing = no_spacing; conditions = none_of_three })
@@ -248,7 +248,7 @@ outputs =
     ∷ put 7 Plain false 30
     ∷ []
 
--- ---- the whole
+-- ---- the whole program
 abbrev pub whole : Parts
 whole = record {
   files = files;
@@ -260,8 +260,8 @@ whole = record {
   outputs = outputs;
 }
 
--- ---- wrong programs
--- with another line in place of one
+-- ---- invalid programs
+-- the program with another line in one place
 abbrev pub with_input : ℕ → InputLine Reference → Parts
 with_input k line = record whole { inputs = slice_set inputs k line }
 
@@ -277,31 +277,31 @@ with_tag place section = record whole { tags = slice_set whole.tags 0 (defined (
 abbrev pub with_subroutine : ℕ → Parts
 with_subroutine place = record whole { subroutines = slice_set whole.subroutines 1 (defined (word (0xe2 ∷ 0xf2 ∷ [])) (record { place = place })) }
 
--- slots that are wrong
+-- programs with wrong slots
 abbrev pub wrong_slots : List Parts
 wrong_slots =
     -- a field's slot off by one
     with_input 3 (InputField (field 6 1 5 Characters))
-    -- past the table
+    -- a slot after the end of the table
     ∷ with_output 7 (put 11 Plain false 5)
-    -- a tag for a field
+    -- a tag in place of a field
     ∷ with_calculation 5 (detail None op.ZeroAdd (field_slot 6) (Some (slot.Tag 0)))
     -- a record line of the print file
     ∷ with_input 5 (Record (slot.File 1) (General 3) none_of_three)
     ∷ []
 
--- tables that are wrong
+-- programs with wrong tables
 abbrev pub wrong_tables : List Parts
 wrong_tables =
-    -- a tag a line before its own
+    -- a tag one line before its own
     with_tag 14 0
-    -- or of another section
+    -- a tag in another section
     ∷ with_tag 15 1
-    -- a subroutine a line behind its own
+    -- a subroutine one line after its own
     ∷ with_subroutine 25
-    -- a field of another shape than its line's
+    -- a field with another shape than its line gives
     ∷ record whole { fields = slice_set fields 6 (defined (word (0xd8 ∷ [])) (Numeric 5 1)) }
-    -- two fields of one name
+    -- two fields of the same name
     ∷ record whole { fields = fields ++ defined (word (0xd8 ∷ [])) (Numeric 5 2) ∷ [] }
     -- UDATE before PAGE
     ∷ record whole { fields = slice_set (slice_set fields 0 (defined udate (Numeric 6 0))) 1 (defined page (Numeric 4 0)) }
@@ -311,30 +311,30 @@ wrong_tables =
     ∷ record whole { files = slice_set files 4 (file [] OutputUse None Disk 30) }
     ∷ []
 
--- lines that are wrong
+-- programs with wrong lines
 abbrev pub wrong_lines : List Parts
 wrong_lines =
-    -- a text is added
+    -- a text used as a number
     with_calculation 1 (detail (field_slot 5) op.Subtract two (into 8))
     -- a subroutine that calls itself
     ∷ with_calculation 22 (subroutine None op.ExecuteSubroutine (Some (Named (slot.Subroutine 0))))
     -- a GOTO to a tag of another section
     ∷ with_calculation 16 (detail None op.GoTo (Some (Named (slot.Tag 1))) None)
-    -- an MVR behind a DIV with half adjust
+    -- an MVR after a DIV with half adjust
     ∷ with_calculation 3 (record (detail (field_slot 8) op.Divide (field_slot 6) (into 8)) { half_adjust = true })
-    -- a detail line behind a total line
+    -- a detail line after a total line
     ∷ with_calculation 21 (detail None op.Except None None)
     -- a subroutine without its end
     ∷ with_calculation 23 (subroutine None op.Except None)
-    -- an operation that isn't known
+    -- an unknown operation
     ∷ with_calculation 18 (detail None op.Unknown None None)
-    -- a CHAIN with a key too long
+    -- a CHAIN with a key that is too long
     ∷ with_calculation 14 (detail (field_slot 10) op.Chain (Some (Named (slot.File 2))) None)
-    -- match fields that differ from those of the first type
+    -- match fields that differ from the first type's
     ∷ with_input 8 (InputField (record (field 5 1 5 Characters) { match_level = Some 2 }))
-    -- a position past its record
+    -- a position after the end of the record
     ∷ with_output 14 (put 8 PackedForm false 41)
-    -- packed on the print file
+    -- a packed field on the print file
     ∷ with_output 10 (put 8 PackedForm true 7)
     -- an edited number that would begin before position 1
     ∷ with_output 8 (put 6 (Edited (EditedAmount (record { commas = true; zero_printed = true; sign = Minus }))) true 6)

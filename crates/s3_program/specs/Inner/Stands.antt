@@ -1,4 +1,4 @@
--- A program stands for a source: the same lines, with names as slots.
+-- Compiler correctness: a program has the lines of its source, with slots in place of names.
 use Rattle.std.specs.Prelude.{◌≡◌}
 use Rattle.s3_meaning.specs.Source.{Source}
 use Rattle.s3_program.specs.declared.program.Program.{Program}
@@ -15,7 +15,7 @@ parts_of program = record {
   outputs = program.outputs.items;
 }
 
--- the source that has each slot as its name
+-- the source of a program, with each slot replaced by its name
 abbrev pub source_named : Program → Source
 source_named program = named (parts_of program)
 

@@ -1,4 +1,4 @@
--- What starts at the places of the tables: the record types and the output lines of the source.
+-- The record types and output lines that start at the places of the tables.
 use Rattle.std.specs.Prelude.{List, [], ◌∷◌, ◌++◌, Option, Some, None, map, drop}
 use Rattle.s3_lines.specs.declared.indicator.Indicator.{Indicator}
 use Rattle.s3_lines.specs.declared.sheet.RecordCode.{RecordCode}
@@ -17,7 +17,7 @@ use Rattle.s3_program.specs.Inner.Tables.{name_in, name_of}
 use Rattle.s3_program.specs.Lines.{map_card}
 use Rattle.s3_program.specs.Inner.Valid.{named_input, named_output}
 
--- the record type that starts at a line: its file, and its fields from where they begin
+-- the record type that starts at a line, with its file, and its fields from their first line
 abbrev pub type_on : Tables → List (InputLine Reference) → TypeStart → List (InputLine Reference) → Option RecordType
 type_on tables inputs start [] = None
 type_on tables inputs start (line ∷ lines) = on line
@@ -39,7 +39,7 @@ type_on tables inputs start (line ∷ lines) = on line
 abbrev pub type_at : Tables → List (InputLine Reference) → TypeStart → Option RecordType
 type_at tables inputs start = type_on tables inputs start (drop start.place inputs)
 
--- the output line that starts at a card: its file
+-- the output line that starts at a card, with its file
 abbrev pub output_on : Tables → OutputStart → List (OutputLine Reference) → Option Output
 output_on tables start [] = None
 output_on tables start (LineCard card ∷ lines) = Some (output_from (name_in tables.files start.file) (map_card (name_of tables) card) (map (named_output tables) lines))

@@ -1,4 +1,4 @@
--- Where things start among the lines of a program, so that a run looks for none of them.
+-- The places where record types, output lines and sections start, so that a run needn't search for them.
 use Rattle.std.specs.Prelude.{◌≡◌, ℕ, ◌+◌, ◌==◌, if◌then◌else◌, Bool, true, false, not, List, [], ◌∷◌, Option, Some, None, map, filter, length}
 use Rattle.std.specs.List.{range_with_len, cons_option}
 use Rattle.s3_lines.specs.declared.sheet.FileLine.{FileLine}
@@ -20,20 +20,20 @@ use Rattle.s3_program.specs.declared.starts.Walk.TheVariants as walk
 use Rattle.s3_program.specs.declared.starts.Sections.{Sections}
 use Rattle.s3_program.specs.declared.starts.Starts.{Starts}
 
--- the slot of a file, or that of the line before
+-- the slot of a file, or else the slot of the previous line
 abbrev pub file_slot : ℕ → Reference → ℕ
 file_slot last (slot.File k) = k
 file_slot last (slot.Field k) = last
 file_slot last (slot.Tag k) = last
 file_slot last (slot.Subroutine k) = last
 
--- the place of the first one that passes a test, counted from this place; the place behind the last where none does
+-- the place of the first element that passes a test, counted from `place`; the place after the last if none does
 unfoldable pub first_from : {X : Type 0} → (X → Bool) → (place : ℕ) → List X → ℕ
 first_from passes place [] = place
 first_from passes place (x ∷ xs) = if passes x then place else first_from passes (place + 1) xs
 
--- ---- record types: a record line, and each OR line that goes on with it
--- the file of the group behind a line
+-- ---- record types: from a record line, and from each OR line that continues it
+-- the file of the group after a line
 abbrev pub type_file : ℕ → InputLine Reference → ℕ
 type_file last (Record file indicator codes) = file_slot last file
 type_file last (AndCodes codes) = last
@@ -53,7 +53,7 @@ is_type (AndCodes codes) = false
 is_type (OrCodes indicator codes) = true
 is_type (InputField field) = false
 
--- behind AND and OR lines the fields of a group begin
+-- the fields of a group begin after its AND and OR lines
 abbrev pub fields_begin : (place : ℕ) → List (InputLine Reference) → ℕ
 fields_begin place lines = first_from (λ line. not (goes_on line)) place lines
 
@@ -65,22 +65,22 @@ type_starts_from last place [] = []
 type_starts_from last place (line ∷ lines) =
     cons_option (type_start (type_file last line) place (fields_begin (place + 1) lines) line) (type_starts_from (type_file last line) (place + 1) lines)
 
--- no record line has no file: its slot is behind the last
+-- without a record line the file is unknown, and its slot is the one after the last
 abbrev pub type_starts : List FileLine → List (InputLine Reference) → List TypeStart
 type_starts files inputs = type_starts_from (length files) 0 inputs
 
 abbrev pub is_type_of : ℕ → TypeStart → Bool
 is_type_of file start = start.file == file
 
--- those of a file, in order of the I sheet
+-- the types of one file, in card order
 abbrev pub types_of_file : List TypeStart → ℕ → List TypeStart
 types_of_file starts file = filter (is_type_of file) starts
 
--- for each file
+-- the types of each file
 abbrev pub types_by_file : List FileLine → List (InputLine Reference) → List (List TypeStart)
 types_by_file files inputs = map (types_of_file (type_starts files inputs)) (range_with_len 0 (length files))
 
--- ---- output lines: one without a name takes the file of the line before
+-- ---- output lines: a line without a name has the file of the previous line
 abbrev pub output_slot : ℕ → Option Reference → ℕ
 output_slot last (Some file) = file_slot last file
 output_slot last None = last
@@ -105,7 +105,7 @@ output_starts_from last place (line ∷ lines) =
 abbrev pub output_starts : List FileLine → List (OutputLine Reference) → List OutputStart
 output_starts files outputs = output_starts_from (length files) 0 outputs
 
--- the kinds of lines that are put out together
+-- the kinds of output lines in one walk
 abbrev pub is_walked : Walk → OutputKind → Bool
 is_walked walk.Beginning kind.Heading = true
 is_walked walk.Beginning kind.Detail = true
@@ -124,11 +124,11 @@ is_walked walk.Overflow kind.Detail = true
 is_walked walk.Overflow kind.Total = true
 is_walked walk.Overflow kind.Exception = false
 
--- in order of the O sheet
+-- the output lines of a walk, in card order
 abbrev pub walked : Walk → List FileLine → List (OutputLine Reference) → List OutputStart
 walked w files outputs = filter (λ start. is_walked w start.kind) (output_starts files outputs)
 
--- ---- sections of the C sheet: an AN or OR line is of its group's section
+-- ---- sections of the calculations: an AN or OR line is in its group's section
 abbrev pub begins_totals : CalculationTime → Bool
 begins_totals Detail = false
 begins_totals (Total indicator) = true
@@ -143,11 +143,11 @@ begins_subroutines Subroutine = true
 begins_subroutines And = false
 begins_subroutines Or = false
 
--- detail lines stand before `totals`, total lines from there on before `subroutines`
+-- detail lines are before place `totals`; total lines are from there on, before place `subroutines`
 abbrev pub sections_of : List (CalculationLine Reference) → Sections
 sections_of lines = record { totals = first_from (λ line. begins_totals line.time) 0 lines; subroutines = first_from (λ line. begins_subroutines line.time) 0 lines }
 
--- ---- all of them
+-- ---- all starts
 pub record AreStarts (starts : Starts) (files : List FileLine) (inputs : List (InputLine Reference)) (calculations : List (CalculationLine Reference)) (outputs : List (OutputLine Reference)) : Type 0 where
   pub types : map (λ types. types.items) starts.types.items ≡ types_by_file files inputs
   pub beginning : starts.beginning.items ≡ walked walk.Beginning files outputs
@@ -156,7 +156,7 @@ pub record AreStarts (starts : Starts) (files : List FileLine) (inputs : List (I
   pub overflow : starts.overflow.items ≡ walked walk.Overflow files outputs
   pub sections : starts.sections ≡ sections_of calculations
 
--- the same starts, wherever they lie in memory
+-- the same starts, at any memory locations
 pub record SameStarts (one two : Starts) : Type 0 where
   pub types : map (λ types. types.items) one.types.items ≡ map (λ types. types.items) two.types.items
   pub beginning : one.beginning.items ≡ two.beginning.items

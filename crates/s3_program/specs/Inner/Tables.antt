@@ -1,4 +1,4 @@
--- Tables of names read both ways: the slot of a name, and the name and the meaning at a slot.
+-- Tables of names in both directions: the slot of a name, and the name and meaning of a slot.
 use Rattle.std.specs.Prelude.{ℕ, List, Option, length, slice_get, option_map, unwrap_or}
 use Rattle.std.specs.List.{position}
 use Rattle.std.specs.Map.{keys_of}
@@ -13,7 +13,7 @@ use Rattle.s3_program.specs.declared.program.Meaning.TheVariants as meaning
 use Rattle.s3_program.specs.Tables.{Tables, or_undefined}
 
 -- ---- one table
--- the slot of a name; one that isn't there has the slot behind the last
+-- the slot of a name; a missing name has the slot after the last
 abbrev pub slot_in : {X : Type 0} → List (Name × X) → Name → ℕ
 slot_in table name = unwrap_or (position (same_name name) (keys_of table)) (length table)
 
@@ -36,7 +36,7 @@ name_of tables (slot.Field k) = name_in tables.fields k
 name_of tables (slot.Tag k) = name_in tables.tags k
 name_of tables (slot.Subroutine k) = name_in tables.subroutines k
 
--- by slot
+-- the meaning of a slot
 abbrev pub meaning_at : Tables → Reference → Meaning
 meaning_at tables (slot.File k) = or_undefined (λ x. meaning.File x) (item_in tables.files k)
 meaning_at tables (slot.Field k) = or_undefined (λ entry. meaning.Field (record { name = entry.0; meaning = entry.1 })) (slice_get tables.fields k)

@@ -1,4 +1,4 @@
--- What translation makes of lines: names become slots. And what is known of lines without diagnostics.
+-- Translation replaces names in lines by slots; its facts about lines without diagnostics.
 use Rattle.std.specs.Prelude.{◌≡◌, true, List, Option, map, filter_map}
 use Rattle.s3_cards.specs.declared.name.Name.{Name}
 use Rattle.s3_lines.specs.declared.sheet.FileLine.{FileLine}
@@ -31,7 +31,7 @@ tables_in known = record {
   subroutines = known.subroutines.entries;
 }
 
--- ---- files stay as they are
+-- ---- files are unchanged
 unfoldable pub file_on : Line → Option FileLine
 file_on line = file_line line
 
@@ -68,18 +68,18 @@ known_lines tables lines = record {
 
 -- ---- lines without diagnostics
 pub record IsAccepted (known : Definitions) (lines : List Line) : Type 0 where
-  -- the files are those of the F lines
+  -- the files of the File Description specifications
   pub files : known.files.entries ≡ map file_entry (filter_map file_line lines)
-  -- no name stands twice, each field is known by its first definition, tags and subroutines by their places and levels
+  -- no name occurs twice, fields have their first definitions, and tags and subroutines have their places
   pub right : are_right (source_of lines) (tables_in known) (known_lines (tables_in known) lines).calculations ≡ true
   -- all names are defined
   pub defined : are_defined (known_lines (tables_in known) lines) ≡ true
-  -- the cards have no fault of their own
+  -- the cards have no errors of their own
   pub read : are_read lines ≡ true
-  -- and no diagnostic
+  -- the lines have no diagnostics
   pub clear : are_clear (filter_map file_line lines) (known_lines (tables_in known) lines).inputs (known_lines (tables_in known) lines).calculations (known_lines (tables_in known) lines).outputs ≡ true
 
--- a program stands for the source of lines, under its name
+-- the program is a correct compilation of the lines, and has their program name
 pub record StandsFor (program : Program) (lines : List Line) : Type 0 where
   pub meaning : Stands program (source_of lines)
   pub name : program.name ≡ program_name lines

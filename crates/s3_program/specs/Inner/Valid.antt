@@ -1,4 +1,4 @@
--- What every program keeps: what its lines name is there, of the right kind and in range, and no name is given twice.
+-- The invariant of every program: names in lines exist, have the right kind and are in range, and no name is defined twice.
 use Rattle.std.specs.Prelude.{Bool, ◌&&◌, List, map, take, length}
 use Rattle.std.specs.Cmp.Lexicographic.{pointwise}
 use Rattle.std.specs.List.{list_all}
@@ -52,7 +52,7 @@ tables_of parts = record {
   subroutines = map entry_of parts.subroutines;
 }
 
--- ---- the source: each slot as the name that it has
+-- ---- the source: each slot replaced by its name
 abbrev pub named_input : Tables → InputLine Reference → InputLine Name
 named_input tables line = map_input (name_of tables) (name_of tables) line
 
@@ -93,11 +93,11 @@ is_shaped source field = shape_in_range field.1 && same_shape (shape_in source.s
 abbrev pub are_shaped : Source → List (Name × Shape) → Bool
 are_shaped source fields = list_all (is_shaped source) fields
 
--- the fields that the language has itself are the first ones, in the order in which a source has them
+-- the first fields are the reserved ones, in the order of every source
 abbrev pub begin_reserved : List (Name × Shape) → Bool
 begin_reserved fields = pointwise same_name (take (length reserved_shapes) (keys_of fields)) (keys_of reserved_shapes)
 
--- no name stands twice in a table, fields have their shapes, and labels stand at their places
+-- no name occurs twice in a table, fields have their shapes, and labels have their places
 abbrev pub are_right : Source → Tables → List (CalculationLine Meaning) → Bool
 are_right source tables calculations =
     are_distinct (keys_of tables.files)
@@ -106,7 +106,7 @@ are_right source tables calculations =
     && are_shaped source tables.fields
     && labels_stand tables.tags tables.subroutines calculations
 
--- each slot is of the kind that its entry asks for, entries are in range, positions within their records, and no line has a diagnostic
+-- slots have the kinds that their entries require, entries are in range, positions are within records, and no line has a diagnostic
 abbrev pub are_sound : Meant → Bool
 are_sound lines =
     are_of_kinds lines

@@ -1,10 +1,10 @@
--- Cards that have number 4, and the columns of the entries at fault by it, worked by hand.
+-- Cards with diagnostic 4, and the columns of their entries in error, worked by hand.
 use Rattle.std.specs.Prelude.{◌≡◌, ℕ, List, [], ◌∷◌, ◌++◌, ◌==◌, length, map, filter, codes}
 use Rattle.s3_sheets.specs.declared.parts.FaultyEntry.{FaultyEntry}
 use Rattle.s3_sheets.specs.Inner.Parts.{entries_of, parts_at}
 use Rattle.s3_sheets.specs.Inner.Samples.{punched, disk_file, indexed_file, record_card, field_card, add_card}
 
--- a card behind others, and the columns
+-- a card, the cards before it, and the columns in error
 pub record MarkRow : Type 0 where
   pub before : List (List ℕ)
   pub card : List ℕ
@@ -21,7 +21,7 @@ marks_wanted row = row.marks
 abbrev pub AreMarked : List MarkRow → Type 0
 AreMarked rows = map marks_found rows ≡ map marks_wanted rows
 
--- an indexed file with a record length of 100, and a key of 10 that begins at 1, but for some entries
+-- an indexed file with record length 100 and a key of 10 bytes from position 1, with some entries replaced
 abbrev pub keyed : List (ℕ × List ℕ) → List (ℕ × ℕ) → MarkRow
 keyed pieces marks = record { before = []; card = punched indexed_file pieces; marks = marks }
 
@@ -38,7 +38,7 @@ file_marks =
     ∷ keyed ((25, codes "   ") ∷ (38, codes " ") ∷ []) ((24, 27) ∷ (35, 38) ∷ [])
     ∷ []
 
--- a field in 1 to 3 of a record of 100, but for some entries
+-- a field in positions 1 to 3 of a record of 100, with some entries replaced
 abbrev pub lying : List (ℕ × List ℕ) → List (ℕ × ℕ) → MarkRow
 lying pieces marks = record {
   before = disk_file ∷ punched record_card ((7, codes "DATA ") ∷ []) ∷ [];
@@ -61,7 +61,7 @@ field_marks =
     ∷ lying ((47, codes "0") ∷ (50, codes "60") ∷ (52, codes "2") ∷ []) ((44, 47) ∷ [])
     ∷ []
 
--- a C line that defines its result, with some entries
+-- a calculation card that defines its result, with some entries replaced
 abbrev pub defining : List (ℕ × List ℕ) → List (ℕ × ℕ) → MarkRow
 defining pieces marks = record { before = []; card = punched add_card pieces; marks = marks }
 

@@ -1,5 +1,4 @@
--- The entries that are at fault where a card has one of the numbers of single cards: what each number's condition is made of, entry by
--- entry.
+-- The entries in error on a card with one of the diagnostics for single cards: each diagnostic's condition, entry by entry.
 use Rattle.std.specs.Prelude.{◌≡◌, ℕ, zero, suc, ◌+◌, ◌-◌, ◌==◌, List, [], ◌∷◌, ◌++◌, Bool, false, not, ◌&&◌, ◌||◌, Option, Some, None, is_some, length, map, filter, nat_le}
 use Rattle.std.specs.List.{list_any}
 use Rattle.s3_entries.specs.declared.calculation.TheConstants as calculation
@@ -34,11 +33,11 @@ use Rattle.s3_sheets.specs.declared.progress.Standing.{Standing}
 abbrev pub span_of : Rule → Span
 span_of rule = record { from = rule.from; to = rule.to }
 
--- a part of a number's condition, on the entry in some columns
+-- one part of a diagnostic's condition, with the columns of its entry
 abbrev pub part : (number : ℕ) → (span : Span) → (fails : Bool) → Part
 part number span fails = record { number = number; from = span.from; to = span.to; fails = fails }
 
--- ---- 2 to 4: the rules, each for an entry
+-- ---- 2 to 4: rules, each for one entry
 abbrev pub fault_number : Fault → ℕ
 fault_number WrongEntry = 2
 fault_number WrongName = 3
@@ -47,18 +46,18 @@ fault_number WrongNumber = 4
 abbrev pub rule_part : List ℕ → Rule → Part
 rule_part card rule = part (fault_number (fault_of rule.entry)) (span_of rule) (not (allows rule.entry (columns card (span_of rule))))
 
--- ---- 2 to 4: columns together
+-- ---- 2 to 4: several columns together
 abbrev pub has_record_length : FileLine → Bool
 has_record_length file = is_between 1 (longest_record file.device) file.record_length
 
--- an indexed file has a key length and a key start
+-- an indexed file must have a key length and a key start
 abbrev pub lacks_key_length : List ℕ → Bool
 lacks_key_length card = is_with_index (file_line card) && not (is_some (number_between 1 29 (columns card file.KEY_LENGTH)))
 
 abbrev pub lacks_key_start : List ℕ → Bool
 lacks_key_start card = is_with_index (file_line card) && not (is_some (number_between 1 9999 (columns card file.KEY_START)))
 
--- a key that is known ends past a record whose length is known
+-- the key is known and ends after the end of the record, whose length is known
 abbrev pub has_key_past : FileLine → Bool
 has_key_past file = has_record_length file && (is_some file.key && not (is_key_within file.record_length file.key))
 
@@ -73,12 +72,12 @@ file_parts card =
     ∷ part 4 file.KEY_START (lacks_key_start card || has_key_past (file_line card))
     ∷ []
 
--- whether there are more decimals than digits, of which there are as many as there may be
+-- the number of digits is allowed, but there are more decimals than digits
 abbrev pub has_surplus_decimals : Shape → Bool
 has_surplus_decimals (Alphanumeric length) = false
 has_surplus_decimals (Numeric digits decimals) = is_between 1 15 digits && not (nat_le decimals digits)
 
--- the positions of a field are measured, and its decimals by them, where both are known
+-- From and To are both numbers, so length and decimals can be checked
 abbrev pub has_positions : List ℕ → Bool
 has_positions card = is_some (number_between 1 9999 (columns card input.FROM)) && is_some (number_between 1 9999 (columns card input.TO))
 
@@ -91,7 +90,7 @@ field_parts card =
     ∷ part 4 input.DECIMALS (has_positions card && has_surplus_in_field (field_line card))
     ∷ []
 
--- decimals over the length concern both, any other fault of a length the length alone
+-- if decimals exceed the length, both entries are in error; otherwise only the length is
 abbrev pub has_surplus : Option Shape → Bool
 has_surplus None = false
 has_surplus (Some shape) = has_surplus_decimals shape
@@ -110,7 +109,8 @@ line_parts card =
     ∷ part 4 output.SPACE_AFTER (not (is_addition card) && not (is_blank_or (number_between 0 3) (columns card output.SPACE_AFTER)))
     ∷ []
 
--- a field beside a constant is at fault with it, any other entry beside a constant alone; so are an edit code and P together
+-- a field next to a constant is in error with it, as are an edit code and P together; any other entry next to a constant is in error by
+-- itself
 abbrev pub has_both : List ℕ → Bool
 has_both card = are_filled card output.CONSTANT && are_filled card output.FIELD_NAME
 
@@ -136,7 +136,7 @@ combined_parts OutputLine card = line_parts card
 combined_parts OutputField card = output_parts card
 combined_parts _ card = []
 
--- ---- 4: positions past a record of a length
+-- ---- 4: positions after the end of the record
 abbrev pub code_parts : List ℕ → Option ℕ → List Part
 code_parts card length =
     part 4 input.POSITION_1 (exceeds (number_of (columns card input.POSITION_1)) length)
@@ -158,8 +158,8 @@ position_parts Field card length = span_parts card length
 position_parts OutputField card length = part 4 output.END_POSITION (exceeds (number_of (columns card output.END_POSITION)) length) ∷ []
 position_parts _ card length = []
 
--- ---- 1, 3 and 13: by the cards before
--- where the name stands that a card defines: of a file, of a field of a record, or of a result
+-- ---- 1, 3 and 13: errors that depend on earlier cards
+-- the columns of the name that a card defines: of a file, of a field of a record, or of a result
 abbrev pub defined : CardKind → Span
 defined File = shared.FILENAME
 defined Field = input.FIELD_NAME
@@ -178,14 +178,14 @@ parts_with kind card standing length =
     standing_parts kind standing
     ++ (map (rule_part card) (rules_of kind) ++ (combined_parts kind card ++ position_parts kind card length))
 
--- the record length that the positions on a card of a source go by
+-- the record length for the positions on a card of a source
 abbrev pub length_at : List (List ℕ) → ℕ → Option ℕ
 length_at cards i = length_for (kind_at cards i) (named_length cards i) (input_length cards i) (output_length cards i)
 
 abbrev pub parts_at : List (List ℕ) → ℕ → List Part
 parts_at cards i = parts_with (kind_at cards i) (card_at cards i) (standing_at cards i) (length_at cards i)
 
--- ---- the entries at fault: those of parts that fail
+-- ---- the entries in error: those of parts that fail
 abbrev pub entry_of : (card : ℕ) → Part → FaultyEntry
 entry_of card p = record { card = card; number = p.number; from = p.from; to = p.to }
 
@@ -195,7 +195,7 @@ fails p = p.fails
 abbrev pub entries_of : (card : ℕ) → List Part → List FaultyEntry
 entries_of card parts = map (entry_of card) (filter fails parts)
 
--- those of the first n cards, which stand from a place of their deck on
+-- the entries in error of the first n cards; `from` is the number of cards before the first
 abbrev pub entries_below : (from : ℕ) → List (List ℕ) → ℕ → List FaultyEntry
 entries_below from cards zero = []
 entries_below from cards (suc n) = entries_below from cards n ++ entries_of (from + n + 1) (parts_at cards n)
@@ -203,7 +203,7 @@ entries_below from cards (suc n) = entries_below from cards n ++ entries_of (fro
 unfoldable pub faulty_entries : (from : ℕ) → List (List ℕ) → List FaultyEntry
 faulty_entries from cards = entries_below from cards (length cards)
 
--- ---- a card has a number exactly where one of its entries is at fault by it
+-- ---- a card has a diagnostic exactly if one of its entries is in error by it
 abbrev pub has_entry : (number : ℕ) → List FaultyEntry → Bool
 has_entry number entries = list_any (λ (entry : FaultyEntry). entry.number == number) entries
 

@@ -1,4 +1,4 @@
--- Reading card by card: what is kept of the cards before, and what it says of the next one.
+-- Reading card by card: the state kept of the cards so far, and what follows from it for the next card.
 use Rattle.std.specs.Prelude.{ℕ, ◌+◌, List, [], ◌++◌, Bool, true, false, ◌==◌, ◌&&◌, ◌||◌, not, Option, None, length, max}
 use Rattle.std.specs.Option.{option_to_list}
 use Rattle.s3_entries.specs.declared.shared.TheConstants as shared
@@ -11,7 +11,7 @@ use Rattle.s3_sheets.specs.declared.kind.CardKind.{CardKind}
 use Rattle.s3_sheets.specs.declared.kind.CardKind.TheVariants.{Comment, Unknown}
 use Rattle.s3_sheets.specs.declared.progress.Standing.{Standing}
 
--- what is kept of the cards before
+-- the state kept of the cards so far
 pub record Kept : Type 0 where
   pub latest_sheet : ℕ
   pub has_output_line : Bool
@@ -38,7 +38,7 @@ is_misplaced_behind kind latest = is_behind (sheet_of kind) latest
 abbrev pub lacks_its_file : Kept → CardKind → List ℕ → Bool
 lacks_its_file kept kind card = is_output_line kind && are_blank (columns card shared.FILENAME) && not kept.has_output_line
 
--- the record length of the file that a card names
+-- the record length of the file named on a card
 abbrev pub length_named : Kept → List ℕ → Option ℕ
 length_named kept card = record_length_of kept.files (name_of (columns card shared.FILENAME))
 
@@ -50,7 +50,7 @@ is_at_fault_behind kept card =
     let kind : CardKind = kind_of card in
     is_misplaced_behind kind kept.latest_sheet || lacks_its_file kept kind card || has_fault (faults_of card)
 
--- one more element that makes a list longer than it may be
+-- the list grows from its limit to one more element
 abbrev pub passes_limit : ℕ → ℕ → ℕ → Bool
 passes_limit most old new = (old == most) && (new == most + 1)
 
@@ -61,7 +61,7 @@ unfoldable pub fields_with : Kept → List ℕ → List Name
 fields_with kept card =
     kept.fields ++ option_to_list (new_field kept.fields (field_of (kind_of card) (is_at_fault_behind kept card || is_outside_behind kept (kind_of card) card) card))
 
--- what is kept behind one more card
+-- the state after one more card
 unfoldable pub kept_behind : Kept → List ℕ → Kept
 kept_behind kept card =
     let kind : CardKind = kind_of card in
@@ -77,7 +77,7 @@ kept_behind kept card =
       fields = fields_with kept card;
     }
 
--- what it says of the next card, with what that card's own columns show
+-- the facts about the next card, from the state and the card's own columns
 unfoldable pub standing_behind : Kept → List ℕ → Standing
 standing_behind kept card =
     let kind : CardKind = kind_of card in

@@ -1,4 +1,4 @@
--- The rules and the operations of the code, seen without where their texts lie in memory.
+-- The rules and operations of the code as lists, without memory locations.
 use Rattle.std.specs.Prelude.{ℕ, List, map}
 use Rattle.s3_lines.specs.declared.sheet.Operation.{Operation}
 use Rattle.s3_sheets.specs.Rules as spec

@@ -1,4 +1,4 @@
--- Cards and the diagnostics that they get, worked by hand.
+-- Cards and their diagnostics, worked by hand.
 use Rattle.std.specs.Prelude.{◌≡◌, ℕ, pos, negsuc, ◌+◌, ◌-◌, Bool, true, false, Option, Some, None, List, [], ◌∷◌, ◌++◌, length, take, drop, replicate, map, codes}
 use Rattle.s3_cards.specs.declared.ebcdic.TheConstants.{BLANK, MINUS, DIGIT_5}
 use Rattle.s3_cards.specs.Codes.{ebcdic}
@@ -42,7 +42,7 @@ abbrev pub punched : List ℕ → List (ℕ × List ℕ) → List ℕ
 punched card [] = card
 punched card (piece ∷ pieces) = put piece.0 piece.1 (punched card pieces)
 
--- LIST
+-- a Control specification for the program LIST
 abbrev pub header_card : List ℕ
 header_card = punched blank_card ((6, codes "H") ∷ (75, codes "LIST") ∷ [])
 
@@ -66,11 +66,11 @@ indexed_file = punched disk_file ((29, codes "10") ∷ (31, codes "AI") ∷ (38,
 abbrev pub record_card : List ℕ
 record_card = punched blank_card ((6, codes "I") ∷ (7, codes "CARDS") ∷ (15, codes "AA") ∷ (19, codes "01") ∷ [])
 
--- an AND line of the I sheet
+-- an AND line of Input specifications
 abbrev pub and_card : List ℕ
 and_card = punched blank_card ((6, codes "I") ∷ (14, codes "AND") ∷ (24, codes "1") ∷ (26, codes "CA") ∷ [])
 
--- an OR line of the I sheet
+-- an OR line of Input specifications
 abbrev pub or_card : List ℕ
 or_card = punched blank_card ((6, codes "I") ∷ (14, codes "OR") ∷ (19, codes "02") ∷ [])
 
@@ -78,23 +78,23 @@ or_card = punched blank_card ((6, codes "I") ∷ (14, codes "OR") ∷ (19, codes
 abbrev pub field_card : List ℕ
 field_card = punched blank_card ((6, codes "I") ∷ (47, codes "1") ∷ (51, codes "3") ∷ (53, codes "TEXT") ∷ [])
 
--- a C line
+-- a calculation card
 abbrev pub add_card : List ℕ
 add_card = punched blank_card ((6, codes "C") ∷ (18, codes "A") ∷ (28, codes "ADD") ∷ (33, codes "B") ∷ (43, codes "C") ∷ [])
 
--- a line card
+-- an output line card
 abbrev pub line_card : List ℕ
 line_card = punched blank_card ((6, codes "O") ∷ (7, codes "PRINT") ∷ (15, codes "D") ∷ (24, codes "01") ∷ [])
 
--- a field card of the O sheet
+-- an output field card
 abbrev pub put_card : List ℕ
 put_card = punched blank_card ((6, codes "O") ∷ (32, codes "TEXT") ∷ (43, codes "3") ∷ [])
 
--- a field card with a constant
+-- an output field card with a constant
 abbrev pub constant_card : List ℕ
 constant_card = punched blank_card ((6, codes "O") ∷ (43, codes "4") ∷ (45, codes "'HEAD'") ∷ [])
 
--- a card behind others, and the numbers of its diagnostics
+-- a card, the cards before it, and the card's diagnostics
 pub record Row : Type 0 where
   pub before : List (List ℕ)
   pub card : List ℕ
@@ -109,11 +109,11 @@ found row = sheet_diagnostics 0 (row.before ++ row.card ∷ [])
 abbrev pub wanted : Row → List Diagnostic
 wanted row = map (λ number. record { card = length row.before + 1; number = number }) row.numbers
 
--- whether each of these cards gets its numbers, and nothing else
+-- each card gets exactly its numbers
 abbrev pub AreAsWanted : List Row → Type 0
 AreAsWanted rows = map found rows ≡ map wanted rows
 
--- no sheet, or a sheet out of order; comments are passed over
+-- a card of no sheet gets 1, as does a sheet out of order; comments are skipped
 unfoldable pub order_rows : List Row
 order_rows =
     row [] blank_card (1 ∷ [])
@@ -131,7 +131,7 @@ order_rows =
     ∷ row [] (punched header_card ((75, codes "      ") ∷ (10, codes "ANYTHING") ∷ [])) []
     ∷ []
 
--- cards of the F sheet
+-- File Description cards
 unfoldable pub file_rows_1 : List Row
 file_rows_1 =
     row [] card_file []
@@ -161,7 +161,7 @@ file_rows_1 =
     ∷ row [] (punched card_file ((20, codes "9999") ∷ [])) []
     ∷ []
 
--- cards of the F sheet
+-- File Description cards
 unfoldable pub file_rows_2 : List Row
 file_rows_2 =
     row [] (punched card_file ((23, codes "0") ∷ [])) []
@@ -191,7 +191,7 @@ file_rows_2 =
     ∷ row [] (punched indexed_file ((32, codes " ") ∷ [])) (2 ∷ [])
     ∷ []
 
--- cards of the F sheet
+-- File Description cards
 unfoldable pub file_rows_3 : List Row
 file_rows_3 =
     row [] (punched disk_file ((31, codes "A") ∷ [])) []
@@ -219,7 +219,7 @@ file_rows_3 =
     ∷ row [] (punched card_file ((7, codes "1") ∷ (15, codes "X") ∷ (26, codes "97") ∷ [])) (2 ∷ 3 ∷ 4 ∷ [])
     ∷ []
 
--- record lines, behind a card file
+-- record lines after a card file
 unfoldable pub record_rows_1 : List Row
 record_rows_1 =
     row (card_file ∷ []) record_card []
@@ -244,7 +244,7 @@ record_rows_1 =
     ∷ row (card_file ∷ []) (punched record_card ((24, codes "1") ∷ [])) (2 ∷ [])
     ∷ []
 
--- record lines, behind a card file
+-- record lines after a card file
 unfoldable pub record_rows_2 : List Row
 record_rows_2 =
     row (card_file ∷ []) (punched record_card ((24, codes "1") ∷ (25, codes "XCA") ∷ [])) (2 ∷ [])
@@ -268,7 +268,7 @@ record_rows_2 =
     ∷ row (card_file ∷ []) (punched record_card ((7, codes "OTHER") ∷ (21, codes "9999") ∷ (26, codes "CA") ∷ [])) []
     ∷ []
 
--- field lines, behind a file on disk and its record line
+-- field lines after a disk file and its record line
 unfoldable pub field_rows_1 : List Row
 field_rows_1 =
     row (disk_file ∷ (punched record_card ((7, codes "DATA ") ∷ [])) ∷ []) field_card []
@@ -293,7 +293,7 @@ field_rows_1 =
     ∷ row (disk_file ∷ (punched record_card ((7, codes "DATA ") ∷ [])) ∷ []) (punched field_card ((52, codes "4") ∷ [])) (4 ∷ [])
     ∷ []
 
--- field lines, behind a file on disk and its record line
+-- field lines after a disk file and its record line
 unfoldable pub field_rows_2 : List Row
 field_rows_2 =
     row (disk_file ∷ (punched record_card ((7, codes "DATA ") ∷ [])) ∷ []) (punched field_card ((52, codes "X") ∷ [])) (4 ∷ [])
@@ -318,7 +318,7 @@ field_rows_2 =
     ∷ row [] (punched field_card ((49, codes "256") ∷ [])) []
     ∷ []
 
--- cards of the C sheet
+-- calculation cards
 unfoldable pub calculation_rows_1 : List Row
 calculation_rows_1 =
     row [] add_card []
@@ -359,7 +359,7 @@ calculation_rows_1 =
     ∷ row [] (punched add_card ((18, codes "-12.5") ∷ [])) []
     ∷ []
 
--- cards of the C sheet
+-- calculation cards
 unfoldable pub calculation_rows_2 : List Row
 calculation_rows_2 =
     row [] (punched add_card ((18, codes "+.5") ∷ [])) []
@@ -400,7 +400,7 @@ calculation_rows_2 =
     ∷ row [] (punched add_card ((28, codes "CHAIN") ∷ [])) []
     ∷ []
 
--- cards of the C sheet
+-- calculation cards
 unfoldable pub calculation_rows_3 : List Row
 calculation_rows_3 =
     row [] (punched add_card ((28, codes "NONE") ∷ [])) []
@@ -441,7 +441,7 @@ calculation_rows_3 =
     ∷ row [] (punched add_card ((75, codes "ANY") ∷ [])) []
     ∷ []
 
--- line cards, behind a print file and another line card
+-- line cards after a print file and another line card
 unfoldable pub line_rows_1 : List Row
 line_rows_1 =
     row (print_file ∷ line_card ∷ []) line_card []
@@ -464,7 +464,7 @@ line_rows_1 =
     ∷ row (print_file ∷ line_card ∷ []) (punched line_card ((19, codes "0166") ∷ [])) []
     ∷ []
 
--- line cards, behind a print file and another line card
+-- line cards after a print file and another line card
 unfoldable pub line_rows_2 : List Row
 line_rows_2 =
     row (print_file ∷ line_card ∷ []) (punched line_card ((19, codes "00") ∷ [])) (4 ∷ [])
@@ -486,7 +486,7 @@ line_rows_2 =
     ∷ row (print_file ∷ line_card ∷ []) (punched blank_card ((6, codes "O") ∷ (14, codes "AND") ∷ (40, codes "1") ∷ [])) (2 ∷ [])
     ∷ []
 
--- field cards of the O sheet, behind a print file and a line card
+-- output field cards after a print file and a line card
 unfoldable pub put_rows_1 : List Row
 put_rows_1 =
     row (print_file ∷ line_card ∷ []) put_card []
@@ -509,7 +509,7 @@ put_rows_1 =
     ∷ row (print_file ∷ line_card ∷ []) (punched put_card ((38, codes "Z") ∷ [])) []
     ∷ []
 
--- field cards of the O sheet, behind a print file and a line card
+-- output field cards after a print file and a line card
 unfoldable pub put_rows_2 : List Row
 put_rows_2 =
     row (print_file ∷ line_card ∷ []) (punched put_card ((38, codes "5") ∷ [])) (2 ∷ [])
@@ -532,7 +532,7 @@ put_rows_2 =
     ∷ row (print_file ∷ line_card ∷ []) (punched put_card ((45, codes "'A'") ∷ [])) (2 ∷ [])
     ∷ []
 
--- field cards of the O sheet, behind a print file and a line card
+-- output field cards after a print file and a line card
 unfoldable pub put_rows_3 : List Row
 put_rows_3 =
     row (print_file ∷ line_card ∷ []) (punched put_card ((45, codes "'A") ∷ [])) (2 ∷ 3 ∷ [])
@@ -558,9 +558,9 @@ put_rows_3 =
 abbrev pub found_in : List (List ℕ) → List (ℕ × ℕ)
 found_in cards = map (λ (d : Diagnostic). (d.card, d.number)) (sheet_diagnostics 0 cards)
 
--- Positions behind a record line or line card at fault, in a column or in a code, are not measured, nor those of a file at fault; behind
--- an OR line at fault they are. A line card without a name has the file of the line before. A line card put first puts each card of
--- another sheet out of order.
+-- After a record line or line card in error, in a column or in a code, positions aren't checked; nor are positions of a file in error.
+-- After an OR line in error they are checked. A line card without a name has the file of the previous line.
+-- If a line card comes first, each later card of another sheet is out of order.
 unfoldable pub sources : List (List (List ℕ))
 sources =
     (disk_file ∷ punched record_card ((7, codes "DATA ") ∷ (15, codes "01") ∷ []) ∷ punched field_card ((49, codes "101") ∷ []) ∷ [])
@@ -575,18 +575,19 @@ sources =
 abbrev pub pairs_of_sources : List (List (ℕ × ℕ))
 pairs_of_sources = ((2, 2) ∷ []) ∷ ((2, 4) ∷ (6, 4) ∷ []) ∷ ((3, 2) ∷ (4, 4) ∷ []) ∷ ((1, 4) ∷ []) ∷ ((2, 2) ∷ []) ∷ ((4, 4) ∷ []) ∷ ((2, 1) ∷ (3, 1) ∷ (4, 1) ∷ (5, 1) ∷ []) ∷ []
 
--- a file of another name
+-- a card file with another name
 abbrev pub named_file : List ℕ → List ℕ
 named_file name = punched card_file ((7, name) ∷ [])
 
--- twenty files, the first of them twice, and two more
+-- twenty files, the first again, and two more
 unfoldable pub many_files : List (List ℕ)
 many_files =
     map named_file (codes "A    " ∷ codes "B    " ∷ codes "C    " ∷ codes "D    " ∷ codes "E    " ∷ codes "F    " ∷ codes "G    " ∷ codes "H    " ∷ codes "I    "
     ∷ codes "J    " ∷ codes "K    " ∷ codes "L    " ∷ codes "M    " ∷ codes "N    " ∷ codes "O    " ∷ codes "P    " ∷ codes "Q    " ∷ codes "R    " ∷ codes "S    "
     ∷ codes "T    " ∷ codes "A    " ∷ codes "U    " ∷ codes "V    " ∷ [])
 
--- cards that define fields, each name once: field lines, and results with a length and an operation, of cards without a fault
+-- Cards of which some define fields: field lines, and results with a length and an operation.
+-- Cards in error define none, and a repeated name counts once.
 unfoldable pub defining_cards : List (List ℕ)
 defining_cards =
     field_card
@@ -619,7 +620,7 @@ no_indicators = None ∷ None ∷ None ∷ []
 abbrev pub without_spacing : Spacing
 without_spacing = record { space_before = None; space_after = None; skip_before = None; skip_after = None }
 
--- cards of each sheet with every entry
+-- cards of each sheet that fill every entry
 unfoldable pub whole_source : List (List ℕ)
 whole_source =
     header_card

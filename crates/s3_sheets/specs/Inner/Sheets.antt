@@ -1,4 +1,4 @@
--- The diagnostics of one card, and what a reading of cards answers: their lines, or the list of their diagnostics.
+-- The diagnostics of one card, and the result of reading cards: their lines, or their diagnostics.
 use Rattle.std.specs.Prelude.{◌≡◌, ◌≢◌, ℕ, List, [], true, Result, Ok, Err, map, filter, Vec}
 use Rattle.std.specs.declared.alloc.Global.{Global}
 use Rattle.s3_sheets.specs.Lines.{lines_of}
@@ -15,8 +15,8 @@ use Rattle.s3_sheets.specs.Sheets.{card_holds, numbers, sheet_diagnostics}
 abbrev pub card_diagnostics : ℕ → Standing → List Diagnostic
 card_diagnostics number standing = map (λ n. record { card = number; number = n }) (filter (card_holds standing) numbers)
 
--- what a reading of cards answers: the lines of cards without diagnostics, which are those of cards without a fault of their own, with
--- ascending cards; or the diagnostics, unless memory ran out
+-- The result of reading cards. Without diagnostics it is their lines, in range and with ascending card numbers.
+-- Otherwise it is the diagnostics, unless memory runs out.
 abbrev pub Reads : ℕ → List (List ℕ) → Result (Vec Line Global) SheetFault → Type 0
 Reads from cards (Ok lines) =
     (sheet_diagnostics from cards ≡ []) × (lines.items ≡ lines_of from cards) × (are_read lines.items ≡ true) × (cards_ascend from lines.items ≡ true)
