@@ -2,5 +2,4 @@ pub mod CodeLemmas
 pub mod DeckLemmas
 pub mod NameLemmas
 pub mod NumberLemmas
-pub mod LineLemmas
 pub mod Trimming

@@ -1,8 +1,7 @@
 //! Printed lines.
-ghost use Rattle.std.specs.Prelude.{◌≡◌, ◌-◌, ◌<◌, ◌≤◌, ◌++◌, length, take, drop, replicate};
+ghost use Rattle.std.specs.Prelude.{◌≡◌, ◌-◌, ◌<◌, ◌≤◌, length, take, drop, replicate};
 ghost use Rattle.s3_cards.specs.declared.ebcdic.TheConstants.{BLANK};
 
-use crate::ebcdic::BLANK;
 use std::marker::Model;
 
 /// The most print positions of a line.
@@ -44,14 +43,6 @@ impl Model for PrintLine {
     } };
 }
 
-/// Lays a text over the first positions.
-fn lay(positions: &mut [u8], text: &[u8])
-    requires { length text.now ≤ length positions.old }
-    ensures { positions.new ≡ text.now ++ drop (length text.now) positions.old }
-{
-    positions[..text.len()].copy_from_slice(text);
-}
-
 impl PrintLine {
     ghost use Rattle.s3_cards.specs.Printed.{Printed};
 
@@ -68,18 +59,6 @@ impl PrintLine {
             width,
             positions,
         }
-    }
-
-    /// A line of a page with a text of 1 to 132 EBCDIC bytes.
-    #[tactic(auto, using(crate::proofs::LineLemmas::blanks_behind))]
-    pub fn with_text(page: u16, line: u8, text: &[u8]) -> PrintLine
-        requires printed { 0 < length text.now }
-        requires fits { length text.now ≤ 132 }
-        ensures { result ≡ record { page = page; line = line; text = text.now } }
-    {
-        let mut positions = [BLANK; PRINT_POSITIONS];
-        lay(&mut positions, text);
-        PrintLine::new(page, line, text.len() as u8, positions)
     }
 
     /// The number of the page, 0 to 9,999.

@@ -29,8 +29,8 @@ fn many_pages(alloc: Global) -> Result<Vec<PrintLine>, AllocError> {
     let blank = [BLANK; PRINT_POSITIONS];
     let mut lines = Vec::new(alloc);
     for _pair in 0..401 {
-        lines.push(PrintLine::with_text(9_999, 1, &blank))?;
-        lines.push(PrintLine::with_text(9_998, 1, &blank))?;
+        lines.push(PrintLine::new(9_999, 1, 132, blank))?;
+        lines.push(PrintLine::new(9_998, 1, 132, blank))?;
     }
     Ok(lines)
 }

@@ -1,6 +1,7 @@
 //! A line that is queued, and an answer that is tested.
 
-use s3_cards::{LevelId, PrintLine};
+use s3_cards::ebcdic::BLANK;
+use s3_cards::{LevelId, PRINT_POSITIONS, PrintLine};
 use s3_cycle::{Answer, Request, fits};
 use s3_spool::{Spool, SpoolFault};
 use s3_store::{MemoryStore, PackStore};
@@ -23,7 +24,7 @@ fn put(
 fn lines_are_queued(rt: HostRuntime) -> Result<(), Fail> {
     let mut store = MemoryStore::from_bytes(vec![in rt.alloc(); 0u8; 153 * 256]?);
     let mut spool = Spool::new(rt.alloc(), 1, 1)?;
-    let line = PrintLine::with_text(1, 6, b"\xc1");
+    let line = PrintLine::new(1, 6, 1, [BLANK; PRINT_POSITIONS]);
     let first = put(&mut spool, &line, &mut store);
     let second = put(&mut spool, &line, &mut store);
     assert!(rt; matches!(first, Some(Ok(()))));
