@@ -38,6 +38,8 @@ pub struct SetAside {
     place: PathBuf,
     /// How many packs are kept.
     count: usize,
+    /// Whether the removal of the oldest pack isn't reported, if no more than `count` packs were kept before.
+    is_quiet: bool,
 }
 
 /// The name under which a pack is kept, given the file of the pack; 0 is the number of a pack that a save is about to replace.
@@ -60,9 +62,37 @@ pub fn test_keeping<'a>(
     }
     test_names(rt, name, locked.place(), order.keep)?;
     match try_second_name(rt, locked.place()) {
-        Ok(()) => Ok(()),
+        Ok(()) => {}
+        Err(error) => return Err(not_kept(rt, name, &error)),
+    }
+    match numbers(rt, locked.place()) {
+        Ok(numbers) => Ok(report_more(rt, locked.place(), &numbers, order.keep)?),
         Err(error) => Err(not_kept(rt, name, &error)),
     }
+}
+
+/// Reports that more packs are kept than are wanted, before a save removes the oldest ones: they may be somebody's own.
+fn report_more(
+    rt: &HostRuntime,
+    place: Path<'_>,
+    numbers: &[usize],
+    count: usize,
+) -> Result<(), AllocError> {
+    if numbers.len() <= count {
+        return Ok(());
+    }
+    if let Some(last) = numbers.last() {
+        let (first, last) = (
+            kept_name(rt.alloc(), place, 1)?,
+            kept_name(rt.alloc(), place, *last)?,
+        );
+        let (kept, first, last) = (numbers.len(), Shown(first.as_str()), Shown(last.as_str()));
+        let _ = writeln!(
+            rt.stderr(),
+            "{kept} packs are kept as {first} to {last}, and --keep {count} keeps fewer, so the save removes the oldest ones; give --keep {kept}, or move away what must stay"
+        );
+    }
+    Ok(())
 }
 
 /// Refuses a save if something that isn't a pack has a name under which packs are kept.
@@ -125,7 +155,7 @@ impl SetAside {
     ) -> Result<Option<SetAside>, DayFault<'a>> {
         match (order.save, locked) {
             (Some(name), Some(locked)) if order.keep > 0 => {
-                SetAside::of_pack(rt, name, locked, order.keep)
+                SetAside::of_pack(rt, name, locked, order.keep, order.is_quiet)
             }
             _ => Ok(None),
         }
@@ -137,10 +167,12 @@ impl SetAside {
         name: &'a str,
         locked: &LockedPack,
         count: usize,
+        is_quiet: bool,
     ) -> Result<Option<SetAside>, DayFault<'a>> {
         let aside = SetAside {
             place: locked.place().to_path_buf(rt.alloc())?,
             count,
+            is_quiet,
         };
         match aside.set_aside(rt) {
             Ok(true) => Ok(Some(aside)),
@@ -162,7 +194,7 @@ impl SetAside {
             Ok(last) => {
                 // a killed save may have left a pack that takes the free number
                 test_names(rt, name, locked.place(), last.saturating_add(1))?;
-                SetAside::of_pack(rt, name, locked, MOST_KEPT)
+                SetAside::of_pack(rt, name, locked, MOST_KEPT, true)
             }
             Err(error) => Err(not_kept(rt, name, &error)),
         }
@@ -224,32 +256,23 @@ impl SetAside {
 
     /// Moves the packs that are kept to the next number. It returns how many were kept before.
     fn renumber(&self, rt: &HostRuntime) -> io::Result<usize> {
-        let before = self.numbers(rt)?;
+        let before = numbers(rt, self.place.as_path())?;
         self.move_up(rt)?;
         Ok(before.len())
     }
 
     /// Removes the packs that are too many, given how many were kept before the save.
     fn remove_surplus(&self, rt: &HostRuntime, before: usize) -> io::Result<()> {
-        let numbers = self.numbers(rt)?;
+        let numbers = numbers(rt, self.place.as_path())?;
         for number in surplus(&numbers, before, self.count) {
             let kept = kept_name(rt.alloc(), self.place.as_path(), *number)?;
             fs::remove_file(rt, kept.as_str())?;
-        }
-        Ok(())
-    }
-
-    /// The numbers of the packs that are kept, ascending. A file that can't be read counts as something else than a pack.
-    fn numbers(&self, rt: &HostRuntime) -> io::Result<Vec<usize>> {
-        let mut names = Vec::new(rt.alloc());
-        for number in 1..MOST_KEPT + 1 {
-            let kept = kept_name(rt.alloc(), self.place.as_path(), number)?;
-            names.push(at_name(rt, kept.as_str()).unwrap_or(AtName::Other))?;
-            if ends_with_gap(&names) {
-                break;
+            if !self.is_quiet || before > self.count {
+                let (kept, count) = (Shown(kept.as_str()), self.count);
+                let _ = writeln!(rt.stderr(), "{kept} is removed, as --keep {count} asks");
             }
         }
-        Ok(kept_numbers(rt.alloc(), &names)?)
+        Ok(())
     }
 
     /// Takes the second name away, if no new pack has the first one.
@@ -292,6 +315,19 @@ impl SetAside {
             done => done,
         }
     }
+}
+
+/// The numbers of the packs that are kept for a pack, ascending. A file that can't be read counts as something else than a pack.
+fn numbers(rt: &HostRuntime, place: Path<'_>) -> io::Result<Vec<usize>> {
+    let mut names = Vec::new(rt.alloc());
+    for number in 1..MOST_KEPT + 1 {
+        let kept = kept_name(rt.alloc(), place, number)?;
+        names.push(at_name(rt, kept.as_str()).unwrap_or(AtName::Other))?;
+        if ends_with_gap(&names) {
+            break;
+        }
+    }
+    Ok(kept_numbers(rt.alloc(), &names)?)
 }
 
 /// The number that the last pack gets in the moves.
