@@ -218,7 +218,7 @@ fn explain(rt: &HostRuntime, error: &Error, words: &[String]) -> u8
         ErrorKind::DisplayVersion => write_version(rt),
         ErrorKind::DisplayHelp => print_help(rt, error, words),
         ErrorKind::ValueValidation => explain_value(rt, error, words),
-        ErrorKind::UnknownArgument => explain_unknown(rt, error),
+        ErrorKind::UnknownArgument => explain_unknown(rt, error, words),
         _ => error.print(rt),
     };
     if error.use_stderr() {

@@ -433,7 +433,10 @@ fn end_unsaved<'n>(
     end: PackEnd,
 ) -> Result<u8, DayFault<'n>> {
     match order.save {
-        Some(path) => report_unsaved(rt, order, path, reason_of(end)),
+        Some(path) => {
+            report_unsaved(rt, order, path, reason_of(end));
+            report_redo(rt, order, desk, end);
+        }
         None if over.is_reported(order) => desk.tell("nothing is saved: there is no --save\n"),
         None => {}
     }
@@ -443,6 +446,17 @@ fn end_unsaved<'n>(
     let status = status_of(over.closing.verdict, end);
     log_end(rt, order, desk, kept, status, None)?;
     Ok(status)
+}
+
+/// Reports how the replies of an unfinished day can be given again, if it has a log.
+fn report_redo(rt: &HostRuntime, order: &Order<'_>, desk: &OwnDesk<'_>, end: PackEnd) {
+    if let (PackEnd::Unfinished, Some(log), true) = (end, order.log, desk.has_log()) {
+        let log = Shown(log);
+        let _ = writeln!(
+            rt.stderr(),
+            "--redo {log} gives the replies so far again; give --log another name then"
+        );
+    }
 }
 
 /// Why the pack isn't saved: the end of a sentence.
