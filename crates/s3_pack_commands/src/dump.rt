@@ -12,7 +12,7 @@ use s3_data_commands::sentences::{output_sentence, unread_sentence};
 use s3_data_commands::standard_input::{InputFault, read_input};
 use s3_data_commands::words::{LAYOUT_PLAIN, OVERWRITE, PACK, SAVE};
 use s3_dump::{RestoreFault, Unlaid};
-use s3_host_files::{StandardOutput, keep_save_apart, save_new_pack};
+use s3_host_files::{StandardOutput, keep_save_apart, retried, save_new_pack};
 use s3_journal::Work;
 use s3_labels::MountFault;
 use s3_listing::{ListFault, mount_slots};
@@ -22,8 +22,8 @@ use s3_paper_commands::status::{
 use s3_paper_commands::words::{CommandWords, Example, Status, Takes, Word, value_of};
 use s3_refusals::{WideText, beginning_words, begins_as_pack, wide_text};
 use std::alloc::{AllocError, Global};
+use std::io;
 use std::io::{IsTerminal, Write};
-use std::{fs, io};
 
 /// The refusal of a text that is too long.
 const TOO_LONG: &str =
@@ -246,7 +246,7 @@ fn save_damaged(
     pack: &[u8],
 ) -> Result<(), Fault> {
     let words = Words::of_path(save).with_number(line);
-    match fs::exists(rt, save) {
+    match retried::exists(rt, save) {
         Ok(false) => {}
         Ok(true) => return Err(refused(words.fill(rt.alloc(), kept_words(fault)))),
         Err(error) => return Err(of_call(rt, Use::Saves, &error, save)),
