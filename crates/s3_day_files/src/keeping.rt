@@ -16,20 +16,19 @@
 use crate::fault::DayFault;
 use crate::numbering::{AtName, end_of_moves, ends_with_gap, kept_numbers, surplus};
 use crate::order::Order;
-use s3_host_files::{FileFault, LockedPack, is_pack_at, is_saved};
+use s3_host_files::{
+    FileFault, LockedPack, are_same, folder_of, followed, is_pack_at, is_saved, retried,
+    sync_if_kept,
+};
 use s3_refusals::{Reason, Shown};
 use std::alloc::{AllocError, Global};
-use std::fs::{File, Metadata};
+use std::fs::File;
+use std::io;
 use std::io::{ErrorKind, Write};
-use std::os::unix::fs::MetadataExt;
 use std::path::{Path, PathBuf};
-use std::{fs, io};
 
 /// The most packs that are kept.
 pub const MOST_KEPT: usize = 999;
-
-/// How many links are followed one after another.
-const LINK_LIMIT: u32 = 40;
 
 /// A pack that has a second name, by which it is kept after the save.
 #[derive(Drop)]
@@ -142,8 +141,8 @@ fn try_second_name(rt: &HostRuntime, place: Path<'_>) -> io::Result<()> {
     if at_name(rt, spare.as_str())? != AtName::Nothing {
         return Ok(());
     }
-    fs::hard_link(rt, place, spare.as_str())?;
-    fs::remove_file(rt, spare.as_str())
+    retried::hard_link(rt, place, spare.as_str())?;
+    retried::remove_file(rt, spare.as_str())
 }
 
 impl SetAside {
@@ -208,7 +207,7 @@ impl SetAside {
         if at_name(rt, spare.as_str())? == AtName::Pack && !are_one(rt, place, spare.as_str()) {
             self.move_up(rt)?;
         }
-        match fs::hard_link(rt, place, spare.as_str()) {
+        match retried::hard_link(rt, place, spare.as_str()) {
             Ok(()) => {}
             Err(error) if error.kind() == ErrorKind::NotFound => return Ok(false),
             // a killed save has given it this name
@@ -266,7 +265,7 @@ impl SetAside {
         let numbers = numbers(rt, self.place.as_path())?;
         for number in surplus(&numbers, before, self.count) {
             let kept = kept_name(rt.alloc(), self.place.as_path(), *number)?;
-            fs::remove_file(rt, kept.as_str())?;
+            retried::remove_file(rt, kept.as_str())?;
             if !self.is_quiet || before > self.count {
                 let (kept, count) = (Shown(kept.as_str()), self.count);
                 let _ = writeln!(rt.stderr(), "{kept} is removed, as --keep {count} asks");
@@ -281,7 +280,7 @@ impl SetAside {
         if let Ok(spare) = kept_name(rt.alloc(), place, 0)
             && are_one(rt, place, spare.as_str())
         {
-            let _ = fs::remove_file(rt, spare.as_str());
+            let _ = retried::remove_file(rt, spare.as_str());
         }
     }
 
@@ -302,18 +301,15 @@ impl SetAside {
         let to = kept_name(rt.alloc(), place, number.saturating_add(1))?;
         if are_one(rt, Path::new(from.as_str()), to.as_str()) {
             // the system would leave both names
-            return fs::remove_file(rt, from.as_str());
+            return retried::remove_file(rt, from.as_str());
         }
-        fs::rename(rt, from.as_str(), to.as_str())
+        retried::rename(rt, from.as_str(), to.as_str())
     }
 
     /// Brings the names in the folder of the pack to the disk. Some file systems have no call for that.
     fn sync(&self, rt: &HostRuntime) -> io::Result<()> {
         let folder = File::open(rt, folder_of(self.place.as_path()))?;
-        match folder.sync_all() {
-            Err(error) if error.kind() == ErrorKind::InvalidInput => Ok(()),
-            done => done,
-        }
+        sync_if_kept(&folder)
     }
 }
 
@@ -360,20 +356,16 @@ pub fn take_back(rt: &HostRuntime, aside: &Option<SetAside>) {
 }
 
 /// The path of a file, with no link at its end. Packs are kept in its folder.
-pub fn place_of(rt: &HostRuntime, name: &str) -> Result<PathBuf, AllocError> {
-    let mut place = Path::new(name).to_path_buf(rt.alloc())?;
-    for _link in 0..LINK_LIMIT {
-        let Ok(target) = fs::read_link(rt, place.as_path()) else {
-            break;
-        };
-        place = folder_of(place.as_path()).join(rt.alloc(), target.as_path())?;
+pub fn place_of<'a>(rt: &HostRuntime, name: &'a str) -> Result<PathBuf, DayFault<'a>> {
+    match followed(rt, name) {
+        Ok(place) => Ok(place),
+        Err(error) => Err(DayFault::of(&error, name)),
     }
-    Ok(place)
 }
 
 /// What has a name. A link is something else than a pack.
 fn at_name(rt: &HostRuntime, name: &str) -> io::Result<AtName> {
-    match fs::symlink_metadata(rt, name) {
+    match retried::symlink_metadata(rt, name) {
         Ok(found) => Ok(if found.is_file() && is_pack_at(rt, Path::new(name))? {
             AtName::Pack
         } else {
@@ -387,23 +379,11 @@ fn at_name(rt: &HostRuntime, name: &str) -> io::Result<AtName> {
 /// Whether two names are known to be those of one file.
 fn are_one(rt: &HostRuntime, place: Path<'_>, other: &str) -> bool {
     match (
-        fs::symlink_metadata(rt, place),
-        fs::symlink_metadata(rt, other),
+        retried::symlink_metadata(rt, place),
+        retried::symlink_metadata(rt, other),
     ) {
         (Ok(one), Ok(other)) => are_same(&one, &other),
         _ => false,
-    }
-}
-
-fn are_same(one: &Metadata, other: &Metadata) -> bool {
-    one.dev() == other.dev() && one.ino() == other.ino()
-}
-
-/// The folder of a file.
-fn folder_of<'n>(place: Path<'n>) -> Path<'n> {
-    match place.parent() {
-        Some(folder) if !folder.as_str().is_empty() => folder,
-        _ => Path::new("."),
     }
 }
 
