@@ -16,6 +16,7 @@ use Rattle.s3_lines.specs.declared.sheet.InputLine.TheVariants.{Field as FieldOf
 use Rattle.s3_lines.specs.declared.sheet.Line.{Line}
 use Rattle.s3_lines.specs.declared.sheet.Operation.{Operation}
 use Rattle.s3_lines.specs.declared.sheet.Operation.TheVariants as op
+use Rattle.s3_lines.specs.declared.sheet.Shape.{Shape}
 use Rattle.s3_lines.specs.declared.sheet.SheetLine.{SheetLine}
 use Rattle.s3_lines.specs.declared.sheet.SheetLine.TheVariants as sheet
 use Rattle.s3_lines.specs.Inner.Ranges.{are_read, in_range}
@@ -30,7 +31,7 @@ use Rattle.s3_program.specs.FileEntries.{file_entry}
 use Rattle.s3_program.specs.Inner.Given.{all_noted, files_given, firsts}
 use Rattle.s3_program.specs.Rows.{row_of}
 use Rattle.s3_program.specs.Standings.{behind_calculation, first_calculation}
-use Rattle.s3_program.specs.Tables.{or_undefined}
+use Rattle.s3_program.specs.Tables.{found_in, or_undefined}
 use Rattle.s3_program.specs.Undefined.{is_target, is_undefined, is_used}
 use Rattle.s3_program.proofs.GivenLemmas.{first_found, found_in_both, noted_behind}
 use Rattle.s3_program.proofs.LineLemmas.{all_taken}
@@ -39,7 +40,7 @@ use Rattle.s3_diagnose.proofs.Walks.{both_first, both_second}
 use Rattle.s3_diagnose.specs.Lookups.{fields_given, subroutine_given, subroutines_from, tables_given, tag_given, tags_from, with_entry}
 use Rattle.s3_sheets.specs.declared.parts.FaultyEntry.{FaultyEntry}
 use Rattle.s3_blame.specs.declared.known.Known.{Known}
-use Rattle.s3_blame.specs.Inner.Names.{Knows, Names, is_unknown, is_unknown_result, kind_named, names_known, names_of, subroutine_of, subroutine_on, tag_of, tag_on, unknown_by, unknown_in}
+use Rattle.s3_blame.specs.Inner.Names.{Knows, Names, is_known, is_unknown, is_unknown_result, kind_named, names_known, names_of, subroutine_of, subroutine_on, tag_of, tag_on, unknown_by, unknown_in}
 use Rattle.s3_blame.specs.Inner.OwnMarks.{HasAllMarks, is_mark_among}
 
 -- ---- names that are found
@@ -111,9 +112,9 @@ noted_next of given on none some old new lines i d all within more so_far =
     ∙ (ap (all_noted old) (sym parted) ∙ so_far))
 
 -- a name is known where there is something that it means
-is_known : {X : Type 0} (means : X → Meaning) → ((x : X) → is_undefined (means x) ≡ false) → (o : Option X) → is_some o ≡ not (is_undefined (or_undefined means o))
-is_known means some None = refl
-is_known means some (Some x) = ap not (sym (some x))
+has_meaning : {X : Type 0} (means : X → Meaning) → ((x : X) → is_undefined (means x) ≡ false) → (o : Option X) → is_some o ≡ not (is_undefined (or_undefined means o))
+has_meaning means some None = refl
+has_meaning means some (Some x) = ap not (sym (some x))
 
 found_first : {X : Type 0} (table entries : List (Name × X)) → table ≡ firsts entries → (name : Name) → lookup (same_name name) table ≡ lookup (same_name name) entries
 found_first table entries is name = ap (lookup (same_name name)) is ∙ first_found name entries
@@ -218,25 +219,38 @@ subroutines_known name at (line ∷ lines) = step (calculation_line line) (λ ne
         ∙ sym (has_one name here (filter_map subroutine_on lines))))
 
 -- ---- all names
-pub names_shown : (lines : List Line) (known : Known) → Knows lines known → IsTrue (are_read lines) → names_known known ≡ names_of lines
+defined_shown : (lines : List Line) (known : Known) → Knows lines known → IsTrue (are_read lines) → is_known known ≡ (names_of lines).is_defined
 unfolding tables_given
-names_shown lines known knows read = fun_ext (λ k. fun_ext (λ name. by k name))
+defined_shown lines known knows read = fun_ext (λ k. fun_ext (λ name. by k name))
   where
-    by : (k : Kind) (name : Name) → names_known known k name ≡ names_of lines k name
+    by : (k : Kind) (name : Name) → is_known known k name ≡ (names_of lines).is_defined k name
     by kind.File name =
         ap is_some (found_first known.files.entries (files_given lines) knows.files name ∙ ap (lookup (same_name name)) (all_taken file_entry file_line lines))
-        ∙ is_known (λ x. meaning.File x) (λ x. refl) (lookup (same_name name) (map file_entry (filter_map file_line lines)))
+        ∙ has_meaning (λ x. meaning.File x) (λ x. refl) (lookup (same_name name) (map file_entry (filter_map file_line lines)))
     by kind.Field name =
         ap is_some (found_first known.fields.entries (reserved_shapes ++ fields_given lines) (knows.fields read) name)
-        ∙ is_known (λ x. meaning.Field (record { name = name; meaning = x })) (λ x. refl) (lookup (same_name name) (reserved_shapes ++ fields_given lines))
+        ∙ has_meaning (λ x. meaning.Field (record { name = name; meaning = x })) (λ x. refl) (lookup (same_name name) (reserved_shapes ++ fields_given lines))
     by kind.Tag name =
         ap is_some (found_first known.tags.entries (filter_map tag_on lines) knows.tags name)
         ∙ (sym (tags_known name first_calculation lines)
-        ∙ is_known (λ x. meaning.Tag x) (λ x. refl) (lookup (same_name name) (tags_from first_calculation (filter_map calculation_line lines))))
+        ∙ has_meaning (λ x. meaning.Tag x) (λ x. refl) (lookup (same_name name) (tags_from first_calculation (filter_map calculation_line lines))))
     by kind.Subroutine name =
         ap is_some (found_first known.subroutines.entries (filter_map subroutine_on lines) knows.subroutines name)
         ∙ (sym (subroutines_known name first_calculation lines)
-        ∙ is_known (λ x. meaning.Subroutine x) (λ x. refl) (lookup (same_name name) (subroutines_from first_calculation (filter_map calculation_line lines))))
+        ∙ has_meaning (λ x. meaning.Subroutine x) (λ x. refl) (lookup (same_name name) (subroutines_from first_calculation (filter_map calculation_line lines))))
+
+firsts_found : {X : Type 0} (table entries : List (Name × X)) → table ≡ firsts entries → found_in table ≡ found_in entries
+firsts_found table entries is = fun_ext (λ name. found_first table entries is name)
+
+abbrev names_made : (Kind → Name → Bool) → (Name → Option Shape) → (Name → Option ℕ) → (Name → Option ℕ) → Names
+names_made d f t s = record { is_defined = d; field = f; tag = t; subroutine = s }
+
+pub names_shown : (lines : List Line) (known : Known) → Knows lines known → IsTrue (are_read lines) → names_known known ≡ names_of lines
+names_shown lines known knows read =
+    ap (λ (d : Kind → Name → Bool). names_made d (found_in known.fields.entries) (found_in known.tags.entries) (found_in known.subroutines.entries)) (defined_shown lines known knows read)
+    ∙ (ap (λ (f : Name → Option Shape). names_made (names_of lines).is_defined f (found_in known.tags.entries) (found_in known.subroutines.entries)) (firsts_found known.fields.entries (reserved_shapes ++ fields_given lines) (knows.fields read))
+    ∙ (ap (λ (t : Name → Option ℕ). names_made (names_of lines).is_defined (found_in (reserved_shapes ++ fields_given lines)) t (found_in known.subroutines.entries)) (firsts_found known.tags.entries (filter_map tag_on lines) knows.tags)
+    ∙ ap (λ (s : Name → Option ℕ). names_made (names_of lines).is_defined (found_in (reserved_shapes ++ fields_given lines)) (found_in (filter_map tag_on lines)) s) (firsts_found known.subroutines.entries (filter_map subroutine_on lines) knows.subroutines)))
 
 -- ---- the names of a C line, by the row of its operation
 by_row : (names : Names) (operation : Operation) (factor1 factor2 : Option (Factor Name)) (result : Option Name)

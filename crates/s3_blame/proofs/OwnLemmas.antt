@@ -86,10 +86,10 @@ among card number parts wanted entries found spans failing is =
 
 -- ---- the diagnostics of a card
 has_more : (names : Names) (line : Line) (number : ℕ) (old more : List FaultyEntry) → HasMarks names line old number → HasMarks names line (old ++ more) number
-has_more names line number old more is = marked_more line.card number (own_marks names line.sheet number) old more is
+has_more names line number old more is = marked_more line.card number (own_marks names line.card line.sheet number) old more is
 
 has_behind : (names : Names) (line : Line) (number : ℕ) (old more : List FaultyEntry) → HasMarks names line more number → HasMarks names line (old ++ more) number
-has_behind names line number old more is = marked_behind line.card number (own_marks names line.sheet number) old more is
+has_behind names line number old more is = marked_behind line.card number (own_marks names line.card line.sheet number) old more is
 
 -- so many diagnostics have their marks
 pub record MarksSoFar (names : Names) (line : Line) (told : List Diagnostic) (count : ℕ) (marked : List FaultyEntry) : Type 0 where

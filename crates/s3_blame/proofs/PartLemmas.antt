@@ -1,27 +1,18 @@
 -- Entries that are marked are among those of the table.
 use Rattle.std.proofs.Common.{◌≡◌, ℕ, ◌<◌, ◌==◌, List, [], ◌∷◌, ◌++◌, Bool, true, false, refl, sym, ◌∙◌, ap, inl, inr, length, get_or}
-use Rattle.std.specs.Prelude.{◌&&◌, ◌||◌, not, map, filter}
+use Rattle.std.specs.Prelude.{◌&&◌, ◌||◌, map, filter}
 use Rattle.std.specs.List.{list_all, list_any}
-use Rattle.std.proofs.lemmas.Bool.{cases_Bool, eq-eqb, eqb-true, and_parts}
+use Rattle.std.proofs.lemmas.Bool.{cases_Bool, eq-eqb, eqb-true, and_parts, false≢true}
 use Rattle.std.proofs.lemmas.List.Folds.{list_all-append, list_any_at}
-use Rattle.s3_cards.specs.declared.name.Name.{Name}
-use Rattle.s3_lines.specs.declared.sheet.CalculationLine.{CalculationLine}
-use Rattle.s3_lines.specs.declared.sheet.FileLine.{FileLine}
-use Rattle.s3_lines.specs.declared.sheet.InputLine.{InputLine}
-use Rattle.s3_lines.specs.declared.sheet.InputLine.TheVariants as input
 use Rattle.s3_lines.specs.declared.sheet.Line.{Line}
-use Rattle.s3_lines.specs.declared.sheet.OutputLine.{OutputLine}
-use Rattle.s3_lines.specs.declared.sheet.OutputLine.TheVariants as output
-use Rattle.s3_lines.specs.declared.sheet.SheetLine.TheVariants as sheet
-use Rattle.s3_sheets.specs.declared.kind.CardKind.TheVariants as kind
+use Rattle.s3_lines.specs.declared.sheet.SheetLine.{SheetLine}
 use Rattle.s3_sheets.specs.declared.parts.FaultyEntry.{FaultyEntry}
 use Rattle.s3_blame.specs.declared.parts.Part.{Part}
 use Rattle.s3_blame.specs.Inner.Changes.{Entry}
-use Rattle.s3_blame.specs.Inner.Entries.{entries_on, entries_tested, kind_of_input, kind_of_output}
+use Rattle.s3_blame.specs.Inner.Entries.{entries_on}
 use Rattle.s3_blame.specs.Inner.Marks.{span, fails, entry_of, has_columns, is_of, are_of, is_listed_on}
 use Rattle.s3_blame.specs.Inner.Names.{Names}
-use Rattle.s3_blame.specs.Inner.OwnMarks.{are_marks_on, chosen, is_mark_among, is_mark_on, is_named, marks_of_calculation, marks_of_input, marks_of_output, own_marks}
-use Rattle.s3_blame.proofs.TableLemmas.{and_5, field_5, file_5, line_5, line_and_5, line_or_5, or_5, put_5, record_5}
+use Rattle.s3_blame.specs.Inner.OwnMarks.{are_marks_on, chosen, is_mark_among, is_mark_on, is_named, is_open, own_marks}
 
 same : (n : ℕ) → (n == n) ≡ true
 same n = eq-eqb n n refl
@@ -98,77 +89,49 @@ chosen_at marks_of n card number parts wanted entries found is same spans failin
     ∙ ap (λ es. are_of card number es found) (same ∙ sym both)
     ∙ of
 
--- ---- marks for 5
+-- an entry that is marked alone
+pub alone_of_at : (marks_of : ℕ → List Entry) (n card number : ℕ) (parts : List Part) (entry : Entry) (found : List FaultyEntry) → number ≡ n → marks_of n ≡ entry ∷ [] → map span parts ≡ entry ∷ [] → map fails parts ≡ true ∷ []
+    → are_of card number (chosen (map fails parts) (map span parts)) found ≡ true → are_of card number (marks_of number) found ≡ true
+unfolding chosen
+alone_of_at marks_of n card number parts entry found is same spans failing of =
+    chosen_at marks_of n card number parts (true ∷ []) (entry ∷ []) found is same spans failing of
+
+-- nothing is said of this number
+pub unless_open : (P : Type 0) (other : ℕ → Bool) (n number : ℕ) → number ≡ n → other n ≡ true → other number ≡ false → P
+unless_open P other n number is said not_said = absurd (false≢true (sym not_said ∙ (ap other is ∙ said)))
+
+-- ---- entries that have to be marked
 -- an entry of a number of a line's card
 named_one : (names : Names) (line : Line) (number : ℕ) (e : FaultyEntry) → is_of line.card number (entries_on line.sheet number) e ≡ true
-    → (number ≡ 5 → is_of line.card number (own_marks names line.sheet number) e ≡ true) → is_named names line e ≡ true
-named_one names line number e of own = elim (cases_Bool (e.number == 5)) [
-  | inl five ↦
+    → (is_open line.sheet number ≡ false → is_of line.card number (own_marks names line.card line.sheet number) e ≡ true) → is_named names line e ≡ true
+named_one names line number e of own = elim (cases_Bool (is_open line.sheet e.number)) [
+  | inl said ↦ ap (λ b. b || list_any (has_columns e) (own_marks names line.card line.sheet e.number)) said
+  | inr shut ↦
       let n : e.number ≡ number = eqb-true e.number number (and_left (e.number == number) (list_any (has_columns e) (entries_on line.sheet number))
       (and_right (e.card == line.card) ((e.number == number) && list_any (has_columns e) (entries_on line.sheet number)) of)) in
-      let is : number ≡ 5 = sym n ∙ eqb-true e.number 5 five in
-      let own_of = own is in
-      let columns : list_any (has_columns e) (own_marks names line.sheet number) ≡ true = and_right (e.number == number) (list_any (has_columns e) (own_marks names line.sheet number))
-      (and_right (e.card == line.card) ((e.number == number) && list_any (has_columns e) (own_marks names line.sheet number)) own_of) in
-      let there : list_any (has_columns e) (own_marks names line.sheet 5) ≡ true = ap (λ m. list_any (has_columns e) (own_marks names line.sheet m)) (sym is) ∙ columns in
-      rw there (or_true (not (e.number == 5)))
-  | inr other ↦ rw other refl
+      let own_of = own (ap (is_open line.sheet) (sym n) ∙ shut) in
+      let columns : list_any (has_columns e) (own_marks names line.card line.sheet number) ≡ true = and_right (e.number == number) (list_any (has_columns e) (own_marks names line.card line.sheet number))
+      (and_right (e.card == line.card) ((e.number == number) && list_any (has_columns e) (own_marks names line.card line.sheet number)) own_of) in
+      let there : list_any (has_columns e) (own_marks names line.card line.sheet e.number) ≡ true = ap (λ m. list_any (has_columns e) (own_marks names line.card line.sheet m)) n ∙ columns in
+      ap (λ b. is_open line.sheet e.number || b) there ∙ or_true (is_open line.sheet e.number)
 ]
 
-named_all : (names : Names) (line : Line) (number : ℕ) (marked : List FaultyEntry) → are_of line.card number (entries_on line.sheet number) marked ≡ true
-    → (number ≡ 5 → are_of line.card number (own_marks names line.sheet number) marked ≡ true) → list_all (is_named names line) marked ≡ true
+pub named_all : (names : Names) (line : Line) (number : ℕ) (marked : List FaultyEntry) → are_of line.card number (entries_on line.sheet number) marked ≡ true
+    → (is_open line.sheet number ≡ false → are_of line.card number (own_marks names line.card line.sheet number) marked ≡ true) → list_all (is_named names line) marked ≡ true
 named_all names line number [] of own = refl
 named_all names line number (e ∷ marked) of own =
     rw (named_one names line number e (and_left (is_of line.card number (entries_on line.sheet number) e) (are_of line.card number (entries_on line.sheet number) marked) of)
-    (λ is. and_left (is_of line.card number (own_marks names line.sheet number) e) (are_of line.card number (own_marks names line.sheet number) marked) (own is)))
+    (λ is. and_left (is_of line.card number (own_marks names line.card line.sheet number) e) (are_of line.card number (own_marks names line.card line.sheet number) marked) (own is)))
     (named_all names line number marked (and_right (is_of line.card number (entries_on line.sheet number) e) (are_of line.card number (entries_on line.sheet number) marked) of)
-    (λ is. and_right (is_of line.card number (own_marks names line.sheet number) e) (are_of line.card number (own_marks names line.sheet number) marked) (own is)))
+    (λ is. and_right (is_of line.card number (own_marks names line.card line.sheet number) e) (are_of line.card number (own_marks names line.card line.sheet number) marked) (own is)))
 
--- on a C card
-pub named_calculation : (names : Names) (line : Line) (calculation : CalculationLine Name) (number : ℕ) (marked : List FaultyEntry) → line.sheet ≡ sheet.Calculation calculation
-    → are_of line.card number (entries_tested kind.Calculation number) marked ≡ true
-    → (number ≡ 5 → are_of line.card number (marks_of_calculation names calculation number) marked ≡ true) → list_all (is_named names line) marked ≡ true
-named_calculation names line calculation number marked is of own =
+-- .. on a card of some kind
+pub named_on : (names : Names) (line : Line) (s : SheetLine) (number : ℕ) (marked : List FaultyEntry) → line.sheet ≡ s
+    → are_of line.card number (entries_on s number) marked ≡ true
+    → (is_open s number ≡ false → are_of line.card number (own_marks names line.card s number) marked ≡ true) → list_all (is_named names line) marked ≡ true
+named_on names line s number marked is of own =
     named_all names line number marked (ap (λ s. are_of line.card number (entries_on s number) marked) is ∙ of)
-    (λ five. ap (λ s. are_of line.card number (own_marks names s number) marked) is ∙ own five)
-
--- on others all that the table has for 5 is marked
-by_table : (names : Names) (line : Line) (number : ℕ) (marked : List FaultyEntry) → own_marks names line.sheet 5 ≡ entries_on line.sheet 5
-    → are_of line.card number (entries_on line.sheet number) marked ≡ true → list_all (is_named names line) marked ≡ true
-by_table names line number marked same of =
-    named_all names line number marked of
-    (λ five. ap (λ m. are_of line.card number (own_marks names line.sheet m) marked) five ∙ ap (λ es. are_of line.card number es marked) same
-    ∙ ap (λ m. are_of line.card number (entries_on line.sheet m) marked) (sym five) ∙ of)
-
-pub named_file : (names : Names) (line : Line) (file : FileLine) (number : ℕ) (marked : List FaultyEntry) → line.sheet ≡ sheet.File file
-    → are_of line.card number (entries_tested kind.File number) marked ≡ true → list_all (is_named names line) marked ≡ true
-named_file names line file number marked is of =
-    by_table names line number marked (ap (λ s. own_marks names s 5) is ∙ (sym file_5 ∙ ap (λ s. entries_on s 5) (sym is)))
-    (ap (λ s. are_of line.card number (entries_on s number) marked) is ∙ of)
-
-same_input : (input : InputLine Name) → marks_of_input input 5 ≡ entries_tested (kind_of_input input) 5
-same_input (input.Record file indicator codes) = sym record_5
-same_input (input.And codes) = sym and_5
-same_input (input.Or indicator codes) = sym or_5
-same_input (input.Field field) = sym field_5
-
-pub named_input : (names : Names) (line : Line) (input : InputLine Name) (number : ℕ) (marked : List FaultyEntry) → line.sheet ≡ sheet.Input input
-    → are_of line.card number (entries_tested (kind_of_input input) number) marked ≡ true → list_all (is_named names line) marked ≡ true
-named_input names line input number marked is of =
-    by_table names line number marked (ap (λ s. own_marks names s 5) is ∙ (same_input input ∙ ap (λ s. entries_on s 5) (sym is)))
-    (ap (λ s. are_of line.card number (entries_on s number) marked) is ∙ of)
-
-same_output : (output : OutputLine Name) → marks_of_output output 5 ≡ entries_tested (kind_of_output output) 5
-same_output (output.Line card) = sym line_5
-same_output (output.And conditions) = sym line_and_5
-same_output (output.Or conditions) = sym line_or_5
-same_output (output.Field field) = sym put_5
-
-pub named_output : (names : Names) (line : Line) (output : OutputLine Name) (number : ℕ) (marked : List FaultyEntry) → line.sheet ≡ sheet.Output output
-    → are_of line.card number (entries_tested (kind_of_output output) number) marked ≡ true → list_all (is_named names line) marked ≡ true
-named_output names line output number marked is of =
-    by_table names line number marked (ap (λ s. own_marks names s 5) is ∙ (same_output output ∙ ap (λ s. entries_on s 5) (sym is)))
-    (ap (λ s. are_of line.card number (entries_on s number) marked) is ∙ of)
+    (λ shut. ap (λ s. are_of line.card number (own_marks names line.card s number) marked) is ∙ own (ap (λ s. is_open s number) (sym is) ∙ shut))
 
 -- ---- marks of lines
 -- those of a number of a line's card

@@ -1,16 +1,18 @@
 //! C cards: 5 to 10.
 
-ghost use Rattle.std.specs.Prelude.{◌≡◌, ◌&&◌, true, map, IfOk};
+ghost use Rattle.std.specs.Prelude.{◌≡◌, ◌&&◌, ◌||◌, false, true, map, IfOk};
 ghost use Rattle.s3_program.specs.Indications.{is_overflow_entry};
 ghost use Rattle.s3_program.specs.Places.{is_late as is_late_spec};
+ghost use Rattle.s3_program.specs.Redefined.{is_elsewhere as is_elsewhere_spec};
+ghost use Rattle.s3_program.specs.Rows.{row_of as row_of_spec};
 ghost use Rattle.s3_program.specs.Undefined.{is_target, is_used};
 ghost use Rattle.s3_sheets.specs.declared.kind.CardKind.TheVariants as kind;
 ghost use Rattle.s3_blame.specs.Inner.Entries.{entries_tested};
 ghost use Rattle.s3_blame.specs.Inner.Marks.{fails, span, are_of};
-ghost use Rattle.s3_blame.specs.Inner.Names.{is_unknown as is_unknown_spec, is_unknown_result as is_unknown_result_spec, kind_named, names_known, unknown_in};
-ghost use Rattle.s3_blame.specs.Inner.OwnMarks.{are_marked, marks_of_calculation};
+ghost use Rattle.s3_blame.specs.Inner.Names.{changes_date as changes_date_spec, is_second as is_second_spec, is_unknown as is_unknown_spec, is_unknown_result as is_unknown_result_spec, kind_named, names_known, redefined_in, unknown_in};
+ghost use Rattle.s3_blame.specs.Inner.OwnMarks.{are_marked, is_open_on_calculation, marks_of_calculation};
 
-use crate::known::{Known, differences, is_date};
+use crate::known::{Known, is_date};
 use crate::parts::{Part, at_fault, entry, entry_alone};
 use crate::walk::Walk;
 use s3_cards::Name;
@@ -34,8 +36,8 @@ pub fn calculation_entries(
     number: u8,
 ) -> Result<Vec<FaultyEntry>, AllocError>
     ensures of { IfOk result (λ found. are_of card number (entries_tested kind.Calculation number) found.items ≡ true) }
-    ensures own { IfOk result (λ found. are_marked card number (marks_of_calculation (names_known known.now) line.now number) found.items ≡ true) }
-    ensures named { IfOk result (λ found. number ≡ 5 → are_of card number (marks_of_calculation (names_known known.now) line.now number) found.items ≡ true) }
+    ensures own { IfOk result (λ found. are_marked card number (marks_of_calculation (names_known known.now) card line.now number) found.items ≡ true) }
+    ensures named { IfOk result (λ found. is_open_on_calculation number ≡ false → are_of card number (marks_of_calculation (names_known known.now) card line.now number) found.items ≡ true) }
 {
     match number {
         5 => at_fault(alloc, card, number, &undefined_parts(known, line)),
@@ -111,16 +113,26 @@ fn undefined_parts(known: &Known, line: &CalculationLine) -> [Part; 3]
     ]
 }
 
+/// Whether a first definition is on another card.
+fn is_elsewhere(card: u16, first: Option<u16>) -> bool
+    ensures { result ≡ is_elsewhere_spec card first }
+{
+    match first {
+        Some(first) => first != card,
+        None => false,
+    }
+}
+
 /// Whether a TAG or a BEGSR has a name that another card before it has.
-fn is_second(known: &Known, card: u16, line: &CalculationLine) -> bool {
+fn is_second(known: &Known, card: u16, line: &CalculationLine) -> bool
+    ensures { result ≡ is_second_spec (names_known known.now) card line.now }
+{
     let Some(Factor::Named(name)) = line.factor1 else {
         return false;
     };
     match line.operation {
-        Some(Operation::Tag) => known.tag(name).is_some_and(|first| first != card),
-        Some(Operation::BeginSubroutine) => {
-            known.subroutine(name).is_some_and(|first| first != card)
-        }
+        Some(Operation::Tag) => is_elsewhere(card, known.tag(name)),
+        Some(Operation::BeginSubroutine) => is_elsewhere(card, known.subroutine(name)),
         _ => false,
     }
 }
@@ -129,35 +141,46 @@ fn is_second(known: &Known, card: u16, line: &CalculationLine) -> bool {
 /// the decimals that differ; a date field that would be changed.
 #[tactic(auto, using(crate::proofs::TableLemmas::calculation_6))]
 fn redefined_parts(known: &Known, card: u16, line: &CalculationLine) -> [Part; 4]
-    ensures { map span result ≡ entries_tested kind.Calculation 6 }
+    ensures spans { map span result ≡ entries_tested kind.Calculation 6 }
+    ensures fails { map fails result ≡ redefined_in (names_known known.now) card line.now }
 {
-    let (is_length, are_decimals) = redefined(known, line);
+    let (is_length, are_decimals) = known.result_redefined(line);
     [
         entry(18, 27, is_second(known, card, line)),
-        entry(43, 48, is_length || are_decimals || changes_date(line)),
+        entry(43, 48, is_wrong_result(is_length, are_decimals, line)),
         entry(49, 51, is_length),
         entry(52, 52, are_decimals),
     ]
 }
 
-/// Whether the length of a result, and whether its decimals, differ from its definition.
-fn redefined(known: &Known, line: &CalculationLine) -> (bool, bool) {
-    let (Some(_), Some(name), Some(shape)) = (line.operation, line.result, line.definition) else {
-        return (false, false);
-    };
-    match known.field(name) {
-        Some(first) if !is_date(name) => differences(first, shape),
-        _ => (false, false),
-    }
+/// Whether a result is defined otherwise, or is a date field that would be changed.
+fn is_wrong_result(is_length: bool, are_decimals: bool, line: &CalculationLine) -> bool
+    ensures { result ≡ (is_length || are_decimals || changes_date_spec line.now) }
+{
+    is_length || are_decimals || changes_date(line)
+}
+
+fn is_changed(target: Target) -> bool
+    ensures { result ≡ is_target target }
+{
+    !matches!(target, Target::Nothing)
+}
+
+/// Whether an operation changes its result.
+fn has_target(operation: Operation) -> bool
+    ensures { result ≡ is_target (row_of_spec operation).result }
+{
+    is_changed(row_of(operation).result)
 }
 
 /// Whether a date field would be defined, or changed.
-fn changes_date(line: &CalculationLine) -> bool {
+fn changes_date(line: &CalculationLine) -> bool
+    ensures { result ≡ changes_date_spec line.now }
+{
     let (Some(operation), Some(name)) = (line.operation, line.result) else {
         return false;
     };
-    let is_target = !matches!(row_of(operation).result, Target::Nothing);
-    is_date(name) && (line.definition.is_some() || is_target)
+    is_date(name) && (line.definition.is_some() || has_target(operation))
 }
 
 fn is_overflow(indicator: Option<Indicator>) -> bool

@@ -48,6 +48,7 @@ pub fn file_entries(
 ) -> Result<Vec<FaultyEntry>, AllocError>
     ensures of { IfOk result (λ found. are_of card number (entries_tested kind.File number) found.items ≡ true) }
     ensures own { IfOk result (λ found. are_marked card number (marks_of_file file.now number) found.items ≡ true) }
+    ensures named { IfOk result (λ found. are_of card number (marks_of_file file.now number) found.items ≡ true) }
 {
     match number {
         6 => at_fault(alloc, card, number, &name_part()),

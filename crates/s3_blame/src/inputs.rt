@@ -1,13 +1,15 @@
 //! I cards: 5 to 9, 11 and 12.
 
-ghost use Rattle.std.specs.Prelude.{◌≡◌, true, map, IfOk};
+ghost use Rattle.std.specs.Prelude.{◌≡◌, false, true, map, IfOk};
 ghost use Rattle.s3_program.specs.Indications.{is_text_form};
+ghost use Rattle.s3_lines.specs.declared.sheet.SheetLine.TheVariants as sheet;
 ghost use Rattle.s3_sheets.specs.declared.kind.CardKind.TheVariants as kind;
 ghost use Rattle.s3_blame.specs.Inner.Entries.{entries_tested, kind_of_input};
-ghost use Rattle.s3_blame.specs.Inner.Marks.{span, are_of};
-ghost use Rattle.s3_blame.specs.Inner.OwnMarks.{are_marked, marks_of_field, marks_of_input, marks_of_or, marks_of_record, marks_of_word};
+ghost use Rattle.s3_blame.specs.Inner.Marks.{fails, span, are_of};
+ghost use Rattle.s3_blame.specs.Inner.Names.{names_known, redefined_field};
+ghost use Rattle.s3_blame.specs.Inner.OwnMarks.{are_marked, is_open, is_open_on_field, marks_of_field, marks_of_input, marks_of_or, marks_of_record, marks_of_word};
 
-use crate::known::{Known, differences, is_date, shape_of_field};
+use crate::known::{Known, shape_of_field};
 use crate::parts::{Part, at_fault, entry, entry_alone};
 use crate::walk::{Key, Walk};
 use s3_diagnose::shapes::same_kind_and_length;
@@ -26,7 +28,8 @@ pub fn input_entries(
     number: u8,
 ) -> Result<Vec<FaultyEntry>, AllocError>
     ensures of { IfOk result (λ found. are_of card number (entries_tested (kind_of_input line.now) number) found.items ≡ true) }
-    ensures own { IfOk result (λ found. are_marked card number (marks_of_input line.now number) found.items ≡ true) }
+    ensures own { IfOk result (λ found. are_marked card number (marks_of_input (names_known known.now) line.now number) found.items ≡ true) }
+    ensures named { IfOk result (λ found. is_open (sheet.Input line.now) number ≡ false → are_of card number (marks_of_input (names_known known.now) line.now number) found.items ≡ true) }
 {
     match line {
         InputLine::Field(field) => field_entries(alloc, known, walk, card, field, number),
@@ -41,6 +44,7 @@ pub fn input_entries(
 fn record_entries(alloc: Global, card: u16, number: u8) -> Result<Vec<FaultyEntry>, AllocError>
     ensures of { IfOk result (λ found. are_of card number (entries_tested kind.Record number) found.items ≡ true) }
     ensures own { IfOk result (λ found. are_marked card number (marks_of_record number) found.items ≡ true) }
+    ensures named { IfOk result (λ found. are_of card number (marks_of_record number) found.items ≡ true) }
 {
     match number {
         5 => at_fault(alloc, card, number, &entry_alone(7, 14)),
@@ -55,6 +59,7 @@ fn record_entries(alloc: Global, card: u16, number: u8) -> Result<Vec<FaultyEntr
 fn or_entries(alloc: Global, card: u16, number: u8) -> Result<Vec<FaultyEntry>, AllocError>
     ensures of { IfOk result (λ found. are_of card number (entries_tested kind.RecordOr number) found.items ≡ true) }
     ensures own { IfOk result (λ found. are_marked card number (marks_of_or number) found.items ≡ true) }
+    ensures named { IfOk result (λ found. are_of card number (marks_of_or number) found.items ≡ true) }
 {
     match number {
         9 => at_fault(alloc, card, number, &entry_alone(14, 16)),
@@ -68,6 +73,7 @@ fn or_entries(alloc: Global, card: u16, number: u8) -> Result<Vec<FaultyEntry>, 
 fn and_entries(alloc: Global, card: u16, number: u8) -> Result<Vec<FaultyEntry>, AllocError>
     ensures of { IfOk result (λ found. are_of card number (entries_tested kind.RecordAnd number) found.items ≡ true) }
     ensures own { IfOk result (λ found. are_marked card number (marks_of_word number) found.items ≡ true) }
+    ensures named { IfOk result (λ found. are_of card number (marks_of_word number) found.items ≡ true) }
 {
     match number {
         9 => at_fault(alloc, card, number, &entry_alone(14, 16)),
@@ -86,7 +92,8 @@ fn field_entries(
     number: u8,
 ) -> Result<Vec<FaultyEntry>, AllocError>
     ensures of { IfOk result (λ found. are_of card number (entries_tested kind.Field number) found.items ≡ true) }
-    ensures own { IfOk result (λ found. are_marked card number (marks_of_field number) found.items ≡ true) }
+    ensures own { IfOk result (λ found. are_marked card number (marks_of_field (names_known known.now) field.now number) found.items ≡ true) }
+    ensures named { IfOk result (λ found. is_open_on_field number ≡ false → are_of card number (marks_of_field (names_known known.now) field.now number) found.items ≡ true) }
 {
     match number {
         6 => at_fault(alloc, card, number, &shape_parts(known, field)),
@@ -103,22 +110,15 @@ fn field_entries(
 /// P, or decimals.
 #[tactic(auto, using(crate::proofs::TableLemmas::field_6))]
 fn shape_parts(known: &Known, field: &FieldLine) -> [Part; 3]
-    ensures { map span result ≡ entries_tested kind.Field 6 }
+    ensures spans { map span result ≡ entries_tested kind.Field 6 }
+    ensures fails { map fails result ≡ redefined_field (names_known known.now) field.now }
 {
-    let (are_positions, are_decimals) = redefined(known, field);
+    let (are_positions, are_decimals) = known.field_redefined(field);
     [
         entry(44, 51, are_positions),
         entry(52, 52, are_decimals),
         entry(53, 58, true),
     ]
-}
-
-/// Whether the positions of a field, and whether its decimals, differ from its definition. For a date field both are false.
-fn redefined(known: &Known, field: &FieldLine) -> (bool, bool) {
-    match known.field(field.name) {
-        Some(first) if !is_date(field.name) => differences(first, shape_of_field(field)),
-        _ => (false, false),
-    }
 }
 
 fn is_text(form: FieldForm) -> bool

@@ -9,14 +9,15 @@ ghost use Rattle.s3_lines.specs.Inner.Ranges.{are_read, in_range};
 ghost use Rattle.s3_diagnose.specs.Inner.Ranged.{is_ranged_field};
 ghost use Rattle.s3_diagnose.specs.Lookups.{fields_given, input_given, result_given};
 ghost use Rattle.s3_compile.specs.Inner.Noted.{field_on, result_on};
-ghost use Rattle.s3_blame.specs.Inner.Names.{subroutine_on, tag_on};
+ghost use Rattle.s3_blame.specs.Inner.Names.{decimals_differ, decimals_of as decimals_of_spec, differ as differ_spec, length_differs, length_of as length_of_spec, subroutine_on, tag_on};
 
 use indexmap::IndexMap;
 use s3_cards::Name;
 use s3_lines::is_reserved;
 use s3_lines::reserved::{PAGE, UDATE, UDAY, UMONTH, UYEAR};
 use s3_lines::sheet::{
-    Factor, FieldForm, FieldLine, FileLine, InputLine, Line, Operation, Shape, SheetLine,
+    CalculationLine, Factor, FieldForm, FieldLine, FileLine, InputLine, Line, Operation, Shape,
+    SheetLine,
 };
 use s3_program::defining::{files_defined, note};
 use s3_program::program::Kind;
@@ -48,22 +49,75 @@ pub fn shape_of_field(field: &FieldLine) -> Shape
     }
 }
 
-/// Whether the length, and whether the decimals, of a shape are otherwise than those of the first one. A text has no decimals.
-pub fn differences(first: Shape, shape: Shape) -> (bool, bool) {
-    match (first, shape) {
-        (Shape::Numeric(digits, decimals), Shape::Numeric(other, others)) => {
-            (digits != other, decimals != others)
-        }
-        (Shape::Alphanumeric(length), Shape::Alphanumeric(other)) => (length != other, false),
-        (Shape::Numeric(digits, _), Shape::Alphanumeric(length)) => (
-            u16::from(digits) != length,
-            true,
-        ),
-        (Shape::Alphanumeric(length), Shape::Numeric(digits, _)) => (
-            u16::from(digits) != length,
-            true,
-        ),
+/// The length of a shape: digits, or characters.
+fn length_of(shape: Shape) -> usize
+    ensures { result ≡ length_of_spec shape }
+{
+    match shape {
+        Shape::Numeric(digits, _) => usize::from(digits),
+        Shape::Alphanumeric(length) => usize::from(length),
     }
+}
+
+/// The decimals of a number; a text has none.
+fn decimals_of(shape: Shape) -> Option<u8>
+    ensures { result ≡ decimals_of_spec shape }
+{
+    match shape {
+        Shape::Numeric(_, decimals) => Some(decimals),
+        Shape::Alphanumeric(_) => None,
+    }
+}
+
+fn differ(one: Option<u8>, other: Option<u8>) -> bool
+    ensures { result ≡ differ_spec one other }
+{
+    match (one, other) {
+        (None, None) => false,
+        (Some(one), Some(other)) => one != other,
+        _ => true,
+    }
+}
+
+/// Whether the length, and whether the decimals, of a shape are otherwise than those of the first one. A text has no decimals.
+fn differences(first: Shape, shape: Shape) -> (bool, bool)
+    ensures { result ≡ (length_differs first shape, decimals_differ first shape) }
+{
+    (
+        length_of(first) != length_of(shape),
+        differ(decimals_of(first), decimals_of(shape)),
+    )
+}
+
+/// The length of a field of a record.
+fn field_length(field: &FieldLine) -> usize
+    ensures { result ≡ length_of_spec (shape_of_field_spec field.now) }
+{
+    let positions = (usize::from(field.to) + 1).saturating_sub(usize::from(field.from));
+    match field.form {
+        FieldForm::Alphanumeric | FieldForm::PackedText | FieldForm::Zoned(_) => positions,
+        FieldForm::Packed(_) => (2 * positions).saturating_sub(1),
+    }
+}
+
+/// The decimals of a field of a record; a text has none.
+fn field_decimals(field: &FieldLine) -> Option<u8>
+    ensures { result ≡ decimals_of_spec (shape_of_field_spec field.now) }
+{
+    match field.form {
+        FieldForm::Alphanumeric | FieldForm::PackedText => None,
+        FieldForm::Zoned(decimals) | FieldForm::Packed(decimals) => Some(decimals),
+    }
+}
+
+/// Whether the length, and whether the decimals, of a field of a record are otherwise than those of the first shape.
+fn field_differences(first: Shape, field: &FieldLine) -> (bool, bool)
+    ensures { result ≡ (length_differs first (shape_of_field_spec field.now), decimals_differ first (shape_of_field_spec field.now)) }
+{
+    (
+        length_of(first) != field_length(field),
+        differ(decimals_of(first), field_decimals(field)),
+    )
 }
 
 /// Whether a name is UDATE, UMONTH, UDAY or UYEAR.
@@ -209,8 +263,10 @@ fn fields_defined(alloc: Global, lines: &[Line]) -> Result<IndexMap<Name, Shape>
 
 impl Known {
     ghost use Rattle.std.specs.Prelude.{◌≡◌, IfOk, OnOk};
+    ghost use Rattle.std.specs.Prelude.{None, Some};
     ghost use Rattle.s3_program.specs.Tables.{found_in};
-    ghost use Rattle.s3_blame.specs.Inner.Names.{Knows, names_known};
+    ghost use Rattle.s3_diagnose.specs.Lookups.{result_given};
+    ghost use Rattle.s3_blame.specs.Inner.Names.{Knows, is_known, is_otherwise, names_known};
 
     /// What some lines define. It is refused only if memory runs out.
     pub fn of(alloc: Global, lines: &[Line]) -> Result<Known, AllocError>
@@ -239,7 +295,7 @@ impl Known {
 
     /// Whether a name is defined as the name of a file, a field, a tag or a subroutine.
     pub(crate) fn defines(&self, kind: Kind, name: Name) -> bool
-        ensures { result ≡ names_known self.now kind name }
+        ensures { result ≡ is_known self.now kind name }
     {
         match kind {
             Kind::File => self.files.contains_key(&name),
@@ -261,6 +317,38 @@ impl Known {
         ensures { result ≡ found_in self.now.fields.entries name }
     {
         self.fields.get(&name).copied()
+    }
+
+    /// Whether the length, and whether the decimals, of a field of a record differ from its first definition. For a date field both are
+    /// false.
+    pub(crate) fn field_redefined(&self, field: &FieldLine) -> (bool, bool)
+        ensures { result ≡ (is_otherwise length_differs (names_known self.now) (Some (field.now.name, shape_of_field_spec field.now)), is_otherwise decimals_differ (names_known self.now) (Some (field.now.name, shape_of_field_spec field.now))) }
+    {
+        if is_date(field.name) {
+            return (false, false);
+        }
+        match self.field(field.name) {
+            Some(first) => field_differences(first, field),
+            None => (false, false),
+        }
+    }
+
+    /// Whether the length, and whether the decimals, of the result that a line defines differ from its first definition. For a date field
+    /// both are false.
+    pub(crate) fn result_redefined(&self, line: &CalculationLine) -> (bool, bool)
+        ensures { result ≡ (is_otherwise length_differs (names_known self.now) (result_given line.now), is_otherwise decimals_differ (names_known self.now) (result_given line.now)) }
+    {
+        let (Some(_), Some(name), Some(shape)) = (line.operation, line.result, line.definition)
+        else {
+            return (false, false);
+        };
+        if is_date(name) {
+            return (false, false);
+        }
+        match self.field(name) {
+            Some(first) => differences(first, shape),
+            None => (false, false),
+        }
     }
 
     /// The card of the first TAG of a name.

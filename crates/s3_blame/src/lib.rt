@@ -5,10 +5,11 @@
 //! `compile`. For a diagnostic of a single card, `entries_of` is proved to give the entries of `faulty_entries` of `s3_sheets`,
 //! and `columns_of` their columns. For 5 to 12, each marked entry is proved to be one that the number's condition tests on cards
 //! of that kind (`AreTested`): two sources that differ only in this entry of one card have and don't have the number, as in
-//! `specs/Inner/Entries.antt`. An entry is proved to be marked if its own card decides that, as each overflow indicator for 7
-//! (`specs/Inner/OwnMarks.antt`). For 5, exactly the names are proved to be marked that their card uses and that the lines of the
-//! source don't define (`unknown_in` of `specs/Inner/Names.antt`). `Known` is proved to have the first definition of each name.
-//! Only tested: which entries are marked for 6, 8, 9, 11 and 12 if other cards decide it, and for 7 of a field.
+//! `specs/Inner/Entries.antt`. The entries that have to be marked are defined by their card and by what the lines of the source define
+//! (`own_marks` of `specs/Inner/OwnMarks.antt`): for 5 the names without a definition, for 6 what is defined a second time or otherwise,
+//! for 8 the form that a field can't have. Each of them is proved to be marked, and no other entry, but for five numbers on some kinds of
+//! cards (`is_open`). `Known` is proved to have the first definition of each name. Only tested: which entries are marked for 7
+//! and 11 on a field card, 8 and 9 on a C card, and 12 on a line card.
 
 #![tactic(auto)]
 

@@ -1,10 +1,12 @@
 //! O cards: 5, 8, 9 and 12.
 
-ghost use Rattle.std.specs.Prelude.{◌≡◌, true, map, IfOk};
+ghost use Rattle.std.specs.Prelude.{◌≡◌, false, true, map, IfOk};
+ghost use Rattle.s3_lines.specs.declared.sheet.SheetLine.TheVariants as sheet;
 ghost use Rattle.s3_sheets.specs.declared.kind.CardKind.TheVariants as kind;
 ghost use Rattle.s3_blame.specs.Inner.Entries.{entries_tested, kind_of_output};
-ghost use Rattle.s3_blame.specs.Inner.Marks.{span, are_of};
-ghost use Rattle.s3_blame.specs.Inner.OwnMarks.{are_marked, marks_of_output, marks_of_output_field, marks_of_output_line, marks_of_word};
+ghost use Rattle.s3_blame.specs.Inner.Marks.{fails, span, are_of};
+ghost use Rattle.s3_blame.specs.Inner.Names.{can_edit, names_known, unfit_content, unfit_form, unfit_in};
+ghost use Rattle.s3_blame.specs.Inner.OwnMarks.{are_marked, is_open, is_open_on_output, marks_of_output, marks_of_output_field, marks_of_output_line, marks_of_word};
 
 use crate::known::Known;
 use crate::parts::{Part, at_fault, entry, entry_alone};
@@ -25,7 +27,8 @@ pub fn output_entries(
     number: u8,
 ) -> Result<Vec<FaultyEntry>, AllocError>
     ensures of { IfOk result (λ found. are_of card number (entries_tested (kind_of_output line.now) number) found.items ≡ true) }
-    ensures own { IfOk result (λ found. are_marked card number (marks_of_output line.now number) found.items ≡ true) }
+    ensures own { IfOk result (λ found. are_marked card number (marks_of_output (names_known known.now) line.now number) found.items ≡ true) }
+    ensures named { IfOk result (λ found. is_open (sheet.Output line.now) number ≡ false → are_of card number (marks_of_output (names_known known.now) line.now number) found.items ≡ true) }
 {
     match line {
         OutputLine::Line(first) => line_entries(alloc, known, walk, card, first, number),
@@ -41,6 +44,7 @@ fn word_entries(alloc: Global, card: u16, number: u8) -> Result<Vec<FaultyEntry>
     ensures and { IfOk result (λ found. are_of card number (entries_tested kind.OutputAnd number) found.items ≡ true) }
     ensures or { IfOk result (λ found. are_of card number (entries_tested kind.OutputOr number) found.items ≡ true) }
     ensures own { IfOk result (λ found. are_marked card number (marks_of_word number) found.items ≡ true) }
+    ensures named { IfOk result (λ found. are_of card number (marks_of_word number) found.items ≡ true) }
 {
     match number {
         9 => at_fault(alloc, card, number, &entry_alone(14, 16)),
@@ -61,6 +65,7 @@ fn line_entries(
 ) -> Result<Vec<FaultyEntry>, AllocError>
     ensures of { IfOk result (λ found. are_of card number (entries_tested kind.OutputLine number) found.items ≡ true) }
     ensures own { IfOk result (λ found. are_marked card number (marks_of_output_line number) found.items ≡ true) }
+    ensures named { IfOk result (λ found. is_open_on_output number ≡ false → are_of card number (marks_of_output_line number) found.items ≡ true) }
 {
     match number {
         5 => at_fault(alloc, card, number, &entry_alone(7, 14)),
@@ -99,7 +104,9 @@ fn disallowed_parts(known: &Known, walk: &Walk, line: &OutputCard) -> [Part; 6]
 }
 
 /// Whether an edit code can be used for a shape at all.
-fn may_edit(code: EditCode, shape: Shape) -> bool {
+fn may_edit(code: EditCode, shape: Shape) -> bool
+    ensures { result ≡ can_edit code shape }
+{
     match shape {
         Shape::Alphanumeric(_) => false,
         Shape::Numeric(digits, decimals) => match code {
@@ -119,7 +126,8 @@ fn field_entries(
     number: u8,
 ) -> Result<Vec<FaultyEntry>, AllocError>
     ensures of { IfOk result (λ found. are_of card number (entries_tested kind.OutputField number) found.items ≡ true) }
-    ensures own { IfOk result (λ found. are_marked card number (marks_of_output_field number) found.items ≡ true) }
+    ensures own { IfOk result (λ found. are_marked card number (marks_of_output_field (names_known known.now) field.now number) found.items ≡ true) }
+    ensures named { IfOk result (λ found. are_of card number (marks_of_output_field (names_known known.now) field.now number) found.items ≡ true) }
 {
     match number {
         5 => at_fault(alloc, card, number, &entry_alone(32, 37)),
@@ -133,12 +141,10 @@ fn field_entries(
 /// The entries of diagnostic 8: an edit code or P that can't be used for the field, else its end position with the edit code.
 #[tactic(auto, using(crate::proofs::TableLemmas::put_8))]
 fn editing_parts(known: &Known, field: &OutputField) -> [Part; 3]
-    ensures { map span result ≡ entries_tested kind.OutputField 8 }
+    ensures spans { map span result ≡ entries_tested kind.OutputField 8 }
+    ensures fails { map fails result ≡ unfit_in (names_known known.now) field.now }
 {
-    let (is_code, is_end, is_packed) = match &field.content {
-        OutputContent::Constant(_) => (false, false, false),
-        OutputContent::Field(put) => wrong_editing(put.form, known.field(put.name)),
-    };
+    let [is_code, is_end, is_packed] = wrong_content(known, &field.content);
     [
         entry(38, 38, is_code),
         entry(40, 43, is_end),
@@ -146,20 +152,30 @@ fn editing_parts(known: &Known, field: &OutputField) -> [Part; 3]
     ]
 }
 
+/// Whether the edit code, the end position, or P of what is put out is to blame.
+fn wrong_content(known: &Known, content: &OutputContent) -> [bool; 3]
+    ensures { result ≡ unfit_content (names_known known.now) content.now }
+{
+    match content {
+        OutputContent::Constant(_) => [false, false, false],
+        OutputContent::Field(put) => wrong_editing(put.form, known.field(put.name)),
+    }
+}
+
 /// Whether the edit code, the end position, or P of a field of this shape is to blame.
-fn wrong_editing(form: OutputForm, shape: Option<Shape>) -> (bool, bool, bool) {
+fn wrong_editing(form: OutputForm, shape: Option<Shape>) -> [bool; 3]
+    ensures { result ≡ unfit_form form shape }
+{
     let Some(shape) = shape else {
-        return (false, false, false);
+        return [false, false, false];
     };
-    match form {
-        OutputForm::Plain => (false, true, false),
-        OutputForm::Packed => {
-            let is_text = matches!(shape, Shape::Alphanumeric(_));
-            (false, !is_text, is_text)
-        }
-        OutputForm::Edited(code) => {
+    match (form, shape) {
+        (OutputForm::Plain, _) => [false, true, false],
+        (OutputForm::Packed, Shape::Alphanumeric(_)) => [false, false, true],
+        (OutputForm::Packed, Shape::Numeric(..)) => [false, true, false],
+        (OutputForm::Edited(code), shape) => {
             let may_edit = may_edit(code, shape);
-            (!may_edit, may_edit, false)
+            [!may_edit, may_edit, false]
         }
     }
 }

@@ -1,12 +1,14 @@
--- Entries that are marked for what their own cards say, and by 5 for what the lines of the source define.
-use Rattle.std.specs.Prelude.{◌≡◌, ◌≢◌, ◌<◌, ◌++◌, ◌||◌, ◌&&◌, ◌==◌, not, ℕ, Bool, true, List, [], ◌∷◌, length, map, drop, get_or, if◌then◌else◌}
+-- Entries that are marked for what their own cards say, or what the lines of the source define.
+use Rattle.std.specs.Prelude.{◌≡◌, ◌≢◌, ◌<◌, ◌++◌, ◌||◌, ◌&&◌, ◌==◌, not, ℕ, Bool, false, true, List, [], ◌∷◌, length, map, drop, get_or, if◌then◌else◌}
 use Rattle.std.specs.List.{list_all, list_any}
 use Rattle.s3_lines.specs.declared.diagnostic.Diagnostic.{Diagnostic}
 use Rattle.s3_lines.specs.declared.sheet.CalculationLine.{CalculationLine}
+use Rattle.s3_lines.specs.declared.sheet.FieldLine.{FieldLine}
 use Rattle.s3_lines.specs.declared.sheet.FileLine.{FileLine}
 use Rattle.s3_lines.specs.declared.sheet.InputLine.{InputLine}
 use Rattle.s3_lines.specs.declared.sheet.InputLine.TheVariants as input
 use Rattle.s3_lines.specs.declared.sheet.Line.{Line}
+use Rattle.s3_lines.specs.declared.sheet.OutputField.{OutputField}
 use Rattle.s3_lines.specs.declared.sheet.OutputLine.{OutputLine}
 use Rattle.s3_lines.specs.declared.sheet.OutputLine.TheVariants as output
 use Rattle.s3_lines.specs.declared.sheet.SheetLine.{SheetLine}
@@ -17,7 +19,7 @@ use Rattle.s3_program.specs.Indications.{is_overflow_entry}
 use Rattle.s3_sheets.specs.declared.parts.FaultyEntry.{FaultyEntry}
 use Rattle.s3_blame.specs.Inner.Changes.{Entry}
 use Rattle.s3_blame.specs.Inner.Marks.{has_columns, is_listed_on}
-use Rattle.s3_blame.specs.Inner.Names.{Names, unknown_in}
+use Rattle.s3_blame.specs.Inner.Names.{Names, redefined_field, redefined_in, unfit_in, unknown_in}
 
 -- ---- what is marked
 -- those entries at whose places the list has true
@@ -51,15 +53,24 @@ marks_of_word number = if number == 9 then (14, 16) ∷ [] else []
 abbrev pub marks_of_or : (number : ℕ) → List Entry
 marks_of_or number = if number == 9 then (14, 16) ∷ [] else if number == 11 then (19, 20) ∷ [] else []
 
--- 8 and 12: P of a field. 9: the file that is missing before it
-abbrev pub marks_of_field : (number : ℕ) → List Entry
-marks_of_field number = if number == 8 then (43, 43) ∷ [] else if number == 9 then (7, 14) ∷ [] else if number == 12 then (43, 43) ∷ [] else []
+-- the positions of a field, its decimals and its name
+abbrev pub definition_of_field : List Entry
+definition_of_field = (44, 51) ∷ (52, 52) ∷ (53, 58) ∷ []
 
-abbrev pub marks_of_input : InputLine Name → (number : ℕ) → List Entry
-marks_of_input (input.Record file indicator codes) number = marks_of_record number
-marks_of_input (input.And codes) number = marks_of_word number
-marks_of_input (input.Or indicator codes) number = marks_of_or number
-marks_of_input (input.Field field) number = marks_of_field number
+-- 6: the name, and what differs. 8 and 12: P of a field. 9: the file that is missing before it
+abbrev pub marks_of_field : Names → FieldLine Name → (number : ℕ) → List Entry
+marks_of_field names field number =
+    if number == 6 then chosen (redefined_field names field) definition_of_field else if number == 8 then (43, 43) ∷ [] else if number == 9 then (7, 14) ∷ [] else if number == 12 then (43, 43) ∷ [] else []
+
+-- 7: a relation that isn't of the group. 11: levels that disagree with those of other fields
+abbrev pub is_open_on_field : (number : ℕ) → Bool
+is_open_on_field number = (number == 7) || (number == 11)
+
+abbrev pub marks_of_input : Names → InputLine Name → (number : ℕ) → List Entry
+marks_of_input names (input.Record file indicator codes) number = marks_of_record number
+marks_of_input names (input.And codes) number = marks_of_word number
+marks_of_input names (input.Or indicator codes) number = marks_of_or number
+marks_of_input names (input.Field field) number = marks_of_field names field number
 
 -- the three resulting indicators
 abbrev pub resulting : List Entry
@@ -69,32 +80,56 @@ resulting = (54, 55) ∷ (56, 57) ∷ (58, 59) ∷ []
 abbrev pub operands : List Entry
 operands = (18, 27) ∷ (33, 42) ∷ (43, 48) ∷ []
 
--- 5: each name that isn't defined. 7: each overflow indicator. 10: factor 2
-abbrev pub marks_of_calculation : Names → CalculationLine Name → (number : ℕ) → List Entry
-marks_of_calculation names line number =
+-- factor 1, and the result with its length and its decimals
+abbrev pub definitions : List Entry
+definitions = (18, 27) ∷ (43, 48) ∷ (49, 51) ∷ (52, 52) ∷ []
+
+-- 5: each name that isn't defined. 6: what is defined a second time, or otherwise. 7: each overflow indicator. 10: factor 2
+abbrev pub marks_of_calculation : Names → (card : ℕ) → CalculationLine Name → (number : ℕ) → List Entry
+marks_of_calculation names card line number =
     if number == 5 then chosen (unknown_in names line) operands
-    else if number == 7 then chosen (map is_overflow_entry line.indicators) resulting else if number == 10 then (33, 42) ∷ [] else []
+    else if number == 6 then chosen (redefined_in names card line) definitions
+    else if number == 7 then chosen (map is_overflow_entry line.indicators) resulting
+    else if number == 10 then (33, 42) ∷ []
+    else []
+
+-- 8: what doesn't fit its operation. 9: what is out of its place
+abbrev pub is_open_on_calculation : (number : ℕ) → Bool
+is_open_on_calculation number = (number == 8) || (number == 9)
 
 -- 5: the name of a line's file
 abbrev pub marks_of_output_line : (number : ℕ) → List Entry
 marks_of_output_line number = if number == 5 then (7, 14) ∷ [] else []
 
--- 5: the name of a field. 9: the file that is missing before it. 12: P
-abbrev pub marks_of_output_field : (number : ℕ) → List Entry
-marks_of_output_field number = if number == 5 then (32, 37) ∷ [] else if number == 9 then (7, 14) ∷ [] else if number == 12 then (44, 44) ∷ [] else []
+-- 12: what the line's file can't have
+abbrev pub is_open_on_output : (number : ℕ) → Bool
+is_open_on_output number = number == 12
 
-abbrev pub marks_of_output : OutputLine Name → (number : ℕ) → List Entry
-marks_of_output (output.Line card) number = marks_of_output_line number
-marks_of_output (output.And conditions) number = marks_of_word number
-marks_of_output (output.Or conditions) number = marks_of_word number
-marks_of_output (output.Field field) number = marks_of_output_field number
+-- an edit code, the end position, P
+abbrev pub editing : List Entry
+editing = (38, 38) ∷ (40, 43) ∷ (44, 44) ∷ []
 
-abbrev pub own_marks : Names → SheetLine → (number : ℕ) → List Entry
-own_marks names (sheet.Header name) number = []
-own_marks names (sheet.File file) number = marks_of_file file number
-own_marks names (sheet.Input line) number = marks_of_input line number
-own_marks names (sheet.Calculation line) number = marks_of_calculation names line number
-own_marks names (sheet.Output line) number = marks_of_output line number
+-- 5: the name of a field. 8: an edit code or P that it can't have, else its end position. 9: the file that is missing before it. 12: P
+abbrev pub marks_of_output_field : Names → OutputField Name → (number : ℕ) → List Entry
+marks_of_output_field names field number =
+    if number == 5 then (32, 37) ∷ []
+    else if number == 8 then chosen (unfit_in names field) editing
+    else if number == 9 then (7, 14) ∷ []
+    else if number == 12 then (44, 44) ∷ []
+    else []
+
+abbrev pub marks_of_output : Names → OutputLine Name → (number : ℕ) → List Entry
+marks_of_output names (output.Line card) number = marks_of_output_line number
+marks_of_output names (output.And conditions) number = marks_of_word number
+marks_of_output names (output.Or conditions) number = marks_of_word number
+marks_of_output names (output.Field field) number = marks_of_output_field names field number
+
+abbrev pub own_marks : Names → (card : ℕ) → SheetLine → (number : ℕ) → List Entry
+own_marks names card (sheet.Header name) number = []
+own_marks names card (sheet.File file) number = marks_of_file file number
+own_marks names card (sheet.Input line) number = marks_of_input names line number
+own_marks names card (sheet.Calculation line) number = marks_of_calculation names card line number
+own_marks names card (sheet.Output line) number = marks_of_output names line number
 
 -- ---- marks
 -- an entry is marked for a number of a card
@@ -111,18 +146,25 @@ are_marked card number entries marked = list_all (is_marked card number marked) 
 
 -- for a number of a line's card each entry is marked that has to be
 abbrev pub HasMarks : Names → Line → List FaultyEntry → (number : ℕ) → Type 0
-HasMarks names line marked number = are_marked line.card number (own_marks names line.sheet number) marked ≡ true
+HasMarks names line marked number = are_marked line.card number (own_marks names line.card line.sheet number) marked ≡ true
 
 -- .. for each diagnostic of these that is of the card
 abbrev pub HasAllMarks : Names → List Diagnostic → List FaultyEntry → Line → Type 0
 HasAllMarks names told marked line = (k : ℕ) (d : Diagnostic) → k < length told → (get_or told k d).card ≡ line.card → HasMarks names line marked (get_or told k d).number
 
 -- ---- which marks there are
--- an entry that is marked for 5 is one of the names that 5 marks on the line's card
-abbrev pub is_named : Names → Line → FaultyEntry → Bool
-is_named names line entry = not (entry.number == 5) || list_any (has_columns entry) (own_marks names line.sheet 5)
+-- the numbers of which nothing is said: other cards decide their entries
+abbrev pub is_open : SheetLine → (number : ℕ) → Bool
+is_open (sheet.Input (input.Field field)) number = is_open_on_field number
+is_open (sheet.Calculation line) number = is_open_on_calculation number
+is_open (sheet.Output (output.Line card)) number = is_open_on_output number
+is_open line number = false
 
--- an entry is one of the table's for its number on a line's card, and for 5 one of these names
+-- an entry that is marked is one of those that have to be, unless its number is one of these
+abbrev pub is_named : Names → Line → FaultyEntry → Bool
+is_named names line entry = is_open line.sheet entry.number || list_any (has_columns entry) (own_marks names line.card line.sheet entry.number)
+
+-- an entry is one of the table's for its number on a line's card, and one that has to be marked, unless the number is one of these
 abbrev pub is_mark_on : Names → FaultyEntry → Line → Bool
 is_mark_on names entry line = is_listed_on entry line && is_named names line entry
 

@@ -2,6 +2,7 @@ use Rattle.std.proofs.Common.{refl}
 use Rattle.std.proofs.lemmas.Result.{IfOk-weaker}
 use Rattle.s3_blame.specs.Inner.OwnMarks.{marks_of_or}
 use Rattle.s3_blame.proofs.OwnLemmas.{alone_at}
+use Rattle.s3_blame.proofs.PartLemmas.{alone_of_at}
 use Rattle.s3_blame.proofs.inputs.or_entries.Goals as goal
 
 pub returns-in-9-clause-own : goal.returns-in-9-clause-own
@@ -13,3 +14,13 @@ pub returns-in-11-clause-own : goal.returns-in-11-clause-own
 returns-in-11-clause-own c = IfOk-weaker c.at_fault-in-11.result _ _
     (λ found is. alone_at marks_of_or 11 c.args.card c.args.number _ (19, 20) found.items c.in-11.is refl c.entry_alone-in-11.ensures.spans c.entry_alone-in-11.ensures.fails is)
     c.at_fault-in-11.ensures.marked
+
+pub returns-in-9-clause-named : goal.returns-in-9-clause-named
+returns-in-9-clause-named c = IfOk-weaker c.at_fault.result _ _
+    (λ found is. alone_of_at marks_of_or 9 c.args.card c.args.number _ (14, 16) found.items c.in-9.is refl c.entry_alone.ensures.spans c.entry_alone.ensures.fails is)
+    c.at_fault.ensures.only
+
+pub returns-in-11-clause-named : goal.returns-in-11-clause-named
+returns-in-11-clause-named c = IfOk-weaker c.at_fault-in-11.result _ _
+    (λ found is. alone_of_at marks_of_or 11 c.args.card c.args.number _ (19, 20) found.items c.in-11.is refl c.entry_alone-in-11.ensures.spans c.entry_alone-in-11.ensures.fails is)
+    c.at_fault-in-11.ensures.only
