@@ -38,7 +38,7 @@ fn are_same(one: Span, two: Span) -> bool {
     one.from == two.from && one.to == two.to
 }
 
-/// The entry of a card that has these columns, or else one that they are a part of. None for columns that must be blank.
+/// The entry of a card that has these columns, or else the first one that they are a part of. None for columns that must be blank.
 fn entry_of(card: &Card, columns: Span) -> Option<&'static Entry> {
     let mut found = None;
     for form in forms_of(card) {
@@ -46,7 +46,7 @@ fn entry_of(card: &Card, columns: Span) -> Option<&'static Entry> {
             if is_at(entry, columns) {
                 return Some(entry);
             }
-            if has(entry, columns) {
+            if found.is_none() && has(entry, columns) {
                 found = Some(entry);
             }
         }
