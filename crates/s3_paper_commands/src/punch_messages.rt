@@ -4,8 +4,8 @@ use s3_punch::{Part, PunchFault, PunchReason, Punched};
 use s3_refusals::{Shown, is_shown};
 use std::alloc::AllocError;
 
-/// What is missing before a source that stands in no job, if its tabs make a card too wide: among statements a tab doesn't go to the columns
-/// of a sheet. None for any other text.
+/// What is missing before a source that is in no job, if its tabs make a card too wide: among statements a tab doesn't go to the
+/// columns of a sheet. None for any other text.
 pub fn missing_statements(punched: &Punched) -> Option<&'static str> {
     let is_bare = matches!(punched.part, Part::Statements) && !punched.text.starts_with(b"/");
     if is_bare && is_wide_by_tabs(punched) {
