@@ -2,18 +2,16 @@
 ghost use Rattle.std.specs.Prelude.{◌≤◌};
 
 use crate::deck::read_deck_file;
+use crate::encodings::{ForeignText, foreign_text};
 use crate::fault::CommandFault;
 use crate::messages::Report;
 use crate::punch_check::check_files;
-use crate::punch_messages::{push_messages, unprintable};
+use crate::punch_messages::{missing_statements, push_messages, unprintable};
 use crate::status::{DONE, FILE_WRONG, OPTIONS_WRONG, PERSON_NEEDED, REFUSED};
 use crate::words::{Choice, CommandWords, Example, Status, Takes, Word};
 use clap::ArgMatches;
 use s3_host_files::{StandardOutput, shown_name};
-use s3_punch::{
-    Begun, CARD_BYTES, CardByte, LineChange, PunchFault, Punched, is_ebcdic_deck, punch,
-    text_of_cards,
-};
+use s3_punch::{Begun, CARD_BYTES, CardByte, LineChange, Punched, punch, text_of_cards};
 use s3_refusals::{Shown, wide_text};
 use std::alloc::{AllocError, Global};
 use std::io::Write;
@@ -162,11 +160,7 @@ fn stacked<'a>(rt: &HostRuntime, matches: &ArgMatches<'a>) -> Result<WholeDeck, 
             text_of_ebcdic(rt, shown_name(name), &bytes, &mut stacked.is_faulty)?
         };
         let punched = punch(alloc, &text, &begun)?;
-        if is_plain && !punched.faults.is_empty() && is_ebcdic_deck(&text) {
-            tell_ebcdic(rt, shown_name(name));
-        } else {
-            tell_faults(rt, shown_name(name), &punched.faults);
-        }
+        tell_wrong(rt, shown_name(name), is_plain, &text, &punched);
         if matches.get_flag("report") {
             tell_changes(rt, shown_name(name), &punched.changes);
         }
@@ -176,9 +170,26 @@ fn stacked<'a>(rt: &HostRuntime, matches: &ArgMatches<'a>) -> Result<WholeDeck, 
     Ok(stacked)
 }
 
-/// The plain text of a file. It reports a text in UTF-16 or UTF-32, notes that it is in error, and gives none of it.
+/// Reports the errors of a file, or for a plain text that is none by its codes what it is.
+fn tell_wrong(rt: &HostRuntime, file: &str, is_plain: bool, text: &[u8], punched: &Punched) {
+    if punched.faults.is_empty() {
+        return;
+    }
+    match foreign_text(text) {
+        Some(foreign) if is_plain => tell_foreign(rt, file, foreign),
+        _ => tell_faults(rt, file, punched),
+    }
+}
+
+/// The plain text of a file. It reports a text in UTF-16 or UTF-32, and one whose lines end in carriage returns alone, notes that it is in
+/// error, and gives none of it.
 fn plain_text(rt: &HostRuntime, file: &str, bytes: Vec<u8>, is_faulty: &mut bool) -> Vec<u8> {
     let Some(wide) = wide_text(&bytes) else {
+        if foreign_text(&bytes) == Some(ForeignText::CarriageReturns) {
+            *is_faulty = true;
+            tell_foreign(rt, file, ForeignText::CarriageReturns);
+            return Vec::new(rt.alloc());
+        }
         return bytes;
     };
     *is_faulty = true;
@@ -190,13 +201,10 @@ fn plain_text(rt: &HostRuntime, file: &str, bytes: Vec<u8>, is_faulty: &mut bool
     Vec::new(rt.alloc())
 }
 
-/// Reports cards in EBCDIC in place of a plain text.
-fn tell_ebcdic(rt: &HostRuntime, file: &str) {
-    let file = Shown(file);
-    let _ = writeln!(
-        rt.stderr(),
-        "{file}: the file has cards of 80 columns in EBCDIC; give --from ebcdic80."
-    );
+/// Reports what a file is in place of a plain text.
+fn tell_foreign(rt: &HostRuntime, file: &str, foreign: ForeignText) {
+    let (file, words) = (Shown(file), foreign.words_of_punch());
+    let _ = writeln!(rt.stderr(), "{file}: the file {words}.");
 }
 
 /// The text of the cards of a file in EBCDIC. It reports the errors of the file, and notes that it is in error.
@@ -224,9 +232,14 @@ fn tell_length(rt: &HostRuntime, file: &str, length: usize) {
     let file = Shown(file);
     let cards = length / CARD_BYTES;
     let rest = length % CARD_BYTES;
+    let length_words = if length == 1 { "byte is" } else { "bytes are" };
+    let (cards_word, rest_word) = (
+        if cards == 1 { "card" } else { "cards" },
+        if rest == 1 { "byte" } else { "bytes" },
+    );
     let _ = writeln!(
         rt.stderr(),
-        "{file}: {length} bytes are {cards} cards of 80 columns and {rest} bytes more; give a deck of whole cards, without line ends."
+        "{file}: {length} {length_words} {cards} {cards_word} of 80 columns and {rest} {rest_word} more; give a deck of whole cards, without line ends."
     );
 }
 
@@ -285,8 +298,8 @@ impl Counted {
 }
 
 /// Reports all errors of a file.
-fn tell_faults(rt: &HostRuntime, file: &str, faults: &[PunchFault]) {
-    for fault in faults {
+fn tell_faults(rt: &HostRuntime, file: &str, punched: &Punched) {
+    for fault in &punched.faults {
         let line = fault.line;
         let column = fault.column;
         let reason = fault.reason;
@@ -302,6 +315,10 @@ fn tell_faults(rt: &HostRuntime, file: &str, faults: &[PunchFault]) {
             ),
         };
     }
+    if let Some(words) = missing_statements(punched) {
+        let file = Shown(file);
+        let _ = writeln!(rt.stderr(), "{file}, line 1: {words}.");
+    }
 }
 
 /// Reports the errors of a file that was punched; in sentences also how many of its lines were changed and left out, if it has no error.
@@ -316,7 +333,7 @@ pub fn report_punched(
         Report::Sentences => Ok(tell_punched(rt, file, punched)),
         Report::Messages => {
             let mut text = String::new(rt.alloc());
-            push_messages(&mut text, file, &punched.faults)?;
+            push_messages(&mut text, file, punched)?;
             let _ = rt.stderr().write_all(text.as_bytes());
             Ok(!punched.faults.is_empty())
         }
@@ -369,7 +386,7 @@ pub fn tell_punched(rt: &HostRuntime, file: &str, punched: &Punched) -> bool {
 pub fn tell_errors(rt: &HostRuntime, file: &str, punched: &Punched) -> bool {
     let is_faulty = !punched.faults.is_empty();
     if is_faulty {
-        tell_faults(rt, file, &punched.faults);
+        tell_faults(rt, file, punched);
     }
     is_faulty
 }

@@ -2,12 +2,13 @@
 ghost use Rattle.std.specs.Prelude.{◌≤◌, IfOk};
 
 use crate::deck::read_deck_file;
+use crate::encodings::{ForeignText, foreign_text};
 use crate::fault::CommandFault;
 use crate::punch_messages::push_messages;
 use crate::status::{DONE, PERSON_NEEDED};
 use clap::ArgMatches;
 use s3_host_files::{StandardOutput, shown_name};
-use s3_punch::{Begun, CARD_BYTES, CardByte, is_ebcdic_deck, punch, text_of_cards};
+use s3_punch::{Begun, CARD_BYTES, CardByte, Punched, punch, text_of_cards};
 use s3_refusals::{Shown, wide_text};
 use std::alloc::{AllocError, Global};
 use std::io::Write;
@@ -67,17 +68,31 @@ fn check_file(
         text_of_ebcdic(alloc, messages, file, &bytes)?
     };
     let punched = punch(alloc, &text, &begun)?;
-    if is_plain && !punched.faults.is_empty() && is_ebcdic_deck(&text) {
-        push_error(
-            messages,
-            file,
-            1,
-            "the file has cards of 80 columns in EBCDIC; give --from ebcdic80",
-        )?;
-    } else {
-        push_messages(messages, file, &punched.faults)?;
-    }
+    push_wrong(messages, file, is_plain, &text, &punched)?;
     Ok(punched.behind(begun))
+}
+
+/// Appends the messages of a file that is punched, or for a plain text that is none by its codes what it is.
+fn push_wrong(
+    messages: &mut String,
+    file: &str,
+    is_plain: bool,
+    text: &[u8],
+    punched: &Punched,
+) -> Result<(), AllocError> {
+    if punched.faults.is_empty() {
+        return Ok(());
+    }
+    match foreign_text(text) {
+        Some(foreign) if is_plain => push_foreign(messages, file, foreign),
+        _ => push_messages(messages, file, punched),
+    }
+}
+
+/// Appends what a file is in place of a plain text.
+fn push_foreign(messages: &mut String, file: &str, foreign: ForeignText) -> Result<(), AllocError> {
+    let (file, words) = (Shown(file), foreign.words_of_punch());
+    writeln!(messages, "{file}:1:1: error: the file {words}")
 }
 
 /// Appends an error at the first column of a line.
@@ -91,7 +106,7 @@ fn push_error(
     writeln!(messages, "{file}:{line}:1: error: {error}")
 }
 
-/// The plain text of a file. One in UTF-16 or UTF-32 is an error, and gives none.
+/// The plain text of a file. One in UTF-16 or UTF-32 is an error, and so is one whose lines end in carriage returns alone; they give none.
 fn plain_text(
     alloc: Global,
     messages: &mut String,
@@ -99,6 +114,10 @@ fn plain_text(
     bytes: Vec<u8>,
 ) -> Result<Vec<u8>, AllocError> {
     let Some(wide) = wide_text(&bytes) else {
+        if foreign_text(&bytes) == Some(ForeignText::CarriageReturns) {
+            push_foreign(messages, file, ForeignText::CarriageReturns)?;
+            return Ok(Vec::new(alloc));
+        }
         return Ok(bytes);
     };
     let (file, family, name) = (Shown(file), wide.family(), wide.name());

@@ -6,6 +6,7 @@
 #![tactic(auto)]
 
 mod calculations;
+mod entries;
 mod outputs;
 mod parameters;
 mod phrases;

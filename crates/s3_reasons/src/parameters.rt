@@ -45,10 +45,48 @@ impl Keyword {
             Keyword::Load => "a program and a unit, as in // LOAD LIST,F1",
             Keyword::File => "NAME- and other parameters, as in // FILE NAME-STOCK",
             Keyword::Date => "a date, MMDDYY or MM/DD/YY",
-            Keyword::Switch => "eight of 0, 1 and X",
+            Keyword::Switch => "eight of 0, 1 and X without commas",
             Keyword::Run => "no parameters",
         }
     }
+}
+
+/// What is wrong with a parameter at a place, from 0, of a LOAD, DATE, SWITCH or RUN statement.
+#[derive(Clone, Copy, PartialEq, Eq)]
+pub enum PlaceFault {
+    /// It is no name that a program can have.
+    Program,
+    /// It is no unit.
+    Unit,
+    /// It is no date.
+    Date,
+    /// It isn't eight switches.
+    Switches,
+    /// The statement has no parameter at this place.
+    Surplus,
+}
+
+/// What is wrong with a parameter at a place, from 0; none if nothing is. The parameters of FILE aren't known by their places.
+pub fn place_fault(keyword: Keyword, place: usize, text: &str) -> Option<PlaceFault> {
+    let (is_right, fault) = match (keyword, place) {
+        (Keyword::File, _) => (true, PlaceFault::Surplus),
+        (Keyword::Load, 0) => (is_name(text) && text.len() <= 6, PlaceFault::Program),
+        (Keyword::Load, 1) => (is_unit(text), PlaceFault::Unit),
+        (Keyword::Date, 0) => (is_date(text.as_bytes()), PlaceFault::Date),
+        (Keyword::Switch, 0) => (are_switches(text), PlaceFault::Switches),
+        _ => (false, PlaceFault::Surplus),
+    };
+    if is_right { None } else { Some(fault) }
+}
+
+/// Whether a text is a unit.
+fn is_unit(text: &str) -> bool {
+    matches!(text, "R1" | "R2" | "F1" | "F2")
+}
+
+/// Whether a text is eight switches.
+fn are_switches(text: &str) -> bool {
+    text.len() == 8 && text.bytes().all(|byte| matches!(byte, b'0' | b'1' | b'X'))
 }
 
 /// What a parameter of FILE takes, by its name; nothing for a name that FILE doesn't have.
@@ -70,7 +108,7 @@ pub fn file_parameter(name: &str) -> Option<&'static str> {
 pub fn is_right(name: &str, value: &str) -> bool {
     match name {
         "NAME" | "LABEL" => is_name(value) && value.len() <= 8,
-        "UNIT" => matches!(value, "R1" | "R2" | "F1" | "F2"),
+        "UNIT" => is_unit(value),
         "PACK" => !value.is_empty() && value.len() <= 6 && value.bytes().all(|byte| is_mark(byte)),
         "RECORDS" => is_count(value, 6),
         "TRACKS" => is_count(value, 3),
@@ -137,5 +175,27 @@ pub fn date_fault(text: &[u8]) -> DateFault {
         (Some(month), Some(_)) if month == 0 || month > 12 => DateFault::Month(month),
         (Some(_), Some(day)) if day == 0 || day > 31 => DateFault::Day(day),
         _ => DateFault::Form,
+    }
+}
+
+/// Whether a text is a date: six digits, or with the slashes eight characters.
+fn is_date(text: &[u8]) -> bool {
+    let has_form = match text {
+        [_, _, _, _, _, _] => number_at(text, 4).is_some(),
+        [_, _, b'/', _, _, b'/', _, _] => number_at(text, 6).is_some(),
+        _ => false,
+    };
+    let numbers = (
+        number_at(text, 0),
+        number_at(text, if text.len() == 6 { 2 } else { 3 }),
+    );
+    has_form && is_day(numbers)
+}
+
+/// Whether two numbers are a month and a day.
+fn is_day(numbers: (Option<u8>, Option<u8>)) -> bool {
+    match numbers {
+        (Some(month), Some(day)) => (1..=12).contains(&month) && (1..=31).contains(&day),
+        _ => false,
     }
 }

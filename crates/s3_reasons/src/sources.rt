@@ -2,6 +2,7 @@
 ghost use Rattle.std.specs.Prelude.{◌≤◌, length};
 
 use crate::calculations::Misfit;
+use crate::entries::entry_words;
 use crate::outputs::push_output_reason;
 use crate::similar::push_similar;
 use indexmap::IndexMap;
@@ -28,12 +29,17 @@ const WRONG_FILE: u8 = 12;
 /// For how many cards similar names are looked for, since each takes a walk over all lines.
 const MOST_SEARCHES: usize = 20;
 
-/// Why cards of a source have a diagnostic 01, 05 or 08, and its RUN card 12, as far as words say more than the diagnostic does; by the
+/// The lowest and the highest number of an entry that isn't allowed: 02, 03 and 04.
+const ENTRY_NUMBERS: (u8, u8) = (2, 4);
+
+/// Why cards of a source have a diagnostic 01 to 05 or 08, and its RUN card 12, as far as words say more than the diagnostic does; by the
 /// cards' numbers.
 #[derive(Drop)]
 pub struct Reasons {
     /// Those of 01 and 08. A card has one of them at most.
     by_card: IndexMap<u16, String>,
+    /// The reasons of 02 to 04, by card and number: what belongs into the first entry that is marked.
+    of_entries: IndexMap<u32, String>,
     /// The reasons of 05: similar names.
     similar: IndexMap<u16, String>,
     /// The reason of 12 on the RUN card.
@@ -45,6 +51,7 @@ impl Reasons {
     pub fn none(alloc: Global) -> Reasons {
         Reasons {
             by_card: IndexMap::new(alloc),
+            of_entries: IndexMap::new(alloc),
             similar: IndexMap::new(alloc),
             primary: IndexMap::new(alloc),
         }
@@ -56,6 +63,7 @@ impl Reasons {
             OUT_OF_ORDER | MISFIT => self.by_card.get(&card),
             UNDEFINED => self.similar.get(&card),
             WRONG_FILE => self.primary.get(&card),
+            _ if is_of_entry(number) => self.of_entries.get(&entry_key(card, number)),
             _ => None,
         };
         match found {
@@ -77,11 +85,63 @@ pub fn reasons_of(
 ) -> Result<Reasons, AllocError> {
     let mut reasons = Reasons::none(alloc);
     add_statements(alloc, deck, told, &mut reasons)?;
+    add_entries(alloc, deck, told, entries, &mut reasons)?;
     let is_wanted = told.iter().any(|found| is_explained(found, from));
     if from <= to && to <= deck.len() && is_wanted {
         add_by_lines(alloc, deck, from, to, told, entries, &mut reasons)?;
     }
     Ok(reasons)
+}
+
+/// Whether a diagnostic is of an entry that isn't allowed: 02, 03 or 04.
+fn is_of_entry(number: u8) -> bool {
+    let (lowest, highest) = ENTRY_NUMBERS;
+    lowest <= number && number <= highest
+}
+
+/// A number for each card with one of its diagnostics.
+fn entry_key(card: u16, number: u8) -> u32 {
+    u32::from(card) * 256 + u32::from(number)
+}
+
+/// Adds what belongs into the first entry that each diagnostic 02, 03 or 04 marks. The diagnostics and the entries are in the order of
+/// their cards.
+fn add_entries(
+    alloc: Global,
+    deck: &Deck,
+    told: &[Diagnostic],
+    entries: &[FaultyEntry],
+    reasons: &mut Reasons,
+) -> Result<(), AllocError> {
+    let mut rest = entries;
+    for found in told {
+        rest = from_card(rest, found.card);
+        if is_of_entry(found.number)
+            && let Some(card) = card_of(deck, found.card)
+            && let Some(first) = first_marked(rest, found)
+        {
+            let words = entry_words(alloc, card, &first)?;
+            reasons
+                .of_entries
+                .insert(entry_key(found.card, found.number), words)?;
+        }
+    }
+    Ok(())
+}
+
+/// The leftmost entry that a diagnostic marks, in a list that begins with the entries of its card.
+fn first_marked(entries: &[FaultyEntry], found: &Diagnostic) -> Option<FaultyEntry> {
+    let mut first: Option<FaultyEntry> = None;
+    for entry in entries.iter().take_while(|entry| entry.card == found.card) {
+        let is_first = match first {
+            Some(before) => entry.from < before.from,
+            None => true,
+        };
+        if is_first && entry.number == found.number {
+            first = Some(*entry);
+        }
+    }
+    first
 }
 
 /// Whether the lines of a source from a place on explain a diagnostic. The place is the number of the RUN card.

@@ -1,6 +1,8 @@
 //! Why the statements of a job are faulty.
 
-use crate::parameters::{DateFault, Keyword, date_fault, file_parameter, is_right};
+use crate::parameters::{
+    DateFault, Keyword, PlaceFault, date_fault, file_parameter, is_right, place_fault,
+};
 use crate::statement_text::{CardText, Part};
 use s3_cards::Deck;
 use s3_ocl::{FaultyJob, JobFault};
@@ -19,6 +21,16 @@ struct Place {
     part: Part,
     /// What the statement does, if its keyword is known.
     keyword: Option<Keyword>,
+    /// How many parameters the statement has on the cards before.
+    before: usize,
+}
+
+/// The parameters of a whole statement, with its commas.
+#[derive(Drop)]
+struct Parameters {
+    text: String,
+    /// The number of the statement's last card.
+    last: usize,
 }
 
 /// Why the statements of a job are faulty, on the card that the fault names; empty if there is no more to say than the fault. The
@@ -60,6 +72,7 @@ fn place_of(
         keyword: Keyword::of(card.word(0)),
         card,
         part: Part::Beginning,
+        before: 0,
     };
     for next in first.saturating_add(1)..number.saturating_add(1) {
         let Some(card) = card_text(alloc, deck, next)? else {
@@ -74,9 +87,9 @@ impl Place {
     /// The place one card further.
     fn behind(self, number: usize, card: CardText) -> Place {
         let part = self.part.next(&self.card, &card);
-        let keyword = match part {
-            Part::Beginning => Keyword::of(card.word(0)),
-            Part::Continuation => self.keyword,
+        let (keyword, before) = match part {
+            Part::Beginning => (Keyword::of(card.word(0)), 0),
+            Part::Continuation => (self.keyword, self.parameters_behind()),
         };
         Place {
             first: self.first,
@@ -84,7 +97,14 @@ impl Place {
             card,
             part,
             keyword,
+            before,
         }
+    }
+
+    /// How many parameters the statement has up to this card and on it.
+    fn parameters_behind(&self) -> usize {
+        self.before
+            .saturating_add(commas_closed(self.parameters()).split(',').count())
     }
 
     /// The parameters of the card.
@@ -169,33 +189,49 @@ impl Place {
         if self.part == Part::Continuation && Keyword::of(word).is_some() {
             return self.push_open(text, word);
         }
-        if self.ends_open(alloc, deck)? {
-            let number = self.number;
-            return write!(
-                text,
-                "a parameter is missing after the comma of card {number}"
-            );
+        let Some(keyword) = self.keyword else {
+            return Ok(());
+        };
+        self.push_wrong(text, keyword)?;
+        if text.is_empty() && self.part == Part::Beginning {
+            return self.whole(alloc, deck)?.push_missing(text, keyword);
         }
-        match self.keyword {
-            Some(Keyword::Date) => push_date(text, self.parameters()),
-            Some(Keyword::File) => push_file(text, self.parameters()),
-            Some(keyword) => {
-                let (word, takes) = (keyword.word(), keyword.takes());
-                write!(text, "{word} takes {takes}")
-            }
-            None => Ok(()),
-        }
+        Ok(())
     }
 
-    /// Whether the card ends with a comma, and no card continues with it.
-    fn ends_open(&self, alloc: Global, deck: &Deck) -> Result<bool, AllocError> {
-        if !self.parameters().ends_with(",") {
-            return Ok(false);
+    /// Appends what is wrong with the first parameter of the card that is wrong or surplus; nothing if none is.
+    fn push_wrong(&self, text: &mut String, keyword: Keyword) -> Result<(), AllocError> {
+        if keyword == Keyword::File {
+            return push_wrong_in_file(text, self.parameters());
         }
-        match card_text(alloc, deck, self.number.saturating_add(1))? {
-            Some(next) => Ok(self.part.next(&self.card, &next) == Part::Beginning),
-            None => Ok(true),
+        let pieces = commas_closed(self.parameters()).split(',');
+        for (place, piece) in pieces.enumerate() {
+            let place = place.saturating_add(self.before);
+            if !piece.is_empty()
+                && let Some(fault) = place_fault(keyword, place, piece)
+            {
+                return push_place_fault(text, keyword, piece, fault);
+            }
         }
+        Ok(())
+    }
+
+    /// The parameters of the statement that begins on this card.
+    fn whole(&self, alloc: Global, deck: &Deck) -> Result<Parameters, AllocError> {
+        let mut whole = Parameters {
+            text: String::from_str(alloc, self.parameters())?,
+            last: self.number,
+        };
+        for number in self.number.saturating_add(1)..deck.len().saturating_add(1) {
+            match card_text(alloc, deck, number)? {
+                Some(card) if whole.is_open() && !card.word(0).is_empty() => {
+                    whole.text.push_str(card.word(0))?;
+                    whole.last = number;
+                }
+                _ => break,
+            }
+        }
+        Ok(whole)
     }
 
     /// Appends what is missing before the card.
@@ -226,6 +262,73 @@ impl Place {
     }
 }
 
+/// A card's parameters without the comma at their end, if they have one.
+fn commas_closed(parameters: &str) -> &str {
+    parameters.strip_suffix(",").unwrap_or(parameters)
+}
+
+impl Parameters {
+    /// Whether nothing is after the last comma.
+    fn is_open(&self) -> bool {
+        self.text.as_str().ends_with(",")
+    }
+
+    /// Appends what the statement lacks.
+    fn push_missing(&self, text: &mut String, keyword: Keyword) -> Result<(), AllocError> {
+        let parameters = self.text.as_str();
+        let (word, takes, last) = (keyword.word(), keyword.takes(), self.last);
+        let has_gap = commas_closed(parameters)
+            .split(',')
+            .any(|piece| piece.is_empty());
+        if !parameters.is_empty() && has_gap {
+            return write!(
+                text,
+                "a parameter is missing before one of the commas; {word} takes {takes}"
+            );
+        }
+        if self.is_open() {
+            return write!(
+                text,
+                "a parameter is missing after the comma of card {last}"
+            );
+        }
+        match keyword {
+            Keyword::File => push_missing_in_file(text, parameters),
+            Keyword::Load if !parameters.is_empty() => {
+                write!(
+                    text,
+                    "the unit is missing after {parameters}; LOAD takes {takes}"
+                )
+            }
+            _ => write!(text, "{word} takes {takes}"),
+        }
+    }
+}
+
+/// Appends what is wrong with a parameter that is known by its place.
+fn push_place_fault(
+    text: &mut String,
+    keyword: Keyword,
+    piece: &str,
+    fault: PlaceFault,
+) -> Result<(), AllocError> {
+    let (word, takes) = (keyword.word(), keyword.takes());
+    match fault {
+        PlaceFault::Program => write!(
+            text,
+            "{piece} is no program's name, which has 1 to 6 letters, digits, $, # and @, and begins with no digit"
+        ),
+        PlaceFault::Unit => write!(text, "{piece} is no unit; the unit is R1, R2, F1 or F2"),
+        PlaceFault::Date => push_date(text, piece),
+        PlaceFault::Switches => write!(text, "{word} takes {takes}"),
+        PlaceFault::Surplus if keyword == Keyword::Run => write!(text, "{word} takes {takes}"),
+        PlaceFault::Surplus => write!(
+            text,
+            "{piece} is one parameter too many; {word} takes {takes}"
+        ),
+    }
+}
+
 /// What a parameter of FILE takes, given the parameter with its value; nothing for one that FILE doesn't have.
 fn value_of(piece: &str) -> Option<&'static str> {
     match piece.split_once('-') {
@@ -252,26 +355,38 @@ fn push_date(text: &mut String, parameters: &str) -> Result<(), AllocError> {
     }
 }
 
-/// Appends what the first wrong parameter of FILE on a card takes, or what else the parameters lack.
-fn push_file(text: &mut String, parameters: &str) -> Result<(), AllocError> {
+/// Appends what the first wrong parameter of FILE on a card takes; nothing if none is wrong.
+fn push_wrong_in_file(text: &mut String, parameters: &str) -> Result<(), AllocError> {
     for piece in parameters.split(',') {
         if let Some((name, value)) = piece.split_once('-')
             && let Some(takes) = file_parameter(name)
+            && !value.is_empty()
             && !is_right(name, value)
         {
             return write!(text, "{piece}; {name}- takes {takes}");
         }
     }
+    Ok(())
+}
+
+/// Appends which parameter of a FILE statement has no value, or what else its parameters lack.
+fn push_missing_in_file(text: &mut String, parameters: &str) -> Result<(), AllocError> {
+    for piece in parameters.split(',') {
+        if let Some((name, value)) = piece.split_once('-')
+            && let Some(takes) = file_parameter(name)
+            && value.is_empty()
+        {
+            return write!(text, "{piece} has no value; {name}- takes {takes}");
+        }
+    }
     if has_parameter(parameters, "RECORDS") && has_parameter(parameters, "TRACKS") {
         text.push_str("RECORDS- and TRACKS- don't go together; give one of them")
-    } else if !has_parameter(parameters, "NAME") {
-        text.push_str("FILE needs NAME-, as in // FILE NAME-STOCK")
     } else {
-        Ok(())
+        text.push_str("FILE needs NAME-, as in // FILE NAME-STOCK")
     }
 }
 
-/// Whether one of the parameters on a card has a name.
+/// Whether one of the parameters of a statement has a name.
 fn has_parameter(parameters: &str, name: &str) -> bool {
     parameters.split(',').any(|piece| match piece.split_once('-') {
         Some((given, _value)) => given == name,

@@ -1,11 +1,11 @@
 //! The messages of a deck, in words.
 ghost use Rattle.std.specs.Prelude.{◌≤◌, length};
 
-use crate::listing::{Outcome, columns_of_statement, is_bare_source};
+use crate::listing::{Outcome, RULER_CURE, columns_of_statement, is_bare_source, is_surplus_ruler};
 use crate::messages::{ErrorMessage, RunCard, WarningMessage, messages_of};
 use crate::source::{SourceRange, hides};
 use s3_blame::diagnostic_words;
-use s3_cards::Deck;
+use s3_cards::{Card, Deck};
 use s3_decks::{Columns, JobEntry, Statements, jobs_of, keyword_columns};
 use s3_ocl::{FaultyJob, JobCards};
 use s3_reasons::{Reasons, statement_reason};
@@ -68,13 +68,17 @@ pub struct DeckMessages {
 }
 
 /// Appends to the reason of a faulty job where a source belongs.
-fn push_cure(reason: &mut String) -> Result<(), AllocError> {
+fn push_cure(reason: &mut String, card: &Card) -> Result<(), AllocError> {
     if !reason.is_empty() {
         reason.push_str("; ")?;
     }
     reason.push_str(
         "put // LOAD $RPG,F1 and // RUN before this card, where they are missing, and /* after the source's last card",
-    )
+    )?;
+    if !is_surplus_ruler(card) {
+        return Ok(());
+    }
+    write!(reason, "; take {RULER_CURE}")
 }
 
 impl DeckMessages {
@@ -179,7 +183,7 @@ impl DeckMessages {
         let columns = match deck.card(card.saturating_sub(1)) {
             Some(found) => {
                 if is_bare_source(fault, found) {
-                    push_cure(&mut reason)?;
+                    push_cure(&mut reason, found)?;
                 }
                 columns_of_statement(found)
             }

@@ -3,7 +3,9 @@
 use crate::card_lines::{push_card, push_fault, push_reason, push_ruler};
 use crate::margin::{Margin, Numbers};
 use crate::source::{Found, SourceRange, push_program, push_source};
-use s3_cards::ebcdic::{ASTERISK, BLANK, LETTER_C, LETTER_F, LETTER_H, LETTER_I, LETTER_O};
+use s3_cards::ebcdic::{
+    ASTERISK, BLANK, DIGIT_5, LETTER_C, LETTER_F, LETTER_H, LETTER_I, LETTER_O, PERIOD,
+};
 use s3_cards::{Card, Deck, is_digit, trim_end};
 use s3_decks::{Columns, DeckText, JobEntry, Statements, jobs_of};
 use s3_entries::shared;
@@ -104,22 +106,46 @@ pub(crate) fn columns_of_statement(card: &Card) -> Columns {
     }
 }
 
+/// Whether a code is the letter of a sheet.
+fn is_sheet(code: u8) -> bool {
+    matches!(code, LETTER_H | LETTER_F | LETTER_I | LETTER_C | LETTER_O)
+}
+
 /// Whether a card looks like one of a source: no more than page and line are before column 6, and there the letter of a sheet, or
 /// after it the `*` of a comment.
 fn is_of_source(card: &Card) -> bool {
-    let is_sheet = matches!(
-        column(card, shared::FORM_TYPE),
-        LETTER_H | LETTER_F | LETTER_I | LETTER_C | LETTER_O
-    );
+    let is_sheet = is_sheet(column(card, shared::FORM_TYPE));
     (is_sheet || column(card, shared::COMMENT) == ASTERISK)
         && card[..shared::FORM_TYPE.from - 1]
             .iter()
             .all(|code| *code == BLANK || is_digit(*code))
 }
 
+/// Whether a card looks like one of a source that was typed with a tab: among statements that goes to column 9.
+fn is_tabbed(card: &Card) -> bool {
+    let (before, from_tab) = card.split_at(TAB_STOP);
+    before.iter().all(|code| *code == BLANK) && from_tab.first().is_some_and(|code| is_sheet(*code))
+}
+
+/// How many columns are before the first tab stop among statements.
+const TAB_STOP: usize = 8;
+
+/// Whether a card is a ruler over columns, `....5...10` or `....5.*.10`.
+fn is_ruler(card: &Card) -> bool {
+    card.starts_with(&[PERIOD, PERIOD, PERIOD, PERIOD, DIGIT_5])
+}
+
+/// Whether a card is a ruler that a source can't have: column 7 has no `*`, which makes a comment.
+pub(crate) fn is_surplus_ruler(card: &Card) -> bool {
+    is_ruler(card) && column(card, shared::COMMENT) != ASTERISK
+}
+
+/// What to do with a ruler in a source.
+pub(crate) const RULER_CURE: &str = "the ruler out, or make a comment of it by * in column 7";
+
 /// Whether a card of a source is in the place of a statement.
 pub(crate) fn is_bare_source(fault: JobFault, card: &Card) -> bool {
-    fault == JobFault::NotOcl && is_of_source(card)
+    fault == JobFault::NotOcl && (is_of_source(card) || is_tabbed(card) || is_ruler(card))
 }
 
 /// Appends where a source is, if a card that looks like one of a source is in the place of a statement.
@@ -137,7 +163,11 @@ fn push_source_cure(
     writeln!(
         text,
         "A source stands in a job: put // LOAD $RPG,F1 and // RUN in front of {place}, where they are missing, and /* behind its last card."
-    )
+    )?;
+    if !is_surplus_ruler(card) {
+        return Ok(());
+    }
+    writeln!(text, "Take {RULER_CURE}.")
 }
 
 /// Appends the card at which the statements of a job are faulty, with what is wrong there.
