@@ -1,43 +1,107 @@
 //! `bureau load`: a table in CSV or records of a fixed length from standard input, into a file of a pack.
 ghost use Rattle.std.specs.Prelude.{◌≤◌};
 
-use crate::cells::{Reading, with_cells};
+use crate::cells::Reading;
+use crate::cells::field_named;
+use crate::cells::with_cells;
 use crate::fault::Fault;
-use crate::filled::{Words, push_shown_name};
-use crate::fixed::{
-    AS_ASCII, AS_EBCDIC, LINE_FEEDS, RECORD_LENGTH, beginning_sentence, fixed_form,
-    fixed_load_sentence, is_ascii, layout_of_length, no_records_sentence, record_sentence,
-    refuse_loaded_cells, test_length,
-};
-use crate::inputs::{delimiter_of, layout_of, whole_records_of};
-use crate::journaling::{OpenJournal, journal_for, unmade_if_refused};
-use crate::load_sentences::{
-    TOO_LONG, heading_sentence, load_sentence, value_sentence, wide_sentence,
-};
-use crate::pack_words::{
-    Save, keep_input, label_of, level_of, no_room_sentence, number_of, pack_to_change, refused,
-    room_in, saved, tell_done, wrong_words,
-};
+use crate::filled::Words;
+use crate::filled::push_shown_name;
+use crate::fixed::AS_ASCII;
+use crate::fixed::AS_EBCDIC;
+use crate::fixed::LINE_FEEDS;
+use crate::fixed::RECORD_LENGTH;
+use crate::fixed::beginning_sentence;
+use crate::fixed::fixed_form;
+use crate::fixed::fixed_load_sentence;
+use crate::fixed::is_ascii;
+use crate::fixed::layout_of_length;
+use crate::fixed::no_records_sentence;
+use crate::fixed::record_sentence;
+use crate::fixed::refuse_loaded_cells;
+use crate::fixed::test_length;
+use crate::inputs::delimiter_of;
+use crate::inputs::layout_of;
+use crate::inputs::whole_records_of;
+use crate::journaling::OpenJournal;
+use crate::journaling::journal_for;
+use crate::journaling::unmade_if_refused;
+use crate::key_cover::test_key;
+use crate::load_sentences::TOO_LONG;
+use crate::load_sentences::heading_sentence;
+use crate::load_sentences::load_sentence;
+use crate::load_sentences::table_sentence;
+use crate::load_sentences::value_sentence;
+use crate::pack_words::Save;
+use crate::pack_words::keep_input;
+use crate::pack_words::label_of;
+use crate::pack_words::level_of;
+use crate::pack_words::no_room_sentence;
+use crate::pack_words::number_of;
+use crate::pack_words::pack_to_change;
+use crate::pack_words::refused;
+use crate::pack_words::room_in;
+use crate::pack_words::saved;
+use crate::pack_words::tell_done;
+use crate::pack_words::wrong_words;
 use crate::sentences::unread_sentence;
-use crate::standard_input::{InputFault, read_input};
-use crate::words::{
-    AGAIN, DATE_FIELDS, DECIMAL, DELIMITER, JOURNAL, LABEL, LAYOUT, LAYOUT_FILE, LAYOUT_TYPE,
-    LEVEL_ALIAS, LEVEL_AREA, MOST_RECORDS, OVERWRITE, PACK, SAFE_CELLS, SAVE, THOUSANDS,
-};
+use crate::standard_input::InputFault;
+use crate::standard_input::read_input;
+use crate::words::AGAIN;
+use crate::words::DATE_FIELDS;
+use crate::words::DECIMAL;
+use crate::words::DELIMITER;
+use crate::words::JOURNAL;
+use crate::words::LABEL;
+use crate::words::LAYOUT;
+use crate::words::LAYOUT_FILE;
+use crate::words::LAYOUT_TYPE;
+use crate::words::LEVEL_ALIAS;
+use crate::words::LEVEL_AREA;
+use crate::words::MOST_RECORDS;
+use crate::words::OVERWRITE;
+use crate::words::PACK;
+use crate::words::SAFE_CELLS;
+use crate::words::SAVE;
+use crate::words::THOUSANDS;
 use clap::ArgMatches;
+use s3_cards::LevelId;
+use s3_cards::Name;
+use s3_cards::Retention;
 use s3_cards::ebcdic::DIGIT_0;
-use s3_cards::{LevelId, Name, Retention, host_byte};
-use s3_journal::{Appended, Posting, Work, checksum_of};
+use s3_cards::host_byte;
+use s3_journal::Appended;
+use s3_journal::Posting;
+use s3_journal::Work;
+use s3_journal::checksum_of;
 use s3_labels::LabelFault;
 use s3_layout::SourceLayout;
 use s3_listing::file_size;
-use s3_load::{HeadingFault, LoadFault, Order, Room, ValueFault};
-use s3_paper_commands::status::{DONE, FILE_WRONG, OPTIONS_WRONG, PACK_SAVED, REFUSED};
-use s3_paper_commands::words::{Choice, CommandWords, Example, Status, Takes, Word, value_of};
+use s3_load::HeadingFault;
+use s3_load::LoadFault;
+use s3_load::Order;
+use s3_load::Room;
+use s3_load::ValueFault;
+use s3_paper_commands::status::DONE;
+use s3_paper_commands::status::FILE_WRONG;
+use s3_paper_commands::status::OPTIONS_WRONG;
+use s3_paper_commands::status::PACK_SAVED;
+use s3_paper_commands::status::REFUSED;
+use s3_paper_commands::words::Choice;
+use s3_paper_commands::words::CommandWords;
+use s3_paper_commands::words::Example;
+use s3_paper_commands::words::Status;
+use s3_paper_commands::words::Takes;
+use s3_paper_commands::words::Word;
+use s3_paper_commands::words::value_of;
 use s3_refusals::Shown;
-use s3_unload::{Area, FixedForm, find_file};
-use std::alloc::{AllocError, Global};
-use std::io::{IsTerminal, Write};
+use s3_unload::Area;
+use s3_unload::FixedForm;
+use s3_unload::find_file;
+use std::alloc::AllocError;
+use std::alloc::Global;
+use std::io::IsTerminal;
+use std::io::Write;
 
 /// How many faults of a table are reported.
 pub const MOST_TOLD: usize = 20;
@@ -279,6 +343,7 @@ fn layout_by(
         thousands: matches.get_str("thousands"),
     };
     let layout = layout_of(rt, matches, source)?;
+    test_key(rt, source, &layout)?;
     with_cells(rt, matches, source, layout, reading)
 }
 
@@ -338,15 +403,15 @@ fn table_of(rt: &HostRuntime, words: &LoadWords<'_>) -> Result<Vec<u8>, Fault> {
     }
 }
 
-/// Why an input isn't loaded: it has no record, or it is in an encoding that must be converted; `None` for any other input. Records in
-/// EBCDIC may have any bytes.
+/// Why an input isn't loaded: it has no record, it is a pack, or it is in an encoding that must be converted; `None` for any other input.
+/// Records in EBCDIC may have any bytes.
 fn input_sentence(
     alloc: Global,
     words: &LoadWords<'_>,
     input: &[u8],
 ) -> Result<Option<String>, AllocError> {
     match words.form {
-        None => wide_sentence(alloc, input),
+        None => table_sentence(alloc, input),
         Some(_) if input.is_empty() => Ok(Some(no_records_sentence(alloc)?)),
         Some(form) if is_ascii(form) => beginning_sentence(alloc, input),
         Some(_) => Ok(None),
@@ -387,7 +452,7 @@ fn loaded(
     };
     match load_by(rt.alloc(), pack, &order, words.form, table) {
         Ok(loaded) => Ok(loaded),
-        Err(fault) => Err(fault_of(rt, words, &fault)),
+        Err(fault) => Err(told_fault(rt, words, layout, &fault)),
     }
 }
 
@@ -636,10 +701,20 @@ fn test_words(rt: &HostRuntime, matches: &ArgMatches<'_>) -> Result<(), Fault> {
 }
 
 /// What a refusal is to the command; what is wrong with the heading or the rows is reported before it, a line each.
-fn fault_of(rt: &HostRuntime, words: &LoadWords<'_>, fault: &LoadFault) -> Fault {
-    if tell_all(rt, words, fault).is_err() {
-        return Fault::NoMemory;
+fn told_fault(
+    rt: &HostRuntime,
+    words: &LoadWords<'_>,
+    layout: &SourceLayout,
+    fault: &LoadFault,
+) -> Fault {
+    match tell_all(rt, words, layout, fault) {
+        Ok(()) => fault_of(rt, words, fault),
+        Err(_) => Fault::NoMemory,
     }
+}
+
+/// What a refusal is to the command.
+fn fault_of(rt: &HostRuntime, words: &LoadWords<'_>, fault: &LoadFault) -> Fault {
     if let LoadFault::Label(LabelFault::NoSpace) = fault {
         return no_room(rt, words);
     }
@@ -679,10 +754,15 @@ fn no_room(rt: &HostRuntime, words: &LoadWords<'_>) -> Fault {
 }
 
 /// Tells what is wrong with the heading or the rows, a line each, up to 20 of them, and how many others there are.
-fn tell_all(rt: &HostRuntime, words: &LoadWords<'_>, fault: &LoadFault) -> Result<(), AllocError> {
+fn tell_all(
+    rt: &HostRuntime,
+    words: &LoadWords<'_>,
+    layout: &SourceLayout,
+    fault: &LoadFault,
+) -> Result<(), AllocError> {
     match fault {
         LoadFault::Heading(faults) => tell_heading(rt, faults),
-        LoadFault::Values(faults, count) => tell_values(rt, words, faults, *count),
+        LoadFault::Values(faults, count) => tell_values(rt, words, layout, faults, *count),
         _ => Ok(()),
     }
 }
@@ -699,11 +779,12 @@ fn tell_heading(rt: &HostRuntime, faults: &[HeadingFault]) -> Result<(), AllocEr
 fn tell_values(
     rt: &HostRuntime,
     words: &LoadWords<'_>,
+    layout: &SourceLayout,
     faults: &[ValueFault],
     count: u64,
 ) -> Result<(), AllocError> {
     for place in 0..faults.len().min(MOST_TOLD) {
-        let sentence = fault_sentence(rt.alloc(), &faults[place], words)?;
+        let sentence = fault_sentence(rt.alloc(), &faults[place], words, layout)?;
         let _ = writeln!(rt.stderr(), "{sentence}");
     }
     tell_others(rt, count);
@@ -715,10 +796,15 @@ fn fault_sentence(
     alloc: Global,
     fault: &ValueFault,
     words: &LoadWords<'_>,
+    layout: &SourceLayout,
 ) -> Result<String, AllocError> {
+    let field = match fault.field {
+        Some(name) => field_named(layout, name),
+        None => None,
+    };
     match words.form {
         Some(form) => record_sentence(alloc, form, fault),
-        None => value_sentence(alloc, fault, words.has_comma),
+        None => value_sentence(alloc, fault, field, words.has_comma),
     }
 }
 

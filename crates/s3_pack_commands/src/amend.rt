@@ -260,12 +260,17 @@ fn amended(
     };
     match amend(rt.alloc(), pack, &amendment) {
         Ok(amended) => Ok(amended),
-        Err(fault) => Err(fault_of(rt, asked, &fault)),
+        Err(fault) => Err(fault_of(rt, asked, layout, &fault)),
     }
 }
 
 /// What a refusal is to the command. Mistakes are reported before it, a line each.
-fn fault_of(rt: &HostRuntime, asked: &Asked<'_>, fault: &AmendFault) -> Fault {
+fn fault_of(
+    rt: &HostRuntime,
+    asked: &Asked<'_>,
+    layout: &SourceLayout,
+    fault: &AmendFault,
+) -> Fault {
     let words = Words::of_file(asked.path, asked.area, asked.label);
     match fault {
         AmendFault::NoMemory => Fault::NoMemory,
@@ -277,14 +282,19 @@ fn fault_of(rt: &HostRuntime, asked: &Asked<'_>, fault: &AmendFault) -> Fault {
                 "the records of {label} in area {area} of {path} have {number} bytes, and the layout's records have another length; give the source of a program that uses this file",
             ),
         ),
-        AmendFault::Mistakes(mistakes) => refuse_mistakes(rt, asked, mistakes),
+        AmendFault::Mistakes(mistakes) => refuse_mistakes(rt, asked, layout, mistakes),
     }
 }
 
 /// Reports mistakes, a line each.
-fn refuse_mistakes(rt: &HostRuntime, asked: &Asked<'_>, mistakes: &[Mistake]) -> Fault {
+fn refuse_mistakes(
+    rt: &HostRuntime,
+    asked: &Asked<'_>,
+    layout: &SourceLayout,
+    mistakes: &[Mistake],
+) -> Fault {
     for mistake in mistakes {
-        match mistake_sentence(rt.alloc(), mistake, asked.key, asked.has_comma) {
+        match mistake_sentence(rt.alloc(), mistake, layout, asked.key, asked.has_comma) {
             Ok(sentence) => {
                 let sentence = sentence.as_str();
                 let _ = writeln!(rt.stderr(), "{sentence}");
