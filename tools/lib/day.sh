@@ -24,20 +24,24 @@ names_error() {
     return 1
 }
 
-# Becomes the program, with the standard error that this shell was given.
+# Becomes the program, with the standard error that this shell was given. $ends_with is empty, or a command that runs the program so
+# that it ends with this shell.
 become() {
     case $given in
-        open) exec "$(executable)" "$@" ;;
-        closed) exec "$(executable)" "$@" 2>&- ;;
-        named) exec "$(executable)" "$@" 2>&7 7>&- ;;
+        open) exec ${ends_with-} "$(executable)" "$@" ;;
+        closed) exec ${ends_with-} "$(executable)" "$@" 2>&- ;;
+        named) exec ${ends_with-} "$(executable)" "$@" 2>&7 7>&- ;;
     esac
 }
 
 # Runs the day, and ends with its status. If a signal ends it, prints the lines of level 2 that weren't on standard output yet, and
-# how to go on. The day is stopped by what stops this shell, except by KILL, which no shell can pass on.
+# how to go on. The day is stopped by what stops this shell. No shell can pass KILL on; then the system ends the day, if setpriv (of
+# util-linux) can ask it to.
 operate_day() {
     signal=
     day=
+    ends_with=
+    ! setpriv --pdeathsig TERM -- true 2> /dev/null || ends_with="setpriv --pdeathsig TERM --"
     for stop in INT QUIT TERM HUP; do
         trap "end_day $stop" $stop
     done

@@ -23,8 +23,8 @@ use s3_data_commands::unload::unload;
 use s3_day_files::perform_journal;
 use s3_host_files::{
     FileFault, Limit, LockedPack, StandardInput, StandardOutput, is_input_standard_error,
-    is_pack_at, is_standard_error, keep_save_apart, read_pack, read_to_save, save_new_pack,
-    save_pack,
+    is_pack_at, is_standard_error, keep_save_apart, read_pack, read_to_save, retried,
+    save_new_pack, save_pack,
 };
 use s3_manual::{Manual, help_notes, is_manual, manual_of, manual_parser};
 use s3_operate::operate;
@@ -39,7 +39,7 @@ use s3_refusals::{Reason, Refused, Shown};
 use std::alloc::{AllocError, Global};
 use std::io::{IsTerminal, Write};
 use std::path::Path;
-use std::{env, fs, io};
+use std::{env, io};
 
 /// Does what the command line asks, and gives the exit status: 0 if it is done; 4 or 5 if it is done and something waits for a person
 /// (docs/OPERATING.md, docs/LISTINGS.md, docs/DATA.md, docs/PACK_CARE.md); 2 if the options can't be read or followed; else the status of
@@ -218,7 +218,7 @@ fn explain(rt: &HostRuntime, error: &Error, words: &[String]) -> u8
         ErrorKind::DisplayVersion => write_version(rt),
         ErrorKind::DisplayHelp => print_help(rt, error, words),
         ErrorKind::ValueValidation => explain_value(rt, error, words),
-        ErrorKind::UnknownArgument => explain_unknown(rt, error),
+        ErrorKind::UnknownArgument => explain_unknown(rt, error, words),
         _ => error.print(rt),
     };
     if error.use_stderr() {
@@ -499,7 +499,7 @@ fn init(rt: &HostRuntime, matches: &ArgMatches<'_>) -> u8
 
 /// Whether something has the name under which `bureau init` saves a new file. If that isn't known, the save fails with the reason.
 fn is_occupied(rt: &HostRuntime, matches: &ArgMatches<'_>) -> bool {
-    fs::symlink_metadata(rt, value_of(matches, "save")).is_ok()
+    retried::symlink_metadata(rt, value_of(matches, "save")).is_ok()
 }
 
 /// Reports that a new pack would replace what is there.

@@ -30,6 +30,7 @@ use crate::key_cover::test_key;
 use crate::load_sentences::TOO_LONG;
 use crate::load_sentences::heading_sentence;
 use crate::load_sentences::load_sentence;
+use crate::load_sentences::other_types_sentence;
 use crate::load_sentences::table_sentence;
 use crate::load_sentences::value_sentence;
 use crate::pack_words::Save;
@@ -76,7 +77,6 @@ use s3_journal::Work;
 use s3_journal::checksum_of;
 use s3_labels::LabelFault;
 use s3_layout::SourceLayout;
-use s3_listing::file_size;
 use s3_load::HeadingFault;
 use s3_load::LoadFault;
 use s3_load::Order;
@@ -94,14 +94,18 @@ use s3_paper_commands::words::Status;
 use s3_paper_commands::words::Takes;
 use s3_paper_commands::words::Word;
 use s3_paper_commands::words::value_of;
+use s3_record_types::ChosenRecords;
 use s3_refusals::Shown;
 use s3_unload::Area;
 use s3_unload::FixedForm;
+use s3_unload::UnloadFault;
 use s3_unload::find_file;
+use s3_unload::unload_fixed;
 use std::alloc::AllocError;
 use std::alloc::Global;
 use std::io::IsTerminal;
 use std::io::Write;
+use std::io::sink;
 
 /// How many faults of a table are reported.
 pub const MOST_TOLD: usize = 20;
@@ -209,6 +213,11 @@ pub const LOAD: CommandWords = CommandWords {
             help: "Replaces a file even by one of another record length, organization or key",
         },
         Word {
+            name: "drop-types",
+            takes: Takes::Nothing,
+            help: "Replaces a file even if records of other types than --type are lost",
+        },
+        Word {
             name: "fill",
             takes: Takes::Nothing,
             help: "Fields that the table doesn't have are blank or 0",
@@ -264,6 +273,7 @@ struct LoadWords<'a> {
     date: [u8; 6],
     appends: bool,
     reshapes: bool,
+    drops_types: bool,
     fills: bool,
     delimiter: u8,
     /// Whether a comma is before the decimals.
@@ -295,6 +305,7 @@ impl<'a> LoadWords<'a> {
             date: date_of(rt, matches)?,
             appends: matches.get_flag("append"),
             reshapes: matches.get_flag("new-shape"),
+            drops_types: matches.get_flag("drop-types"),
             fills: matches.get_flag("fill"),
             delimiter: delimiter_of(rt, matches)?,
             has_comma: matches.get_str("decimal") == Some(","),
@@ -309,8 +320,8 @@ fn load_table(rt: &HostRuntime, matches: &ArgMatches<'_>) -> Result<(), Fault> {
     if let Some(source) = words.source {
         keep_input(rt, words.save, source)?;
     }
-    let replaced = replaced_file(rt.alloc(), &words, &pack);
-    let (loaded, journal, work) = load_journaled(rt, matches, &words, &layout, &pack)?;
+    let replaced = replaced_file(rt.alloc(), &words, &layout, &pack)?;
+    let (loaded, journal, work) = load_journaled(rt, matches, &words, &layout, &pack, replaced)?;
     let save = Save {
         locked,
         journal,
@@ -354,6 +365,7 @@ fn load_journaled<'a>(
     words: &LoadWords<'a>,
     layout: &SourceLayout,
     pack: &[u8],
+    replaced: Option<ReplacedFile>,
 ) -> Result<(Vec<u8>, Option<OpenJournal<'a>>, Work), Fault> {
     tell_waiting(rt, words);
     let table = table_of(rt, words)?;
@@ -361,7 +373,7 @@ fn load_journaled<'a>(
         return append_once(rt, matches, words, layout, pack, &table);
     }
     let journal = journal_for(rt, matches, words.path, pack, Posting::Nothing)?;
-    let done = loaded(rt, words, layout, pack, &table);
+    let done = loaded_over(rt, words, layout, pack, &table, replaced);
     let loaded = unmade_if_refused(rt, &journal, done)?;
     Ok((loaded, journal, Work::Load))
 }
@@ -426,6 +438,39 @@ fn appended(alloc: Global, words: &LoadWords<'_>, table: &[u8]) -> Result<Append
         table: checksum_of(alloc, table)?,
         file: format!(in alloc; "{level} {label}")?,
     })
+}
+
+/// A pack with a table, or records of a fixed length, in the file that the options name, given the file that a new one replaces. A file
+/// with records of other types is replaced only if `--drop-types` is given.
+fn loaded_over(
+    rt: &HostRuntime,
+    words: &LoadWords<'_>,
+    layout: &SourceLayout,
+    pack: &[u8],
+    table: &[u8],
+    replaced: Option<ReplacedFile>,
+) -> Result<Vec<u8>, Fault> {
+    let loaded = loaded(rt, words, layout, pack, table)?;
+    match replaced {
+        Some(file) if !words.drops_types => {
+            refuse_other_types(rt, words, file)?;
+        }
+        _ => {}
+    }
+    Ok(loaded)
+}
+
+/// Refuses to replace a file that has records of other types, or whose records can't be read.
+fn refuse_other_types(
+    rt: &HostRuntime,
+    words: &LoadWords<'_>,
+    file: ReplacedFile,
+) -> Result<(), Fault> {
+    match file.others {
+        Some(0) => Ok(()),
+        Some(others) => Err(refused(other_types_sentence(rt.alloc(), words.label, others))),
+        None => Err(fault_of(rt, words, &LoadFault::BadIndex)),
+    }
 }
 
 /// A pack with a table, or records of a fixed length, in the file that the options name.
@@ -495,29 +540,92 @@ fn tell_waiting(rt: &HostRuntime, words: &LoadWords<'_>) {
 struct ReplacedFile {
     /// How many records it has.
     records: u32,
+    /// How many of them are of other types than the chosen one; none if they can't be read.
+    others: Option<u32>,
+    /// For how many records it has space.
+    capacity: u32,
+    /// How long it was to be kept.
+    retention: Retention,
     /// Its date, mmddyy, in EBCDIC.
     date: [u8; 6],
 }
 
+/// The file that has the records of a load.
+#[derive(Clone, Copy)]
+struct LoadedFile {
+    /// How many records it has.
+    records: u32,
+    /// For how many records it has space.
+    capacity: u32,
+}
+
 /// The file of a pack that a new one is to replace, if there is one.
-fn replaced_file(alloc: Global, words: &LoadWords<'_>, pack: &[u8]) -> Option<ReplacedFile> {
+fn replaced_file(
+    alloc: Global,
+    words: &LoadWords<'_>,
+    layout: &SourceLayout,
+    pack: &[u8],
+) -> Result<Option<ReplacedFile>, AllocError> {
     if words.appends {
-        return None;
+        return Ok(None);
     }
     let (_store, label) = match find_file(alloc, pack, Area::Level(words.level), words.name) {
         Ok(found) => found,
-        Err(_) => return None,
+        Err(UnloadFault::NoMemory) => return Err(AllocError),
+        Err(_) => return Ok(None),
     };
-    let records = label.count;
-    let date = label.date;
-    Some(ReplacedFile { records, date })
+    let others = if label.record_length == layout.layout.record_length {
+        other_records(alloc, words, &layout.records, pack)?
+    } else {
+        // of a file of another record length, which is replaced if that is asked for, no type is known
+        Some(0)
+    };
+    Ok(Some(ReplacedFile {
+        records: label.count,
+        others,
+        capacity: label.capacity,
+        retention: label.retention,
+        date: label.date,
+    }))
 }
 
-/// How many records the file of a pack has that was loaded.
-fn loaded_count(alloc: Global, words: &LoadWords<'_>, loaded: &[u8]) -> Result<u32, AllocError> {
-    match file_size(alloc, loaded, number_of(words.level), words.name) {
-        Ok(Some(size)) => Ok(size.records),
-        Ok(None) => Ok(0),
+/// How many records of the file that is there aren't chosen; none if they can't be read.
+fn other_records(
+    alloc: Global,
+    words: &LoadWords<'_>,
+    chosen: &ChosenRecords,
+    pack: &[u8],
+) -> Result<Option<u32>, AllocError> {
+    if let ChosenRecords::All = chosen {
+        return Ok(Some(0));
+    }
+    // the records that are chosen go nowhere
+    match unload_fixed(
+        alloc,
+        pack,
+        Area::Level(words.level),
+        words.name,
+        FixedForm::Ebcdic,
+        chosen,
+        &mut sink(),
+    ) {
+        Ok(others) => Ok(Some(others)),
+        Err(UnloadFault::NoMemory) => Err(AllocError),
+        Err(_) => Ok(None),
+    }
+}
+
+/// The file of a pack that was loaded.
+fn loaded_file(
+    alloc: Global,
+    words: &LoadWords<'_>,
+    loaded: &[u8],
+) -> Result<LoadedFile, AllocError> {
+    match find_file(alloc, loaded, Area::Level(words.level), words.name) {
+        Ok((_store, label)) => Ok(LoadedFile {
+            records: label.count,
+            capacity: label.capacity,
+        }),
         Err(_) => Err(AllocError),
     }
 }
@@ -529,48 +637,99 @@ fn done_sentence(
     replaced: Option<ReplacedFile>,
     loaded: &[u8],
 ) -> Result<String, AllocError> {
-    let count = loaded_count(alloc, words, loaded)?;
+    let new = loaded_file(alloc, words, loaded)?;
     match replaced {
-        Some(file) => replaced_sentence(alloc, words, file, count),
-        None => loaded_sentence(alloc, words, count),
+        Some(old) => replaced_sentence(alloc, words, old, new),
+        None => loaded_sentence(alloc, words, new.records),
     }
 }
 
-/// Which file was replaced, and how many records the new one has.
+/// Which file was replaced, how many records the new one has, and what of the old one the new one doesn't keep.
 fn replaced_sentence(
     alloc: Global,
     words: &LoadWords<'_>,
-    file: ReplacedFile,
-    count: u32,
+    old: ReplacedFile,
+    new: LoadedFile,
 ) -> Result<String, AllocError> {
     let mut text = String::new(alloc);
-    push_replaced(&mut text, words, file, count)?;
+    push_replaced(&mut text, words, old, new.records)?;
+    push_space(&mut text, old.capacity, new.capacity)?;
+    push_retention(&mut text, old.retention, words.retention)?;
     Ok(text)
 }
 
 fn push_replaced(
     text: &mut String,
     words: &LoadWords<'_>,
-    file: ReplacedFile,
+    old: ReplacedFile,
     count: u32,
 ) -> Result<(), AllocError> {
     text.push_str(words.label)?;
     text.push_str(", ")?;
-    push_grouped(text, file.records)?;
-    text.push_str(if file.records == 1 {
-        " record"
-    } else {
-        " records"
-    })?;
-    push_date(text, file.date)?;
+    push_records(text, old.records)?;
+    push_date(text, old.date)?;
+    if let Some(others) = old.others
+        && others > 0
+    {
+        text.push_str(", of them ")?;
+        push_grouped(text, others)?;
+        text.push_str(if others == 1 {
+            " of another type"
+        } else {
+            " of other types"
+        })?;
+    }
     text.push_str(", replaced by ")?;
     push_grouped(text, count)?;
-    if file.date != words.date {
+    if old.date != words.date {
         push_date(text, words.date)?;
     }
     let level = number_of(words.level);
     write!(text, " in level {level} of ")?;
     push_shown_name(text, words.save)
+}
+
+/// Appends that a new file has space for fewer records than the one that it replaces, and how it gets the same space.
+fn push_space(text: &mut String, old: u32, new: u32) -> Result<(), AllocError> {
+    if new >= old {
+        return Ok(());
+    }
+    text.push_str("; space for ")?;
+    push_records(text, old)?;
+    text.push_str(" became ")?;
+    push_grouped(text, new)?;
+    if old > MOST_RECORDS {
+        // only --tracks gives so much
+        return text.push_str(" (--tracks gives more)");
+    }
+    write!(text, " (--records {old} keeps it)")
+}
+
+/// Appends that a new file is kept otherwise than the one that it replaces, and how it is kept in the same way.
+fn push_retention(text: &mut String, old: Retention, new: Retention) -> Result<(), AllocError> {
+    let (old, new) = (letter_of(old), letter_of(new));
+    if old == new {
+        return Ok(());
+    }
+    write!(
+        text,
+        "; retention {old} became {new} (--retain {old} keeps it)"
+    )
+}
+
+/// The letter of a retention.
+fn letter_of(retention: Retention) -> char {
+    match retention {
+        Retention::Temporary => 'T',
+        Retention::Scratch => 'S',
+        Retention::Permanent => 'P',
+    }
+}
+
+/// Appends a number of records.
+fn push_records(text: &mut String, count: u32) -> Result<(), AllocError> {
+    push_grouped(text, count)?;
+    text.push_str(if count == 1 { " record" } else { " records" })
 }
 
 /// Appends a number with a comma before its last three digits, if it has more.
@@ -684,17 +843,24 @@ fn two_digits(tens: u8, ones: u8) -> u8 {
     (tens % 16).saturating_mul(10).saturating_add(ones % 16)
 }
 
-/// Refuses options for a new file if the records are added to an existing one.
+/// Refuses options for a new file if the records are added to an existing one, and the option about types if no type is chosen.
 fn test_words(rt: &HostRuntime, matches: &ArgMatches<'_>) -> Result<(), Fault> {
     let is_new = matches.get_one::<u32>("records").is_some()
         || matches.get_one::<u16>("tracks").is_some()
         || matches.get_str("retain").is_some()
         || matches.get_str("date").is_some()
-        || matches.get_flag("new-shape");
+        || matches.get_flag("new-shape")
+        || matches.get_flag("drop-types");
     if is_new && matches.get_flag("append") {
         return Err(wrong_words(
             rt.alloc(),
-            "--records, --tracks, --retain, --date and --new-shape are of a new file, and with --append the file that is there stays as it was made; leave them out",
+            "--records, --tracks, --retain, --date, --new-shape and --drop-types are of a new file, and with --append the file that is there stays as it was made; leave them out",
+        ));
+    }
+    if matches.get_flag("drop-types") && matches.get_str("type").is_none() {
+        return Err(wrong_words(
+            rt.alloc(),
+            "--drop-types goes with --type; without it no type of records is chosen, so leave --drop-types out",
         ));
     }
     Ok(())

@@ -87,6 +87,18 @@ fn full_sentence(
     )
 }
 
+/// Why a file isn't replaced that has so many records of other types than the chosen one.
+pub fn other_types_sentence(alloc: Global, label: &str, others: u32) -> Result<String, AllocError> {
+    let records = if others == 1 {
+        "record of another type, which"
+    } else {
+        "records of other types, which"
+    };
+    format!(in alloc;
+        "the file {label} that is there has {others} {records} would be lost; add the records of the table by --append, or replace the whole file by --drop-types"
+    )
+}
+
 /// Why a file isn't replaced by one of another shape.
 fn shape_sentence(
     alloc: Global,

@@ -8,7 +8,7 @@ use clap::ArgMatches;
 use s3_cards::{LevelId, Name, is_name, to_ebcdic};
 use s3_host_files::{
     FileFault, Limit, LockedPack, StandardOutput, Target, is_empty_at, is_input, is_pack_at,
-    keep_save_apart, read_pack, read_to_save, save_new_pack, save_pack, shown_name,
+    keep_save_apart, read_pack, read_to_save, retried, save_new_pack, save_pack, shown_name,
 };
 use s3_journal::Work;
 use s3_labels::{LabelFault, MountFault};
@@ -16,9 +16,9 @@ use s3_listing::{FreeRoom, file_size, free_room};
 use s3_pack_care::CareFault;
 use s3_refusals::{Shown, beginning_words, is_closed};
 use std::alloc::{AllocError, Global};
+use std::io;
 use std::io::Write;
 use std::path::Path;
-use std::{fs, io};
 
 /// Why a text is no label.
 pub const NO_LABEL: &str =
@@ -172,7 +172,7 @@ pub fn pack_to_change(
 
 /// Refuses a path at which a file is there.
 pub fn refuse_file_there(rt: &HostRuntime, save: &str) -> Result<(), Fault> {
-    match fs::exists(rt, save) {
+    match retried::exists(rt, save) {
         Ok(false) => Ok(()),
         Ok(true) => match there_words(rt, save) {
             Ok(words) => Err(refused(Words::of_path(save).fill(rt.alloc(), words))),
@@ -200,7 +200,7 @@ fn there_words(rt: &HostRuntime, save: &str) -> io::Result<&'static str> {
 
 /// Whether a folder is at a path.
 fn is_folder(rt: &HostRuntime, path: &str) -> bool {
-    match fs::metadata(rt, path) {
+    match retried::metadata(rt, path) {
         Ok(found) => found.is_dir(),
         Err(_) => false,
     }

@@ -16,20 +16,19 @@
 use crate::fault::DayFault;
 use crate::numbering::{AtName, end_of_moves, ends_with_gap, kept_numbers, surplus};
 use crate::order::Order;
-use s3_host_files::{FileFault, LockedPack, is_pack_at, is_saved};
+use s3_host_files::{
+    FileFault, LockedPack, are_same, folder_of, followed, is_pack_at, is_saved, retried,
+    sync_if_kept,
+};
 use s3_refusals::{Reason, Shown};
 use std::alloc::{AllocError, Global};
-use std::fs::{File, Metadata};
+use std::fs::File;
+use std::io;
 use std::io::{ErrorKind, Write};
-use std::os::unix::fs::MetadataExt;
 use std::path::{Path, PathBuf};
-use std::{fs, io};
 
 /// The most packs that are kept.
 pub const MOST_KEPT: usize = 999;
-
-/// How many links are followed one after another.
-const LINK_LIMIT: u32 = 40;
 
 /// A pack that has a second name, by which it is kept after the save.
 #[derive(Drop)]
@@ -38,6 +37,8 @@ pub struct SetAside {
     place: PathBuf,
     /// How many packs are kept.
     count: usize,
+    /// Whether the removal of the oldest pack isn't reported, if no more than `count` packs were kept before.
+    is_quiet: bool,
 }
 
 /// The name under which a pack is kept, given the file of the pack; 0 is the number of a pack that a save is about to replace.
@@ -60,9 +61,37 @@ pub fn test_keeping<'a>(
     }
     test_names(rt, name, locked.place(), order.keep)?;
     match try_second_name(rt, locked.place()) {
-        Ok(()) => Ok(()),
+        Ok(()) => {}
+        Err(error) => return Err(not_kept(rt, name, &error)),
+    }
+    match numbers(rt, locked.place()) {
+        Ok(numbers) => Ok(report_more(rt, locked.place(), &numbers, order.keep)?),
         Err(error) => Err(not_kept(rt, name, &error)),
     }
+}
+
+/// Reports that more packs are kept than are wanted, before a save removes the oldest ones: they may be somebody's own.
+fn report_more(
+    rt: &HostRuntime,
+    place: Path<'_>,
+    numbers: &[usize],
+    count: usize,
+) -> Result<(), AllocError> {
+    if numbers.len() <= count {
+        return Ok(());
+    }
+    if let Some(last) = numbers.last() {
+        let (first, last) = (
+            kept_name(rt.alloc(), place, 1)?,
+            kept_name(rt.alloc(), place, *last)?,
+        );
+        let (kept, first, last) = (numbers.len(), Shown(first.as_str()), Shown(last.as_str()));
+        let _ = writeln!(
+            rt.stderr(),
+            "{kept} packs are kept as {first} to {last}, and --keep {count} keeps fewer, so the save removes the oldest ones; give --keep {kept}, or move away what must stay"
+        );
+    }
+    Ok(())
 }
 
 /// Refuses a save if something that isn't a pack has a name under which packs are kept.
@@ -112,8 +141,8 @@ fn try_second_name(rt: &HostRuntime, place: Path<'_>) -> io::Result<()> {
     if at_name(rt, spare.as_str())? != AtName::Nothing {
         return Ok(());
     }
-    fs::hard_link(rt, place, spare.as_str())?;
-    fs::remove_file(rt, spare.as_str())
+    retried::hard_link(rt, place, spare.as_str())?;
+    retried::remove_file(rt, spare.as_str())
 }
 
 impl SetAside {
@@ -125,7 +154,7 @@ impl SetAside {
     ) -> Result<Option<SetAside>, DayFault<'a>> {
         match (order.save, locked) {
             (Some(name), Some(locked)) if order.keep > 0 => {
-                SetAside::of_pack(rt, name, locked, order.keep)
+                SetAside::of_pack(rt, name, locked, order.keep, order.is_quiet)
             }
             _ => Ok(None),
         }
@@ -137,10 +166,12 @@ impl SetAside {
         name: &'a str,
         locked: &LockedPack,
         count: usize,
+        is_quiet: bool,
     ) -> Result<Option<SetAside>, DayFault<'a>> {
         let aside = SetAside {
             place: locked.place().to_path_buf(rt.alloc())?,
             count,
+            is_quiet,
         };
         match aside.set_aside(rt) {
             Ok(true) => Ok(Some(aside)),
@@ -162,7 +193,7 @@ impl SetAside {
             Ok(last) => {
                 // a killed save may have left a pack that takes the free number
                 test_names(rt, name, locked.place(), last.saturating_add(1))?;
-                SetAside::of_pack(rt, name, locked, MOST_KEPT)
+                SetAside::of_pack(rt, name, locked, MOST_KEPT, true)
             }
             Err(error) => Err(not_kept(rt, name, &error)),
         }
@@ -176,7 +207,7 @@ impl SetAside {
         if at_name(rt, spare.as_str())? == AtName::Pack && !are_one(rt, place, spare.as_str()) {
             self.move_up(rt)?;
         }
-        match fs::hard_link(rt, place, spare.as_str()) {
+        match retried::hard_link(rt, place, spare.as_str()) {
             Ok(()) => {}
             Err(error) if error.kind() == ErrorKind::NotFound => return Ok(false),
             // a killed save has given it this name
@@ -224,32 +255,23 @@ impl SetAside {
 
     /// Moves the packs that are kept to the next number. It returns how many were kept before.
     fn renumber(&self, rt: &HostRuntime) -> io::Result<usize> {
-        let before = self.numbers(rt)?;
+        let before = numbers(rt, self.place.as_path())?;
         self.move_up(rt)?;
         Ok(before.len())
     }
 
     /// Removes the packs that are too many, given how many were kept before the save.
     fn remove_surplus(&self, rt: &HostRuntime, before: usize) -> io::Result<()> {
-        let numbers = self.numbers(rt)?;
+        let numbers = numbers(rt, self.place.as_path())?;
         for number in surplus(&numbers, before, self.count) {
             let kept = kept_name(rt.alloc(), self.place.as_path(), *number)?;
-            fs::remove_file(rt, kept.as_str())?;
-        }
-        Ok(())
-    }
-
-    /// The numbers of the packs that are kept, ascending. A file that can't be read counts as something else than a pack.
-    fn numbers(&self, rt: &HostRuntime) -> io::Result<Vec<usize>> {
-        let mut names = Vec::new(rt.alloc());
-        for number in 1..MOST_KEPT + 1 {
-            let kept = kept_name(rt.alloc(), self.place.as_path(), number)?;
-            names.push(at_name(rt, kept.as_str()).unwrap_or(AtName::Other))?;
-            if ends_with_gap(&names) {
-                break;
+            retried::remove_file(rt, kept.as_str())?;
+            if !self.is_quiet || before > self.count {
+                let (kept, count) = (Shown(kept.as_str()), self.count);
+                let _ = writeln!(rt.stderr(), "{kept} is removed, as --keep {count} asks");
             }
         }
-        Ok(kept_numbers(rt.alloc(), &names)?)
+        Ok(())
     }
 
     /// Takes the second name away, if no new pack has the first one.
@@ -258,7 +280,7 @@ impl SetAside {
         if let Ok(spare) = kept_name(rt.alloc(), place, 0)
             && are_one(rt, place, spare.as_str())
         {
-            let _ = fs::remove_file(rt, spare.as_str());
+            let _ = retried::remove_file(rt, spare.as_str());
         }
     }
 
@@ -279,19 +301,29 @@ impl SetAside {
         let to = kept_name(rt.alloc(), place, number.saturating_add(1))?;
         if are_one(rt, Path::new(from.as_str()), to.as_str()) {
             // the system would leave both names
-            return fs::remove_file(rt, from.as_str());
+            return retried::remove_file(rt, from.as_str());
         }
-        fs::rename(rt, from.as_str(), to.as_str())
+        retried::rename(rt, from.as_str(), to.as_str())
     }
 
     /// Brings the names in the folder of the pack to the disk. Some file systems have no call for that.
     fn sync(&self, rt: &HostRuntime) -> io::Result<()> {
         let folder = File::open(rt, folder_of(self.place.as_path()))?;
-        match folder.sync_all() {
-            Err(error) if error.kind() == ErrorKind::InvalidInput => Ok(()),
-            done => done,
+        sync_if_kept(&folder)
+    }
+}
+
+/// The numbers of the packs that are kept for a pack, ascending. A file that can't be read counts as something else than a pack.
+fn numbers(rt: &HostRuntime, place: Path<'_>) -> io::Result<Vec<usize>> {
+    let mut names = Vec::new(rt.alloc());
+    for number in 1..MOST_KEPT + 1 {
+        let kept = kept_name(rt.alloc(), place, number)?;
+        names.push(at_name(rt, kept.as_str()).unwrap_or(AtName::Other))?;
+        if ends_with_gap(&names) {
+            break;
         }
     }
+    Ok(kept_numbers(rt.alloc(), &names)?)
 }
 
 /// The number that the last pack gets in the moves.
@@ -324,20 +356,16 @@ pub fn take_back(rt: &HostRuntime, aside: &Option<SetAside>) {
 }
 
 /// The path of a file, with no link at its end. Packs are kept in its folder.
-pub fn place_of(rt: &HostRuntime, name: &str) -> Result<PathBuf, AllocError> {
-    let mut place = Path::new(name).to_path_buf(rt.alloc())?;
-    for _link in 0..LINK_LIMIT {
-        let Ok(target) = fs::read_link(rt, place.as_path()) else {
-            break;
-        };
-        place = folder_of(place.as_path()).join(rt.alloc(), target.as_path())?;
+pub fn place_of<'a>(rt: &HostRuntime, name: &'a str) -> Result<PathBuf, DayFault<'a>> {
+    match followed(rt, name) {
+        Ok(place) => Ok(place),
+        Err(error) => Err(DayFault::of(&error, name)),
     }
-    Ok(place)
 }
 
 /// What has a name. A link is something else than a pack.
 fn at_name(rt: &HostRuntime, name: &str) -> io::Result<AtName> {
-    match fs::symlink_metadata(rt, name) {
+    match retried::symlink_metadata(rt, name) {
         Ok(found) => Ok(if found.is_file() && is_pack_at(rt, Path::new(name))? {
             AtName::Pack
         } else {
@@ -351,23 +379,11 @@ fn at_name(rt: &HostRuntime, name: &str) -> io::Result<AtName> {
 /// Whether two names are known to be those of one file.
 fn are_one(rt: &HostRuntime, place: Path<'_>, other: &str) -> bool {
     match (
-        fs::symlink_metadata(rt, place),
-        fs::symlink_metadata(rt, other),
+        retried::symlink_metadata(rt, place),
+        retried::symlink_metadata(rt, other),
     ) {
         (Ok(one), Ok(other)) => are_same(&one, &other),
         _ => false,
-    }
-}
-
-fn are_same(one: &Metadata, other: &Metadata) -> bool {
-    one.dev() == other.dev() && one.ino() == other.ino()
-}
-
-/// The folder of a file.
-fn folder_of<'n>(place: Path<'n>) -> Path<'n> {
-    match place.parent() {
-        Some(folder) if !folder.as_str().is_empty() => folder,
-        _ => Path::new("."),
     }
 }
 

@@ -3,9 +3,9 @@ ghost use Rattle.std.specs.Prelude.{◌≡◌};
 ghost use Rattle.s3_day_files.specs.Inner.Kinds.{is_begun_as as is_begun_as_spec};
 ghost use Rattle.s3_day_files.specs.declared.kind.Kind.TheVariants.{Script};
 
-use s3_host_files::beginning_of;
+use s3_host_files::{beginning_of, retried};
+use std::io;
 use std::io::ErrorKind;
-use std::{fs, io};
 
 /// What an output is.
 #[derive(Clone, Copy)]
@@ -25,7 +25,7 @@ impl Kind {
     /// Whether such an output may replace the file at a path: nothing is there, the file is empty, or begins as such an output does, or it
     /// isn't a regular file. It fails if the file can't be read.
     pub fn may_replace(self, rt: &HostRuntime, path: &str) -> io::Result<bool> {
-        match fs::metadata(rt, path) {
+        match retried::metadata(rt, path) {
             Ok(found) if found.is_file() => self.is_begun_at(rt, path),
             Ok(_) => Ok(true),
             Err(error) if error.kind() == ErrorKind::NotFound => Ok(true),
@@ -94,7 +94,7 @@ pub fn is_refused_log(rt: &HostRuntime, path: &str) -> bool {
 }
 
 fn begins_with_refusal(rt: &HostRuntime, path: &str) -> io::Result<bool> {
-    if !fs::metadata(rt, path)?.is_file() {
+    if !retried::metadata(rt, path)?.is_file() {
         return Ok(false);
     }
     let bytes = beginning_of(rt, path, REFUSED_TO)?;

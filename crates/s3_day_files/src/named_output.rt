@@ -1,11 +1,11 @@
 //! Outputs whose names are looked at while a day runs.
 
-use s3_host_files::{Kept, Output};
+use s3_host_files::{Kept, Output, retried};
 use s3_operating::{AtOutput, Lost};
 use std::alloc::AllocError;
+use std::io;
 use std::io::{ErrorKind, Write};
 use std::os::unix::fs::MetadataExt;
-use std::{fs, io};
 
 /// A regular file, by the device and the number that the system gives it.
 #[derive(Clone, Copy)]
@@ -17,7 +17,7 @@ pub struct FileId {
 impl FileId {
     /// The regular file that a path leads to, if it leads to one.
     fn find(rt: &HostRuntime, path: &str) -> Option<FileId> {
-        match fs::metadata(rt, path) {
+        match retried::metadata(rt, path) {
             Ok(found) if found.is_file() => Some(FileId {
                 device: found.dev(),
                 number: found.ino(),
@@ -28,7 +28,7 @@ impl FileId {
 
     /// What has the name of this file now; none if that can't be found out.
     fn at_name(self, rt: &HostRuntime, name: &str) -> Option<AtOutput> {
-        match fs::metadata(rt, name) {
+        match retried::metadata(rt, name) {
             Ok(found) if found.dev() == self.device && found.ino() == self.number => Some(
                 AtOutput::Same(found.len()),
             ),
@@ -120,7 +120,7 @@ impl KeptOutput {
 
 /// Why the file of this name doesn't have a text that was just written whole; none if it does, or is no regular file.
 pub(crate) fn lost_text(rt: &HostRuntime, name: &str, text: &[u8]) -> Option<Lost> {
-    match fs::metadata(rt, name) {
+    match retried::metadata(rt, name) {
         Ok(found) if !found.is_file() || found.len() == text.len() as u64 => None,
         Ok(_) => Some(Lost::Other),
         Err(error) if error.kind() == ErrorKind::NotFound => Some(Lost::Gone),

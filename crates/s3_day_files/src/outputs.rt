@@ -11,14 +11,14 @@ pub use s3_host_files::Output;
 use s3_host_files::{
     FileFault, Limit, LockedFolder, LockedPack, SHOWN_INPUT, STANDARD_INPUT, STREAMS,
     StandardStream, Target, WRITTEN, beginning_of, is_empty_at, is_input, is_pack_at, path_of,
-    prepare_save, stream_at,
+    prepare_save, retried, stream_at,
 };
 use s3_refusals::{Shown, holder_of, is_closed};
 use std::alloc::Global;
 use std::fs::Metadata;
+use std::io;
 use std::io::{ErrorKind, Write};
 use std::path::Path;
-use std::{fs, io};
 
 /// The outputs of a day, each of which can be written.
 #[derive(Drop)]
@@ -122,7 +122,7 @@ pub fn test_journal<'a>(rt: &HostRuntime, order: &Order<'a>) -> Result<(), DayFa
 
 /// Whether nothing has the name of a log, and it leads to no other file of the day.
 pub(crate) fn is_log_free(rt: &HostRuntime, order: &Order<'_>, name: &str) -> bool {
-    let Err(error) = fs::metadata(rt, name) else {
+    let Err(error) = retried::metadata(rt, name) else {
         return false;
     };
     match Target::find(rt, name) {
@@ -186,7 +186,7 @@ fn is_in_paper(rt: &HostRuntime, order: &Order<'_>, file: &Target) -> bool {
     let Some(paper) = order.paper else {
         return false;
     };
-    match fs::metadata(rt, paper.folder) {
+    match retried::metadata(rt, paper.folder) {
         Ok(found) => file.is_in(&found),
         Err(_) => leads_to(rt, Some(paper.folder), file),
     }
@@ -476,7 +476,7 @@ fn not_replaced<'a>(rt: &HostRuntime, name: &'a str, kind: Kind) -> DayFault<'a>
 
 /// Why no pack can be read at a path.
 fn no_pack<'a>(rt: &HostRuntime, name: &'a str) -> DayFault<'a> {
-    match fs::metadata(rt, name) {
+    match retried::metadata(rt, name) {
         Ok(found) if found.is_dir() => {
             DayFault::Call(name, io::Error::from(ErrorKind::IsADirectory))
         }
@@ -487,7 +487,7 @@ fn no_pack<'a>(rt: &HostRuntime, name: &'a str) -> DayFault<'a> {
 
 /// Whether a folder is at a path.
 fn is_folder(rt: &HostRuntime, path: &str) -> bool {
-    match fs::metadata(rt, path) {
+    match retried::metadata(rt, path) {
         Ok(found) => found.is_dir(),
         Err(_) => false,
     }
@@ -691,8 +691,8 @@ fn save_prepared<'a>(
 /// Removes files that were made by trying, and the folder of the pages.
 pub fn remove_made(rt: &HostRuntime, made: &[&str]) {
     for name in made {
-        if fs::remove_file(rt, *name).is_err() {
-            let _ = fs::remove_dir(rt, *name);
+        if retried::remove_file(rt, *name).is_err() {
+            let _ = retried::remove_dir(rt, *name);
         }
     }
 }
@@ -725,7 +725,7 @@ fn replace_text(
     name: &str,
     text: &[u8],
 ) -> io::Result<Vec<u8>> {
-    let old = if output.is_made() || !fs::metadata(rt, name)?.is_file() {
+    let old = if output.is_made() || !retried::metadata(rt, name)?.is_file() {
         Vec::new(rt.alloc())
     } else {
         beginning_of(rt, name, TEXT_LIMIT + 1)?

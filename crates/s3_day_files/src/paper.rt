@@ -4,11 +4,11 @@ use crate::fault::DayFault;
 use crate::outputs::Files;
 use clap::ArgMatches;
 use s3_host_files::{
-    Limit, LockedFolder, is_empty_folder, is_pack_at, make_folder, stream_in, test_folder,
+    Limit, LockedFolder, is_empty_folder, is_pack_at, make_folder, retried, stream_in, test_folder,
 };
 use s3_pages::{FormLook, PaperSize};
+use std::io;
 use std::io::ErrorKind;
-use std::{fs, io};
 
 /// How pages are written.
 #[derive(Clone, Copy)]
@@ -67,7 +67,7 @@ impl<'a> Paper<'a> {
         overwrites: bool,
         files: &Files<'a>,
     ) -> Result<(), DayFault<'a>> {
-        match fs::metadata(rt, self.folder) {
+        match retried::metadata(rt, self.folder) {
             Ok(found) => {
                 if let Some(name) = files.name_within(&found) {
                     return Err(DayFault::Within(name));
@@ -133,7 +133,7 @@ impl<'a> Paper<'a> {
 
 /// Whether a file in a folder is a pack.
 fn has_pack(rt: &HostRuntime, folder: &str) -> io::Result<bool> {
-    for entry in fs::read_dir(rt, folder)? {
+    for entry in retried::entries(rt, folder)? {
         if let Ok(entry) = entry
             && is_pack_at(rt, entry.path())?
         {

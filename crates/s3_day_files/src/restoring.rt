@@ -5,13 +5,12 @@ use crate::keeping::{SetAside, end_aside, place_of, take_back};
 use crate::kept_packs::{kept_packs, kept_with};
 use s3_day_log::checksum;
 use s3_host_files::{
-    FileFault, Limit, LockedPack, read_pack, read_to_save, save_new_pack, save_pack,
+    FileFault, Limit, LockedPack, read_pack, read_to_save, retried, save_new_pack, save_pack,
 };
 use s3_journal::{PostedDay, Work};
 use s3_journal_files::{JournalFile, NewLine, keep_journal_apart, read_journal};
 use s3_paper_commands::status::DONE;
 use s3_refusals::{Quoted, Shown};
-use std::fs;
 use std::io::{ErrorKind, Write};
 
 /// What is put back, and where.
@@ -73,7 +72,7 @@ impl Replaced {
 
 /// Whether no file is at a path.
 fn is_missing(rt: &HostRuntime, path: &str) -> bool {
-    matches!(fs::metadata(rt, path), Err(error) if error.kind() == ErrorKind::NotFound)
+    matches!(retried::metadata(rt, path), Err(error) if error.kind() == ErrorKind::NotFound)
 }
 
 /// Puts a pack back, given the journal and the pack that is replaced, which are locked.

@@ -3,10 +3,9 @@
 use crate::order::Order;
 use indexmap::IndexMap;
 use s3_cards::LevelId;
-use s3_host_files::is_input;
+use s3_host_files::{is_input, retried};
 use s3_refusals::Shown;
 use std::alloc::AllocError;
-use std::fs;
 use std::io::Write;
 use std::os::unix::fs::MetadataExt;
 
@@ -125,7 +124,7 @@ fn file_at(rt: &HostRuntime, name: &str) -> Option<(u64, u64)> {
     if is_input(name) {
         return None;
     }
-    let found = fs::metadata(rt, name).ok()?;
+    let found = retried::metadata(rt, name).ok()?;
     if found.is_file() {
         Some((found.dev(), found.ino()))
     } else {

@@ -6,11 +6,12 @@ use super::limits::Limit;
 use super::outputs::{keep_others_out, made_file};
 use super::reading::is_pack_at;
 use super::replacing::test_place;
+use super::retried;
 use super::streams::{StandardStream, WRITTEN, stream_at};
 use std::fs::File;
+use std::io;
 use std::io::ErrorKind;
 use std::path::{Path, PathBuf};
-use std::{fs, io};
 
 /// The name in whose folder a file is made, to try whether the folder takes new files.
 const TRIED: &str = "paper";
@@ -38,17 +39,16 @@ pub fn test_folder(rt: &HostRuntime, path: &str) -> io::Result<()> {
 /// Whether a folder has nothing in it. What a killed trial has left there is removed first.
 pub fn is_empty_folder(rt: &HostRuntime, path: &str) -> io::Result<bool> {
     remove_leftovers(rt, tried(rt, path)?.as_path(), None, &[]);
-    let mut entries = fs::read_dir(rt, path)?;
-    match entries.next() {
+    match retried::entries(rt, path)?.first() {
         Some(Ok(_)) => Ok(false),
-        Some(Err(error)) => Err(error),
+        Some(Err(error)) => Err(*error),
         None => Ok(true),
     }
 }
 
 /// The stream that is also a file in a folder: standard output, standard error, or none.
 pub fn stream_in(rt: &HostRuntime, path: &str) -> io::Result<Option<StandardStream>> {
-    for entry in fs::read_dir(rt, path)? {
+    for entry in retried::entries(rt, path)? {
         if let Ok(entry) = entry
             && let Some(stream) = stream_at(rt, entry.path().as_str(), &WRITTEN)
         {
@@ -80,7 +80,7 @@ pub fn create_anew(
 }
 
 fn remove_old(rt: &HostRuntime, path: &str) -> io::Result<()> {
-    match fs::remove_file(rt, path) {
+    match retried::remove_file(rt, path) {
         Err(error) if error.kind() != ErrorKind::NotFound => Err(error),
         _ => Ok(()),
     }

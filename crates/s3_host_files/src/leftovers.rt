@@ -4,10 +4,11 @@ use super::locking::lock;
 use super::naming::{Claim, is_leftover};
 use super::places::{are_same, existing, folder_of, leads_to};
 use super::reading::is_begun_pack;
+use super::retried;
 use std::alloc::AllocError;
 use std::fs::{File, Metadata, OpenOptions};
+use std::io;
 use std::path::Path;
-use std::{fs, io};
 
 /// The text between the name of a pack's file and the number of a new file.
 const INFIX: &str = ".new-";
@@ -37,7 +38,7 @@ fn numbered(rt: &HostRuntime, place: Path<'_>) -> io::Result<Vec<String>> {
     let alloc = rt.alloc();
     let mut found = Vec::new(alloc);
     let name = place.file_name().unwrap_or("");
-    for entry in fs::read_dir(rt, folder_of(place))? {
+    for entry in retried::entries(rt, folder_of(place))? {
         if let Ok(entry) = entry
             && let Some(number) = number_after(name, entry.file_name())
         {
@@ -61,7 +62,7 @@ fn remove_if_left(
     there: Option<&Metadata>,
     read: &[Option<&str>],
 ) -> io::Result<()> {
-    let found = fs::symlink_metadata(rt, path)?;
+    let found = retried::symlink_metadata(rt, path)?;
     if !found.is_file() {
         return Ok(());
     }
@@ -105,7 +106,7 @@ fn claim_by_lock(rt: &HostRuntime, path: &str, file: &File) -> io::Result<Claim>
 /// Removes the file of a name if it is a leftover.
 fn remove_by(rt: &HostRuntime, path: &str, claim: Claim, begins_as_pack: bool) -> io::Result<()> {
     if is_leftover(claim, begins_as_pack) {
-        fs::remove_file(rt, path)
+        retried::remove_file(rt, path)
     } else {
         Ok(())
     }

@@ -2,8 +2,9 @@
 //! and standard input and standard output.
 //!
 //! What is proved: how a new file gets the name of an old one, by what is found there (`choose_naming`), which files a pack may replace
-//! (`is_replaceable`), which files a save removes (`is_leftover`), after which saves the file is the new pack (`is_saved`), and the names
-//! of the standard streams (`StandardStream::name`). Each call is safe and returns. What files give and take isn't claimed: they are used as the toolchain offers them, and
+//! (`is_replaceable`), which files a save removes (`is_leftover`), after which saves the file is the new pack (`is_saved`), the names
+//! of the standard streams (`StandardStream::name`), and that calls are made again if a signal interrupts them (`retried::call`). Each
+//! call is safe and returns. What files give and take isn't claimed: they are used as the toolchain offers them, and
 //! `tools/search/kill-saves` and `tools/check/test-saves` test the saves.
 
 #![tactic(auto)]
@@ -20,6 +21,7 @@ mod outputs;
 mod places;
 mod reading;
 mod replacing;
+pub mod retried;
 mod standard_input;
 mod standard_output;
 mod streams;
@@ -33,10 +35,11 @@ pub use limits::{Limit, make_folder};
 pub use locking::LockedPack;
 pub use naming::Hindrance;
 pub use outputs::{Kept, Output};
-pub use places::{Target, lead_to_one_file};
-use places::{existing, followed};
+use places::existing;
+pub use places::{Target, are_same, folder_of, followed, lead_to_one_file, leads_to};
 use reading::read_up_to;
 pub use reading::{beginning_of, is_empty_at, is_pack_at};
+pub use replacing::has_no_links;
 use replacing::{replace, save_first, test_place, test_replacing};
 pub use standard_input::StandardInput;
 pub use standard_output::StandardOutput;
@@ -48,7 +51,7 @@ pub use streams::{
     STREAMS, StandardStream, WRITTEN, is_input_standard_error, is_standard_error, keep_apart,
     keep_save_apart, stream_at,
 };
-use syncing::sync_if_kept;
+pub use syncing::sync_if_kept;
 
 /// The bytes of 65,535 sectors, the most that a pack can have.
 const PACK_LIMIT: usize = 16_776_960;

@@ -3,6 +3,7 @@
 use super::input::path_of;
 use super::places::existing;
 use super::replacing::without_group;
+use super::retried;
 use super::streams::StandardStream;
 use std::fs::{DirBuilder, File, Metadata, Permissions};
 use std::os::unix::fs::{DirBuilderExt, MetadataExt, PermissionsExt};
@@ -41,7 +42,7 @@ impl Limit {
 
     /// Takes from an open file what the limit doesn't allow.
     pub fn restrict(&self, file: &File) -> io::Result<()> {
-        match self.reduced(&file.metadata()?) {
+        match self.reduced(&retried::metadata_of(file)?) {
             Some(mode) => file.set_permissions(Permissions::from_mode(mode)),
             None => Ok(()),
         }
@@ -92,5 +93,5 @@ pub fn make_folder(rt: &HostRuntime, path: &str, limit: Option<Limit>) -> io::Re
     if let Some(limit) = limit {
         builder.mode(limit.folder_mode());
     }
-    builder.create(rt, path)
+    retried::create_dir(rt, &builder, path)
 }

@@ -1,11 +1,11 @@
 //! The lock that keeps the file of a pack for one command.
 
-use super::PACK_LIMIT;
 use super::fault::FileFault;
 use super::last_change::LastChange;
 use super::naming::{AtName, Hindrance, Naming, choose_naming, is_replaceable};
 use super::places::{are_same, existing, followed, lead_to_one_file, leads_to};
 use super::reading::read_up_to;
+use super::{PACK_LIMIT, retried};
 use std::fs::{File, Metadata, OpenOptions, TryLockError};
 use std::io;
 use std::io::ErrorKind;
@@ -74,7 +74,7 @@ impl LockedPack {
     /// Reads a locked file.
     fn read(rt: &HostRuntime, place: PathBuf, file: File) -> io::Result<(Vec<u8>, LockedPack)> {
         let mut file = file;
-        let last_change = LastChange::of(&file.metadata()?);
+        let last_change = LastChange::of(&retried::metadata_of(&file)?);
         let bytes = read_up_to(rt, &mut file, PACK_LIMIT)?;
         let locked = LockedPack {
             place,
@@ -91,7 +91,7 @@ impl LockedPack {
 
     /// What the file is now.
     pub fn metadata(&self) -> io::Result<Metadata> {
-        self.file.metadata()
+        retried::metadata_of(&self.file)
     }
 
     /// How a new file gets the name of this one now.
@@ -130,7 +130,7 @@ impl LockedPack {
 
     /// Whether the file wasn't changed since it was read.
     fn is_unchanged(&self) -> io::Result<bool> {
-        Ok(LastChange::of(&self.file.metadata()?) == self.last_change)
+        Ok(LastChange::of(&self.metadata()?) == self.last_change)
     }
 }
 

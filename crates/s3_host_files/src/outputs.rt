@@ -5,6 +5,7 @@ use super::limits::Limit;
 use super::locking::{TURNS, lock};
 use super::places::{existing, followed, leads_to};
 use super::reading::is_pack_at;
+use super::retried;
 use super::streams::keep_apart;
 use super::syncing::{open_folder, sync_if_kept};
 use std::fs::{File, OpenOptions};
@@ -78,7 +79,7 @@ impl Output {
     /// Removes the old contents, once.
     fn empty(&mut self) -> io::Result<()> {
         if !self.is_emptied {
-            if self.file.metadata()?.is_file() {
+            if retried::metadata_of(&self.file)?.is_file() {
                 self.file.set_len(0)?;
                 self.restrict();
             }

@@ -1,11 +1,12 @@
 //! The target of a path, and what is there.
 
+use super::retried;
 use super::streams::{StandardStream, stream_of};
 use std::fs::{File, Metadata};
+use std::io;
 use std::io::ErrorKind;
 use std::os::unix::fs::MetadataExt;
 use std::path::{Path, PathBuf};
-use std::{fs, io};
 
 /// How many links are followed one after another.
 const LINK_LIMIT: u32 = 40;
@@ -21,7 +22,7 @@ fn followed_to(rt: &HostRuntime, path: &str) -> io::Result<(PathBuf, Option<Meta
     let alloc = rt.alloc();
     let mut place = Path::new(path).to_path_buf(alloc)?;
     for _link in 0..LINK_LIMIT {
-        match fs::symlink_metadata(rt, place.as_path()) {
+        match retried::symlink_metadata(rt, place.as_path()) {
             Ok(found) if found.is_symlink() => place = target_of(rt, place.as_path())?,
             Ok(found) => return Ok((place, Some(found))),
             Err(error) if error.kind() == ErrorKind::NotFound => return Ok((place, None)),
@@ -33,7 +34,7 @@ fn followed_to(rt: &HostRuntime, path: &str) -> io::Result<(PathBuf, Option<Meta
 
 /// The path that a link names, from its folder.
 fn target_of(rt: &HostRuntime, link: Path<'_>) -> io::Result<PathBuf> {
-    let target = fs::read_link(rt, link)?;
+    let target = retried::read_link(rt, link)?;
     match link.parent() {
         Some(folder) => Ok(folder.join(rt.alloc(), target.as_path())?),
         None => Ok(target),
@@ -42,7 +43,7 @@ fn target_of(rt: &HostRuntime, link: Path<'_>) -> io::Result<PathBuf> {
 
 /// What is at a path, if anything is.
 pub fn existing(rt: &HostRuntime, place: Path<'_>) -> io::Result<Option<Metadata>> {
-    match fs::metadata(rt, place) {
+    match retried::metadata(rt, place) {
         Ok(found) => Ok(Some(found)),
         Err(error) if error.kind() == ErrorKind::NotFound => Ok(None),
         Err(error) => Err(error),
@@ -59,7 +60,7 @@ pub fn folder_of<'a>(place: Path<'a>) -> Path<'a> {
 
 /// Whether two paths are known to lead to the same regular file. If not, the command that reads or saves there reports why.
 pub fn lead_to_one_file(rt: &HostRuntime, one: &str, other: &str) -> bool {
-    match fs::metadata(rt, one) {
+    match retried::metadata(rt, one) {
         Ok(file) if file.is_file() => is_at(rt, &file, other),
         _ => false,
     }
@@ -67,7 +68,7 @@ pub fn lead_to_one_file(rt: &HostRuntime, one: &str, other: &str) -> bool {
 
 /// Whether a path is known to lead to this file.
 pub fn is_at(rt: &HostRuntime, file: &Metadata, path: &str) -> bool {
-    match fs::metadata(rt, path) {
+    match retried::metadata(rt, path) {
         Ok(found) => are_same(file, &found),
         Err(_) => false,
     }
@@ -75,7 +76,7 @@ pub fn is_at(rt: &HostRuntime, file: &Metadata, path: &str) -> bool {
 
 /// Whether a path leads to an open file, and not to another one that has taken its name.
 pub fn leads_to(rt: &HostRuntime, place: Path<'_>, file: &File) -> io::Result<bool> {
-    let opened = file.metadata()?;
+    let opened = retried::metadata_of(file)?;
     match existing(rt, place)? {
         Some(found) => Ok(are_same(&found, &opened)),
         None => Ok(false),
@@ -99,7 +100,7 @@ impl Target {
     /// Follows a path. It fails if its folder can't be found.
     pub fn find(rt: &HostRuntime, path: &str) -> io::Result<Target> {
         let (place, found) = followed_to(rt, path)?;
-        let folder = fs::metadata(rt, folder_of(place.as_path()))?;
+        let folder = retried::metadata(rt, folder_of(place.as_path()))?;
         Ok(Target {
             found,
             folder,

@@ -3,6 +3,7 @@ ghost use Rattle.std.specs.Io.{ReadsAtMost};
 
 use super::naming::can_begin_pack;
 use super::places::existing;
+use super::retried::{TRIES, metadata_of};
 use std::alloc::AllocError;
 use std::fs::File;
 use std::io;
@@ -12,13 +13,10 @@ use std::path::Path;
 /// The most bytes that are asked of a file at once.
 const CHUNK: usize = 4_096;
 
-/// How often a read is tried that a signal interrupts.
-const TRIES: u32 = 1_000_000;
-
 /// Space for the contents of a file, up to a limit, so that they aren't moved while they are read. If the length of a file isn't known, as
 /// for a device, the space grows.
 fn space_for(rt: &HostRuntime, file: &File, limit: usize) -> Result<Vec<u8>, AllocError> {
-    let length = match file.metadata() {
+    let length = match metadata_of(file) {
         Ok(found) => usize::try_from(found.len()).unwrap_or(limit),
         Err(_) => 0,
     };

@@ -6,12 +6,13 @@ use super::limits::Limit;
 use super::locking::{LockedPack, lock};
 use super::naming::{Hindrance, Naming};
 use super::places::leads_to;
+use super::retried;
 use super::syncing::{open_folder, sync_if_kept};
 use std::fs::{File, Metadata, OpenOptions, Permissions};
+use std::io;
 use std::io::{ErrorKind, Write};
-use std::os::unix::fs::{MetadataExt, OpenOptionsExt, PermissionsExt, fchown};
+use std::os::unix::fs::{MetadataExt, OpenOptionsExt, PermissionsExt};
 use std::path::Path;
-use std::{fs, io};
 
 /// The mode of a file that only its owner may read. A new pack has it until it is whole.
 const PRIVATE: u32 = 0o600;
@@ -59,7 +60,7 @@ pub fn test_replacing(rt: &HostRuntime, locked: &LockedPack) -> Result<(), FileF
 pub fn test_place(rt: &HostRuntime, place: Path<'_>) -> io::Result<()> {
     let _folder = open_folder(rt, place)?;
     let empty = NewFile::beside(rt, place, PRIVATE)?;
-    fs::remove_file(rt, empty.path.as_str())
+    retried::remove_file(rt, empty.path.as_str())
 }
 
 /// Saves a pack under a name that no file has; `Exists` if one has it by now. The pack gets the mode of a new file, within a limit. The
@@ -85,8 +86,8 @@ pub fn save_first(
 /// The mode that the system gives a new file in the folder of another. It is read from an empty file, which is removed again.
 fn usual_mode(rt: &HostRuntime, place: Path<'_>) -> io::Result<u32> {
     let empty = NewFile::beside(rt, place, USUAL)?;
-    let found = empty.file.metadata();
-    fs::remove_file(rt, empty.path.as_str())?;
+    let found = retried::metadata_of(&empty.file);
+    retried::remove_file(rt, empty.path.as_str())?;
     Ok(found?.mode())
 }
 
@@ -103,7 +104,7 @@ fn finish(
         Err(fault) => Err(fault),
     };
     if named.is_err() {
-        let _ = fs::remove_file(rt, new.path.as_str());
+        let _ = retried::remove_file(rt, new.path.as_str());
         return named;
     }
     match sync_if_kept(folder) {
@@ -135,7 +136,7 @@ impl NewFile {
     fn fill_within(&mut self, bytes: &[u8], mode: u32, limit: Option<Limit>) -> io::Result<()> {
         self.file.write_all(bytes)?;
         let mode = match limit {
-            Some(limit) => mode & limit.allowed(&self.file.metadata()?),
+            Some(limit) => mode & limit.allowed(&retried::metadata_of(&self.file)?),
             None => mode,
         };
         self.file.set_permissions(Permissions::from_mode(mode))?;
@@ -145,8 +146,8 @@ impl NewFile {
     /// Gives the file the owner, the group and the mode of an old one, as far as the user may.
     fn take_after(&self, old: &Metadata) -> io::Result<()> {
         let group = Some(old.gid());
-        let keeps_group = fchown(&self.file, Some(old.uid()), group).is_ok()
-            || fchown(&self.file, None, group).is_ok();
+        let keeps_group = retried::change_owner(&self.file, Some(old.uid()), group).is_ok()
+            || retried::change_owner(&self.file, None, group).is_ok();
         let mode = if keeps_group {
             old.mode()
         } else {
@@ -163,7 +164,7 @@ impl NewFile {
         naming: Naming,
     ) -> Result<(), FileFault> {
         match naming {
-            Naming::Replaces => Ok(fs::rename(rt, self.path.as_str(), place)?),
+            Naming::Replaces => Ok(retried::rename(rt, self.path.as_str(), place)?),
             Naming::IsFirst => self.take_free_name(rt, place),
         }
     }
@@ -171,10 +172,10 @@ impl NewFile {
     /// Gives the file a name that nothing has; `Exists` if something has it. If the file system gives no file a second name, an empty
     /// file keeps the name first.
     fn take_free_name(&self, rt: &HostRuntime, place: Path<'_>) -> Result<(), FileFault> {
-        match fs::hard_link(rt, self.path.as_str(), place) {
+        match retried::hard_link(rt, self.path.as_str(), place) {
             Ok(()) => {
                 // if the first name can't be removed, the next save removes it
-                let _ = fs::remove_file(rt, self.path.as_str());
+                let _ = retried::remove_file(rt, self.path.as_str());
                 Ok(())
             }
             Err(error) if error.kind() == ErrorKind::AlreadyExists => Err(FileFault::Exists),
@@ -188,10 +189,10 @@ impl NewFile {
         let Some(_keeper) = claimed(rt, place.as_str(), PRIVATE)? else {
             return Err(FileFault::Exists);
         };
-        match fs::rename(rt, self.path.as_str(), place) {
+        match retried::rename(rt, self.path.as_str(), place) {
             Ok(()) => Ok(()),
             Err(error) => {
-                let _ = fs::remove_file(rt, place);
+                let _ = retried::remove_file(rt, place);
                 Err(FileFault::Call(error))
             }
         }
@@ -199,7 +200,7 @@ impl NewFile {
 }
 
 /// Whether a call failed because the file system gives no file a second name.
-fn has_no_links(error: &io::Error) -> bool {
+pub fn has_no_links(error: &io::Error) -> bool {
     matches!(
         error.kind(),
         ErrorKind::PermissionDenied | ErrorKind::Unsupported | ErrorKind::TooManyLinks
@@ -229,7 +230,7 @@ fn keep(rt: &HostRuntime, path: &str, file: File) -> io::Result<Option<File>> {
         Ok(true) => Ok(Some(file)),
         Ok(false) => Ok(None),
         Err(error) => {
-            let _ = fs::remove_file(rt, path);
+            let _ = retried::remove_file(rt, path);
             Err(error)
         }
     }

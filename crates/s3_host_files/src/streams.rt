@@ -4,7 +4,7 @@ ghost use Rattle.s3_host_files.specs.Inner.Streams.{stream_words};
 
 use super::fault::FileFault;
 use super::places::{are_same, is_at};
-use std::fs;
+use super::retried;
 use std::fs::Metadata;
 use std::io::IsTerminal;
 use std::os::unix::fs::FileTypeExt;
@@ -68,7 +68,7 @@ pub fn stream_at(
     path: &str,
     streams: &[StandardStream],
 ) -> Option<StandardStream> {
-    match fs::metadata(rt, path) {
+    match retried::metadata(rt, path) {
         Ok(found) => stream_of(rt, &found, streams),
         Err(_) => None,
     }
@@ -114,7 +114,10 @@ pub fn keep_save_apart(rt: &HostRuntime, path: &str) -> Result<(), FileFault> {
 
 /// Whether a path leads to the pipe or the terminal that a stream is.
 fn is_talk_at(rt: &HostRuntime, path: &str, stream: StandardStream) -> bool {
-    match (fs::metadata(rt, path), fs::metadata(rt, stream.path())) {
+    match (
+        retried::metadata(rt, path),
+        retried::metadata(rt, stream.path()),
+    ) {
         (Ok(found), Ok(other)) if are_same(&found, &other) => {
             found.file_type().is_fifo() || stream.is_terminal(rt)
         }

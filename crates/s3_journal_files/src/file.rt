@@ -1,6 +1,6 @@
 //! The file of a journal, kept until its command ends.
 
-use crate::opening::{BEGINNING, Opened, folder_of, is_lockable, leads_to, remove_second_name};
+use crate::opening::{BEGINNING, Opened, is_lockable, remove_second_name};
 use crate::reading::{Journal, read_journal};
 use crate::refusal::JournalRefusal;
 use crate::reports::{
@@ -8,13 +8,16 @@ use crate::reports::{
     report_posted, report_unknown, report_unwritten,
 };
 use s3_day_log::utc_text;
-use s3_host_files::{FileFault, Limit, is_saved};
+use s3_host_files::{
+    FileFault, Limit, folder_of, followed, is_saved, leads_to, retried, sync_if_kept,
+};
 use s3_journal::{PostedDay, Posting, Start, Work, line_of, start_of};
 use std::alloc::AllocError;
 use std::fs::File;
+use std::io;
 use std::io::Write;
+use std::path::Path;
 use std::time::{SystemTime, UNIX_EPOCH};
-use std::{fs, io};
 
 /// The pack over which a command begins.
 #[derive(Clone, Copy)]
@@ -65,7 +68,7 @@ impl<'a> JournalFile<'a> {
                 continue;
             };
             keep_others_out(&opened.file, name)?;
-            match leads_to(rt, name, &opened.file) {
+            match leads_to(rt, Path::new(name), &opened.file) {
                 Ok(true) => return JournalFile::read(rt, name, opened),
                 Ok(false) => {}
                 Err(error) => return Err(JournalRefusal::of(&error, name)),
@@ -184,7 +187,7 @@ impl<'a> JournalFile<'a> {
         work: Work,
     ) -> Result<(), JournalRefusal<'a>> {
         let line = self.line_for(rt, new, work)?;
-        match leads_to(rt, self.name, &self.file) {
+        match leads_to(rt, Path::new(self.name), &self.file) {
             Ok(true) => {}
             Ok(false) => {
                 report_gone(rt, self.name);
@@ -259,7 +262,7 @@ impl<'a> JournalFile<'a> {
         self.file.write_all(rest)?;
         self.file.sync_all()?;
         match &self.folder {
-            Some(folder) => synced_folder(folder),
+            Some(folder) => sync_if_kept(folder),
             None => Ok(()),
         }
     }
@@ -281,11 +284,11 @@ impl<'a> MadeJournal<'a> {
 
 /// Removes a locked journal that has no line, if the name still leads to it.
 fn remove_if_empty(rt: &HostRuntime, name: &str, file: &File) {
-    if let Ok(found) = file.metadata()
+    if let Ok(found) = retried::metadata_of(file)
         && found.len() <= BEGINNING.len() as u64
-        && matches!(leads_to(rt, name, file), Ok(true))
+        && matches!(leads_to(rt, Path::new(name), file), Ok(true))
     {
-        let _ = fs::remove_file(rt, name);
+        let _ = retried::remove_file(rt, name);
     }
 }
 
@@ -300,14 +303,6 @@ fn seconds(rt: &HostRuntime) -> u64 {
     }
 }
 
-/// Brings the names of a folder to the disk. Some file systems have no call for that.
-fn synced_folder(folder: &File) -> io::Result<()> {
-    match folder.sync_all() {
-        Err(error) if error.kind() == io::ErrorKind::InvalidInput => Ok(()),
-        done => done,
-    }
-}
-
 /// Locks a journal; refused if another command has it. If the file system has no locks, it is used without one.
 fn keep_others_out<'a>(file: &File, name: &'a str) -> Result<(), JournalRefusal<'a>> {
     if is_lockable(file) {
@@ -319,7 +314,8 @@ fn keep_others_out<'a>(file: &File, name: &'a str) -> Result<(), JournalRefusal<
 
 /// The folder of a journal, opened; none if it may not be read.
 fn opened_folder(rt: &HostRuntime, name: &str) -> io::Result<Option<File>> {
-    match File::open(rt, folder_of(name)) {
+    let place = followed(rt, name)?;
+    match File::open(rt, folder_of(place.as_path())) {
         Ok(folder) => Ok(Some(folder)),
         Err(error) if error.kind() == io::ErrorKind::PermissionDenied => Ok(None),
         Err(error) => Err(error),

@@ -1,19 +1,16 @@
 //! A journal that is opened, or made. A new journal has the beginning of its first line: one that has no byte was emptied.
 
 use crate::refusal::JournalRefusal;
-use s3_host_files::{Limit, read_within};
+use s3_host_files::{Limit, followed, has_no_links, leads_to, read_within, retried};
 use std::alloc::AllocError;
 use std::fs::{File, OpenOptions, TryLockError};
+use std::io;
 use std::io::{ErrorKind, Write};
-use std::os::unix::fs::{MetadataExt, OpenOptionsExt};
-use std::path::{Path, PathBuf};
-use std::{fs, io};
+use std::os::unix::fs::OpenOptionsExt;
+use std::path::Path;
 
 /// The mode of a new journal of a new pack.
 const NEW_MODE: u32 = 0o666;
-
-/// How many links are followed one after another.
-const LINK_LIMIT: u32 = 40;
 
 /// The text between the name of a journal and the number of a new file that gets this name.
 const INFIX: &str = ".new-";
@@ -40,7 +37,7 @@ impl Opened {
             Some(limit) => limit.mode(),
             None => NEW_MODE,
         };
-        let opened = match fs::metadata(rt, name) {
+        let opened = match retried::metadata(rt, name) {
             Ok(found) if !found.is_file() => return Err(JournalRefusal::NoJournal(name)),
             Ok(_) => Opened::there(rt, name),
             Err(error) if error.kind() == ErrorKind::NotFound => Opened::made(rt, name, mode),
@@ -66,7 +63,7 @@ impl Opened {
 
     /// Makes a journal with a mode: a new file beside it, which is never empty under the journal's name.
     fn made(rt: &HostRuntime, name: &str, mode: u32) -> io::Result<Option<Opened>> {
-        let place = place_of(rt, name)?;
+        let place = followed(rt, name)?;
         for number in 0..u32::MAX {
             let path = beside(rt, place.as_path(), number)?;
             match created(rt, path.as_str(), mode) {
@@ -96,7 +93,7 @@ impl Opened {
         }
         let done = begin_as(rt, place, path, &mut file);
         // if this name can't be removed, the next command with the journal removes it
-        let _ = fs::remove_file(rt, path);
+        let _ = retried::remove_file(rt, path);
         match done {
             Ok(()) => Ok(Some(Opened {
                 file,
@@ -132,45 +129,15 @@ pub(crate) fn remove_second_name(rt: &HostRuntime, name: &str, file: &File) {
 }
 
 fn remove_second(rt: &HostRuntime, name: &str, file: &File) -> io::Result<()> {
-    let place = place_of(rt, name)?;
+    let place = followed(rt, name)?;
     for number in 0..u32::MAX {
         let path = beside(rt, place.as_path(), number)?;
-        let found = fs::symlink_metadata(rt, path.as_str())?;
-        if found.is_file() && leads_to(rt, path.as_str(), file)? {
-            return fs::remove_file(rt, path.as_str());
+        let found = retried::symlink_metadata(rt, path.as_str())?;
+        if found.is_file() && leads_to(rt, Path::new(path.as_str()), file)? {
+            return retried::remove_file(rt, path.as_str());
         }
     }
     Ok(())
-}
-
-/// Whether a path leads to an open file. Another command may have removed or replaced a journal before it was locked.
-pub(crate) fn leads_to(rt: &HostRuntime, name: &str, file: &File) -> io::Result<bool> {
-    let opened = file.metadata()?;
-    match fs::metadata(rt, name) {
-        Ok(there) => Ok(there.dev() == opened.dev() && there.ino() == opened.ino()),
-        Err(error) if error.kind() == ErrorKind::NotFound => Ok(false),
-        Err(error) => Err(error),
-    }
-}
-
-/// The folder of a file.
-pub(crate) fn folder_of<'n>(name: &'n str) -> Path<'n> {
-    match Path::new(name).parent() {
-        Some(folder) if !folder.as_os_str().is_empty() => folder,
-        _ => Path::new("."),
-    }
-}
-
-/// The path at the end of the links that a name leads to.
-fn place_of(rt: &HostRuntime, name: &str) -> Result<PathBuf, AllocError> {
-    let mut place = Path::new(name).to_path_buf(rt.alloc())?;
-    for _link in 0..LINK_LIMIT {
-        let Ok(target) = fs::read_link(rt, place.as_path()) else {
-            break;
-        };
-        place = folder_of(place.as_path().as_str()).join(rt.alloc(), target.as_path())?;
-    }
-    Ok(place)
 }
 
 /// The path of a new file beside a journal.
@@ -189,20 +156,12 @@ fn created(rt: &HostRuntime, path: &str, mode: u32) -> io::Result<File> {
 fn begin_as(rt: &HostRuntime, place: Path<'_>, path: &str, file: &mut File) -> io::Result<()> {
     file.write_all(BEGINNING.as_bytes())?;
     file.sync_all()?;
-    fs::hard_link(rt, path, place)
-}
-
-/// Whether a call failed because the file system gives no file a second name.
-fn has_no_links(error: &io::Error) -> bool {
-    matches!(
-        error.kind(),
-        ErrorKind::PermissionDenied | ErrorKind::Unsupported | ErrorKind::TooManyLinks
-    )
+    retried::hard_link(rt, path, place)
 }
 
 /// Locks a file that was created, unless another start took it for a leftover and has locked or removed it.
 fn is_ours(rt: &HostRuntime, path: &str, file: &File) -> io::Result<bool> {
-    Ok(is_lockable(file) && leads_to(rt, path, file)?)
+    Ok(is_lockable(file) && leads_to(rt, Path::new(path), file)?)
 }
 
 /// Locks a file; false if another command has it. If the file system has no locks, it is used without one.
@@ -219,7 +178,7 @@ fn is_freed(rt: &HostRuntime, path: &str) -> bool {
 }
 
 fn freed(rt: &HostRuntime, path: &str) -> io::Result<bool> {
-    let found = fs::symlink_metadata(rt, path)?;
+    let found = retried::symlink_metadata(rt, path)?;
     if !found.is_file() || found.len() > BEGINNING.len() as u64 {
         return Ok(false);
     }
@@ -232,6 +191,6 @@ fn freed(rt: &HostRuntime, path: &str) -> io::Result<bool> {
     if !BEGINNING.as_bytes().starts_with(&bytes) {
         return Ok(false);
     }
-    fs::remove_file(rt, path)?;
+    retried::remove_file(rt, path)?;
     Ok(true)
 }

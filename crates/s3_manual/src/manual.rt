@@ -21,10 +21,13 @@ pub enum Manual<'a> {
     NoPage(&'a str),
 }
 
-/// Whether a command line asks for a page of the manual, or for completions.
+/// Whether a command line asks for a page of the manual, for completions, or for the help of `bureau help` itself.
 pub fn is_manual(words: &[String]) -> bool {
-    is_word(words, 1, "help") && (is_word(words, 2, "man") || is_word(words, 2, "completions"))
+    is_word(words, 1, "help") && OF_MANUAL.iter().any(|word| is_word(words, 2, *word))
 }
+
+/// The words after `bureau help` that aren't commands of the program.
+const OF_MANUAL: [&'static str; 5] = ["man", "completions", "help", "--help", "-h"];
 
 /// Whether the word at a place of a command line is this one.
 fn is_word(words: &[String], place: usize, wanted: &str) -> bool {
@@ -37,9 +40,8 @@ fn is_word(words: &[String], place: usize, wanted: &str) -> bool {
 /// The parser of such a command line.
 pub fn manual_parser<'a>(alloc: Global) -> Result<Command<'a>, AllocError> {
     let help = Command::new(alloc, "help")
-        .about("Prints a page of the manual, or completions")
+        .about("Prints the help of a command (bureau help COMMAND), a page of the manual, or completions")
         .subcommand_required(true)
-        .disable_help_subcommand(true)
         .subcommand(man_parser(alloc)?)?
         .subcommand(completions_parser(alloc)?)?;
     Command::new(alloc, "bureau")

@@ -5,6 +5,7 @@ ghost use Rattle.s3_desk.specs.Inner.Events.{Event};
 use s3_bureau::Halt;
 use s3_cards::LevelId;
 use s3_desk::{Machine, Operator, Papers};
+use s3_host_files::retried;
 use s3_replay::Performed;
 use s3_reports::Reports;
 use std::alloc::AllocError;
@@ -23,7 +24,7 @@ impl HeldFile {
     fn open(rt: &HostRuntime, name: &str) -> Option<HeldFile> {
         let mut options = OpenOptions::new();
         let file = options.write(true).open(rt, name).ok()?;
-        let found = file.metadata().ok()?;
+        let found = retried::metadata_of(&file).ok()?;
         if found.is_file() && found.len() == 0 {
             Some(HeldFile { file })
         } else {

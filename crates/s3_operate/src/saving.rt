@@ -13,7 +13,7 @@ use s3_host_files::{
 };
 use s3_journal::LevelCount;
 use s3_operating::{Lost, PackEnd};
-use s3_paper_commands::status::FILE_FAILED;
+use s3_paper_commands::status::{DONE, FILE_FAILED, PASSED_OVER, PERSON_NEEDED};
 use s3_refusals::{Reason, Shown};
 use std::alloc::{AllocError, Global};
 use std::io;
@@ -240,6 +240,27 @@ fn sync_log<'n>(
     }
 }
 
+/// Brings what the log has so far to the disk, unless the operator continued without it.
+fn sync_lines<'n>(
+    rt: &HostRuntime,
+    order: &Order<'n>,
+    desk: &OwnDesk<'_>,
+    kept: &KeptOutputs,
+) -> Result<(), DayFault<'n>> {
+    match (&kept.log, order.log) {
+        (Some(output), Some(name)) if desk.has_log() => bring(rt, output, name),
+        _ => Ok(()),
+    }
+}
+
+/// Brings an output to the disk.
+fn bring<'n>(rt: &HostRuntime, output: &KeptOutput, name: &'n str) -> Result<(), DayFault<'n>> {
+    match output.sync() {
+        Ok(()) => Ok(()),
+        Err(error) => Err(unsynced(rt, name, &error)),
+    }
+}
+
 /// Brings an output to the disk, whose file must still have its name and at least so many bytes.
 fn sync<'n>(
     rt: &HostRuntime,
@@ -250,9 +271,7 @@ fn sync<'n>(
     let (Some(output), Some(name)) = (output, name) else {
         return Ok(());
     };
-    if let Err(error) = output.sync() {
-        return Err(unsynced(rt, name, &error));
-    }
+    bring(rt, output, name)?;
     match output.lost(rt, name, written) {
         Some(lost) => Err(lost_name(rt, name, lost)),
         None => Ok(()),
@@ -394,7 +413,8 @@ fn end_failed<'n>(
     report_failed(rt, path, fault);
     report_whole_day(rt, order);
     let fault = DayFault::of_pack(fault, path);
-    log_end(rt, order, desk, kept, fault.status(), None)?;
+    // the fault is the one that came first
+    let _ = log_end(rt, order, desk, kept, fault.status(), None);
     Err(fault)
 }
 
@@ -433,7 +453,10 @@ fn end_unsaved<'n>(
     end: PackEnd,
 ) -> Result<u8, DayFault<'n>> {
     match order.save {
-        Some(path) => report_unsaved(rt, order, path, reason_of(end)),
+        Some(path) => {
+            report_unsaved(rt, order, path, reason_of(end));
+            report_redo(rt, order, desk, end);
+        }
         None if over.is_reported(order) => desk.tell("nothing is saved: there is no --save\n"),
         None => {}
     }
@@ -443,6 +466,17 @@ fn end_unsaved<'n>(
     let status = status_of(over.closing.verdict, end);
     log_end(rt, order, desk, kept, status, None)?;
     Ok(status)
+}
+
+/// Reports how the replies of an unfinished day can be given again, if it has a log.
+fn report_redo(rt: &HostRuntime, order: &Order<'_>, desk: &OwnDesk<'_>, end: PackEnd) {
+    if let (PackEnd::Unfinished, Some(log), true) = (end, order.log, desk.has_log()) {
+        let log = Shown(log);
+        let _ = writeln!(
+            rt.stderr(),
+            "--redo {log} gives the replies so far again; give --log another name then"
+        );
+    }
 }
 
 /// Why the pack isn't saved: the end of a sentence.
@@ -456,7 +490,8 @@ fn reason_of(end: PackEnd) -> &'static str {
     }
 }
 
-/// Logs the end of the day, and brings the log to the disk.
+/// Logs the end of the day, and brings the log to the disk: all lines before the last one first, so that the last line has the status of a
+/// log that can't be brought there. Only if the last line alone can't be, the day's status is another one.
 fn log_end<'n>(
     rt: &HostRuntime,
     order: &Order<'n>,
@@ -465,12 +500,23 @@ fn log_end<'n>(
     status: u8,
     saved: Option<NamedFile>,
 ) -> Result<(), DayFault<'n>> {
+    let synced = sync_lines(rt, order, desk, kept);
+    let status = logged_status(status, &synced);
     if desk.has_log() {
         desk.note(Event::End(DayOver { status, saved }))?;
     }
     desk.tell_log_failure()?;
     test_written(order, desk)?;
+    synced?;
     sync_log(rt, order, desk, kept)
+}
+
+/// The status of a day that ends with this one, or with a fault if its log can't be brought to the disk. The first fault counts.
+fn logged_status(status: u8, synced: &Result<(), DayFault<'_>>) -> u8 {
+    match (status, synced) {
+        (DONE | PERSON_NEEDED | PASSED_OVER, Err(fault)) => fault.status(),
+        _ => status,
+    }
 }
 
 /// The pack as the log has it.

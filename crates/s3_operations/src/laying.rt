@@ -53,11 +53,13 @@ fn lay_ends<const N: usize>(target: &mut [u8], first: &[u8; N], last: &[u8; N])
     requires covers { length target.old ≤ 2 * N }
     ensures { (text : List ℕ) → length text ≡ length target.old → first.now ≡ take N text → last.now ≡ drop (length text - N) text → target.new ≡ text }
 {
-    if let Some(start) = target.first_chunk_mut::<N>() {
-        *start = *first;
+    match target.first_chunk_mut::<N>() {
+        Some(start) => *start = *first,
+        None => unreachable!(),
     }
-    if let Some(end) = target.last_chunk_mut::<N>() {
-        *end = *last;
+    match target.last_chunk_mut::<N>() {
+        Some(end) => *end = *last,
+        None => unreachable!(),
     }
 }
 

@@ -204,7 +204,6 @@ impl Texts {
     }
 
     /// Moves the zoned bytes of a number into the text that lies there, right to right.
-    #[inline(never)]
     pub fn put_number(&mut self, span: Span, number: Dec)
         requires { LiesIn self.old span }
         ensures { self.new ≡ with_part self.old span (moved_right (zoned number.digits number.value) (text_on self.old.bytes span)) }

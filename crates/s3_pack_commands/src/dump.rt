@@ -2,9 +2,10 @@
 ghost use Rattle.std.specs.Prelude.{◌≤◌};
 
 use crate::dump_layouts::{asked_files, file_layouts, layouts_found, missing_notes};
+use crate::record_lines::{LongRecord, long_record};
 use clap::ArgMatches;
 use s3_data_commands::fault::{Fault, Use, of_call, of_pack};
-use s3_data_commands::filled::Words;
+use s3_data_commands::filled::{Words, push_name};
 use s3_data_commands::pack_words::{
     Save, output_beside, pack_of, refuse_file_there, refused, saved, tell, tell_done,
 };
@@ -12,9 +13,9 @@ use s3_data_commands::sentences::{output_sentence, unread_sentence};
 use s3_data_commands::standard_input::{InputFault, read_input};
 use s3_data_commands::words::{LAYOUT_PLAIN, OVERWRITE, PACK, SAVE};
 use s3_dump::{RestoreFault, Unlaid};
-use s3_host_files::{StandardOutput, keep_save_apart, save_new_pack};
+use s3_host_files::{StandardOutput, keep_save_apart, retried, save_new_pack};
 use s3_journal::Work;
-use s3_labels::MountFault;
+use s3_labels::{AreaSlots, MountFault};
 use s3_listing::{ListFault, mount_slots};
 use s3_paper_commands::status::{
     DONE, FILE_WRONG, NOTHING_SAVED, OPTIONS_WRONG, PACK_SAVED, PERSON_NEEDED, REFUSED,
@@ -22,8 +23,8 @@ use s3_paper_commands::status::{
 use s3_paper_commands::words::{CommandWords, Example, Status, Takes, Word, value_of};
 use s3_refusals::{WideText, beginning_words, begins_as_pack, wide_text};
 use std::alloc::{AllocError, Global};
+use std::io;
 use std::io::{IsTerminal, Write};
-use std::{fs, io};
 
 /// The refusal of a text that is too long.
 const TOO_LONG: &str =
@@ -169,9 +170,13 @@ fn save_restored(rt: &HostRuntime, matches: &ArgMatches<'_>, save: &str) -> Resu
     let text = dump_text(rt)?;
     refuse_second_dump(rt, &text)?;
     let pack = restored(rt, &text)?;
-    match fault_in(rt.alloc(), &pack)? {
-        None => save_good(rt, matches, save, &pack),
-        Some(fault) => save_damaged(rt, save, line_ends(&text), fault, &pack),
+    match mount_slots(rt.alloc(), &pack) {
+        Ok(areas) => {
+            refuse_long_record(rt, &text, &areas)?;
+            save_good(rt, matches, save, &pack)
+        }
+        Err(ListFault::Mount(fault)) => save_damaged(rt, save, line_ends(&text), fault, &pack),
+        Err(_) => Err(Fault::NoMemory),
     }
 }
 
@@ -230,6 +235,31 @@ fn refuse_second_dump(rt: &HostRuntime, text: &[u8]) -> Result<(), Fault> {
     }
 }
 
+/// Refuses a text in which a record has more bytes than the records of its file.
+fn refuse_long_record(rt: &HostRuntime, text: &[u8], areas: &AreaSlots) -> Result<(), Fault> {
+    match long_record(text, areas) {
+        Some(found) => Err(refused(long_sentence(rt.alloc(), found))),
+        None => Ok(()),
+    }
+}
+
+/// Why a dump with a record that is too long isn't restored.
+fn long_sentence(alloc: Global, found: LongRecord) -> Result<String, AllocError> {
+    let (line, bytes) = (found.line, found.bytes);
+    let (area, length) = (found.area, found.record_length);
+    let mut text = String::new(alloc);
+    write!(
+        text,
+        "line {line} of standard input has {bytes} bytes, and a record of "
+    )?;
+    push_name(&mut text, Some(found.name))?;
+    write!(
+        text,
+        " in area {area} has {length}, so all bytes after it would be in the wrong place; shorten the line"
+    )?;
+    Ok(text)
+}
+
 /// The number of the line, from 1, with which a second dump begins in a text, if one does.
 fn second_dump(text: &[u8]) -> Option<u64> {
     let mut number = 0u64;
@@ -252,7 +282,7 @@ fn save_damaged(
     pack: &[u8],
 ) -> Result<(), Fault> {
     let words = Words::of_path(save).with_number(line);
-    match fs::exists(rt, save) {
+    match retried::exists(rt, save) {
         Ok(false) => {}
         Ok(true) => return Err(refused(words.fill(rt.alloc(), kept_words(fault)))),
         Err(error) => return Err(of_call(rt, Use::Saves, &error, save)),
@@ -300,15 +330,6 @@ fn restored(rt: &HostRuntime, text: &[u8]) -> Result<Vec<u8>, Fault> {
         rt.alloc(),
         "standard input isn't the dump of a pack: its bytes don't begin with S3PACK01 or S3PACK02; give the whole text that `bureau dump` printed",
     )))
-}
-
-/// Why a pack can't be used, if it can't.
-fn fault_in(alloc: Global, pack: &[u8]) -> Result<Option<MountFault>, Fault> {
-    match mount_slots(alloc, pack) {
-        Ok(_) => Ok(None),
-        Err(ListFault::Mount(fault)) => Ok(Some(fault)),
-        Err(_) => Err(Fault::NoMemory),
-    }
 }
 
 /// The text of standard input. One that is too long is refused.

@@ -10,4 +10,5 @@ mod amend_sentences;
 pub mod check;
 pub mod dump;
 mod dump_layouts;
+mod record_lines;
 mod shown_record;

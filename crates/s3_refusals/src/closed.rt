@@ -1,12 +1,12 @@
 //! Files that this user may not read.
 
-use std::fs;
+use s3_host_files::retried;
 use std::fs::File;
 use std::io::ErrorKind;
 
 /// Whether a regular file is at a path, and this user may not read it.
 pub fn is_closed(rt: &HostRuntime, path: &str) -> bool {
-    match fs::metadata(rt, path) {
+    match retried::metadata(rt, path) {
         Ok(found) => found.is_file() && is_denied(rt, path),
         Err(_) => false,
     }

@@ -1,6 +1,7 @@
 //! The process that holds the lock on a file.
 
 use s3_decks::Shown;
+use s3_host_files::retried;
 use std::fs;
 use std::io::Write;
 use std::os::unix::fs::MetadataExt;
@@ -10,7 +11,7 @@ const LOCKS: &str = "/proc/locks";
 
 /// The process that holds the lock on a file, if the system lists it.
 pub fn holder_of(rt: &HostRuntime, path: &str) -> Option<u32> {
-    let found = fs::metadata(rt, path).ok()?;
+    let found = retried::metadata(rt, path).ok()?;
     let file = Place::of(found.dev(), found.ino());
     let locks = fs::read_to_string(rt, LOCKS).ok()?;
     locks.lines().find_map(|line| process_in(line, file))

@@ -78,7 +78,10 @@ impl Course {
             begin: self.here.begin,
             place: place + 1,
         });
-        self.here = Spot::subroutine(program, line, begsr);
+        let first = Spot::subroutine(program, line, begsr);
+        self.here.section = first.section;
+        self.here.begin = first.begin;
+        self.here.place = first.place;
     }
 
     /// At the end of a section, continues after the EXSR that called it; false if no EXSR did.
@@ -87,7 +90,9 @@ impl Course {
     {
         match self.returns.last() {
             Some(spot) => {
-                self.here = *spot;
+                self.here.section = spot.section;
+                self.here.begin = spot.begin;
+                self.here.place = spot.place;
                 self.returns.pop();
                 true
             }

@@ -177,12 +177,15 @@ results =
 abbrev pub put : (end : ℕ) → SheetLine
 put end = put_field name_a Plain end
 
-abbrev pub put_if : Condition → (end : ℕ) → SheetLine
-put_if condition end = sheet.Output (output.Field (record {
-  conditions = Some condition ∷ None ∷ None ∷ [];
+abbrev pub put_under : List (Option Condition) → (end : ℕ) → SheetLine
+put_under conditions end = sheet.Output (output.Field (record {
+  conditions = conditions;
   content = content.Field (record { name = name_a; form = Plain; blank_after = false });
   «end» = end;
 }))
+
+abbrev pub put_if : Condition → (end : ℕ) → SheetLine
+put_if condition end = put_under (Some condition ∷ None ∷ None ∷ []) end
 
 -- the print file's line is card 5
 abbrev pub printed : List SheetLine → List SheetLine
@@ -200,10 +203,24 @@ overlapping =
     -- packed it takes 2
     (printed (put 6 ∷ put_field name_a Packed 8 ∷ []), [])
     ∷
-    -- one with conditions may cover another one, and isn't covered without a warning
+    -- one with a condition may cover one without, and isn't covered by it without a warning
     (printed (put 6 ∷ put_if (on (General 1)) 6 ∷ []), [])
     ∷
     (printed (put_if (on (General 1)) 6 ∷ put 6 ∷ []), warning Overlap 7 40 43 ∷ [])
+    ∷
+    -- under the same condition it covers it each time, under another one it may do so on purpose
+    (printed (put_if (on (General 1)) 6 ∷ put_if (on (General 1)) 8 ∷ put_if (on (General 1)) 11 ∷ []), warning Overlap 7 40 43 ∷ [])
+    ∷
+    (printed (put_if (on (General 1)) 6 ∷ put_if (on (Switch 1)) 6 ∷ put_if (off (General 1)) 6 ∷ []), [])
+    ∷
+    (printed (put_if (on (General 1)) 6 ∷ put_if (off (General 1)) 6 ∷ put_if (on (General 1)) 6 ∷ []), warning Overlap 8 40 43 ∷ [])
+    ∷
+    -- the conditions in another order, fewer, and more
+    (printed (put_under (two (on (General 1)) (off (Switch 1))) 6 ∷ put_under (two (off (Switch 1)) (on (General 1))) 6 ∷ []), warning Overlap 7 40 43 ∷ [])
+    ∷
+    (printed (put_under (two (on (General 1)) (off (Switch 1))) 6 ∷ put_if (off (Switch 1)) 6 ∷ []), warning Overlap 7 40 43 ∷ [])
+    ∷
+    (printed (put_if (off (Switch 1)) 6 ∷ put_under (two (on (General 1)) (off (Switch 1))) 6 ∷ []), [])
     ∷
     -- another line
     (printed (put 6 ∷ line_card None ∷ put 6 ∷ []), [])

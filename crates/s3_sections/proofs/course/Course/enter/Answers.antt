@@ -24,10 +24,10 @@ returns c =
     c.push.ensures.items ∙ ap (λ n. c.args.self.now.returns.items ++ (record c.args.self.now.here { place = n }) ∷ []) one in
     record {
       course = record {
-        here = c.subroutine-self.ensures.spot;
-        calls = entered_calls c.args.program.now c.args.self.now.returns.items c.push.new.self.items c.args.self.now.here c.subroutine-self.result c.args.place c.args.line.now c.requires.course.here
-            c.requires.course.calls c.requires.line c.requires.inside items t c.subroutine-self.ensures.calls;
+        here = c.subroutine-first.ensures.spot;
+        calls = entered_calls c.args.program.now c.args.self.now.returns.items c.push.new.self.items c.args.self.now.here c.subroutine-first.result c.args.place c.args.line.now c.requires.course.here
+            c.requires.course.calls c.requires.line c.requires.inside items t c.subroutine-first.ensures.calls;
       };
-      rest = entered_rest c.args.program.now c.push.new.self.items (c.args.self.now.returns.items ++ (record c.args.self.now.here { place = suc c.args.place }) ∷ []) c.subroutine-self.result
-          (body (source_named c.args.program.now) (name_in (named_factor c.args.program.now c.args.line.now.factor2))) items c.subroutine-self.ensures.section c.subroutine-self.ensures.all c.subroutine-self.ensures.whole;
+      rest = entered_rest c.args.program.now c.push.new.self.items (c.args.self.now.returns.items ++ (record c.args.self.now.here { place = suc c.args.place }) ∷ []) c.subroutine-first.result
+          (body (source_named c.args.program.now) (name_in (named_factor c.args.program.now c.args.line.now.factor2))) items c.subroutine-first.ensures.section c.subroutine-first.ensures.all c.subroutine-first.ensures.whole;
     }
