@@ -149,8 +149,8 @@ fn no_date_field(rt: &HostRuntime) -> Fault {
     )
 }
 
-/// The field of a name.
-fn field_named(layout: &SourceLayout, name: Name) -> Option<&Field> {
+/// The field of a layout that has a name.
+pub fn field_named(layout: &SourceLayout, name: Name) -> Option<&Field> {
     for field in &layout.layout.fields {
         if field.name == name {
             return Some(field);
@@ -160,7 +160,7 @@ fn field_named(layout: &SourceLayout, name: Name) -> Option<&Field> {
 }
 
 /// Whether a field has the six positions of a date, and is a text or a zoned number without decimals.
-fn can_be_date(field: &Field) -> bool {
+pub fn can_be_date(field: &Field) -> bool {
     match field.kind {
         FieldKind::Text(_) | FieldKind::Zoned(0, _) => field.width == 6,
         _ => false,

@@ -61,7 +61,10 @@ pub const COPY: CommandWords = CommandWords {
             ..JOURNAL
         },
         AGAIN,
-        OVERWRITE,
+        Word {
+            help: "Lets --save replace another pack than the one that gets the copy, or an empty file",
+            ..OVERWRITE
+        },
     ],
 };
 

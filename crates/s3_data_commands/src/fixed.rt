@@ -2,7 +2,7 @@
 
 use crate::fault::Fault;
 use crate::filled::Words;
-use crate::load_sentences::{load_sentence, push_key};
+use crate::load_sentences::{is_pack, load_sentence, push_key};
 use crate::pack_words::wrong_words;
 use clap::ArgMatches;
 use s3_cells::Layout;
@@ -156,6 +156,12 @@ pub fn is_ascii(form: FixedForm) -> bool {
 
 /// Why records have no characters of ASCII, by the bytes with which they begin, and what helps; `None` for other records.
 pub fn beginning_sentence(alloc: Global, records: &[u8]) -> Result<Option<String>, AllocError> {
+    if is_pack(records) {
+        return Ok(Some(String::from_str(
+            alloc,
+            "standard input is a pack, not records; give the records, as `bureau unload --as ascii` writes them, or copy a file of that pack by `bureau copy`",
+        )?));
+    }
     if records.starts_with(&[0xef, 0xbb, 0xbf]) {
         return Ok(Some(String::from_str(
             alloc,

@@ -9,6 +9,7 @@
 //! standard output give and take isn't claimed: they are used as the toolchain offers them.
 #![tactic(auto)]
 
+pub mod cell_sentences;
 pub mod cells;
 pub mod check_pack;
 pub mod copy;
@@ -18,6 +19,7 @@ pub mod filled;
 pub mod fixed;
 pub mod inputs;
 pub mod journaling;
+mod key_cover;
 pub mod load;
 pub mod load_sentences;
 pub mod pack_words;

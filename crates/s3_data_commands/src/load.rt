@@ -2,6 +2,7 @@
 ghost use Rattle.std.specs.Prelude.{◌≤◌};
 
 use crate::cells::Reading;
+use crate::cells::field_named;
 use crate::cells::with_cells;
 use crate::fault::Fault;
 use crate::filled::Words;
@@ -25,12 +26,13 @@ use crate::inputs::whole_records_of;
 use crate::journaling::OpenJournal;
 use crate::journaling::journal_for;
 use crate::journaling::unmade_if_refused;
+use crate::key_cover::test_key;
 use crate::load_sentences::TOO_LONG;
 use crate::load_sentences::heading_sentence;
 use crate::load_sentences::load_sentence;
 use crate::load_sentences::other_types_sentence;
+use crate::load_sentences::table_sentence;
 use crate::load_sentences::value_sentence;
-use crate::load_sentences::wide_sentence;
 use crate::pack_words::Save;
 use crate::pack_words::keep_input;
 use crate::pack_words::label_of;
@@ -352,6 +354,7 @@ fn layout_by(
         thousands: matches.get_str("thousands"),
     };
     let layout = layout_of(rt, matches, source)?;
+    test_key(rt, source, &layout)?;
     with_cells(rt, matches, source, layout, reading)
 }
 
@@ -412,15 +415,15 @@ fn table_of(rt: &HostRuntime, words: &LoadWords<'_>) -> Result<Vec<u8>, Fault> {
     }
 }
 
-/// Why an input isn't loaded: it has no record, or it is in an encoding that must be converted; `None` for any other input. Records in
-/// EBCDIC may have any bytes.
+/// Why an input isn't loaded: it has no record, it is a pack, or it is in an encoding that must be converted; `None` for any other input.
+/// Records in EBCDIC may have any bytes.
 fn input_sentence(
     alloc: Global,
     words: &LoadWords<'_>,
     input: &[u8],
 ) -> Result<Option<String>, AllocError> {
     match words.form {
-        None => wide_sentence(alloc, input),
+        None => table_sentence(alloc, input),
         Some(_) if input.is_empty() => Ok(Some(no_records_sentence(alloc)?)),
         Some(form) if is_ascii(form) => beginning_sentence(alloc, input),
         Some(_) => Ok(None),
@@ -494,7 +497,7 @@ fn loaded(
     };
     match load_by(rt.alloc(), pack, &order, words.form, table) {
         Ok(loaded) => Ok(loaded),
-        Err(fault) => Err(fault_of(rt, words, &fault)),
+        Err(fault) => Err(told_fault(rt, words, layout, &fault)),
     }
 }
 
@@ -864,10 +867,20 @@ fn test_words(rt: &HostRuntime, matches: &ArgMatches<'_>) -> Result<(), Fault> {
 }
 
 /// What a refusal is to the command; what is wrong with the heading or the rows is reported before it, a line each.
-fn fault_of(rt: &HostRuntime, words: &LoadWords<'_>, fault: &LoadFault) -> Fault {
-    if tell_all(rt, words, fault).is_err() {
-        return Fault::NoMemory;
+fn told_fault(
+    rt: &HostRuntime,
+    words: &LoadWords<'_>,
+    layout: &SourceLayout,
+    fault: &LoadFault,
+) -> Fault {
+    match tell_all(rt, words, layout, fault) {
+        Ok(()) => fault_of(rt, words, fault),
+        Err(_) => Fault::NoMemory,
     }
+}
+
+/// What a refusal is to the command.
+fn fault_of(rt: &HostRuntime, words: &LoadWords<'_>, fault: &LoadFault) -> Fault {
     if let LoadFault::Label(LabelFault::NoSpace) = fault {
         return no_room(rt, words);
     }
@@ -907,10 +920,15 @@ fn no_room(rt: &HostRuntime, words: &LoadWords<'_>) -> Fault {
 }
 
 /// Tells what is wrong with the heading or the rows, a line each, up to 20 of them, and how many others there are.
-fn tell_all(rt: &HostRuntime, words: &LoadWords<'_>, fault: &LoadFault) -> Result<(), AllocError> {
+fn tell_all(
+    rt: &HostRuntime,
+    words: &LoadWords<'_>,
+    layout: &SourceLayout,
+    fault: &LoadFault,
+) -> Result<(), AllocError> {
     match fault {
         LoadFault::Heading(faults) => tell_heading(rt, faults),
-        LoadFault::Values(faults, count) => tell_values(rt, words, faults, *count),
+        LoadFault::Values(faults, count) => tell_values(rt, words, layout, faults, *count),
         _ => Ok(()),
     }
 }
@@ -927,11 +945,12 @@ fn tell_heading(rt: &HostRuntime, faults: &[HeadingFault]) -> Result<(), AllocEr
 fn tell_values(
     rt: &HostRuntime,
     words: &LoadWords<'_>,
+    layout: &SourceLayout,
     faults: &[ValueFault],
     count: u64,
 ) -> Result<(), AllocError> {
     for place in 0..faults.len().min(MOST_TOLD) {
-        let sentence = fault_sentence(rt.alloc(), &faults[place], words)?;
+        let sentence = fault_sentence(rt.alloc(), &faults[place], words, layout)?;
         let _ = writeln!(rt.stderr(), "{sentence}");
     }
     tell_others(rt, count);
@@ -943,10 +962,15 @@ fn fault_sentence(
     alloc: Global,
     fault: &ValueFault,
     words: &LoadWords<'_>,
+    layout: &SourceLayout,
 ) -> Result<String, AllocError> {
+    let field = match fault.field {
+        Some(name) => field_named(layout, name),
+        None => None,
+    };
     match words.form {
         Some(form) => record_sentence(alloc, form, fault),
-        None => value_sentence(alloc, fault, words.has_comma),
+        None => value_sentence(alloc, fault, field, words.has_comma),
     }
 }
 

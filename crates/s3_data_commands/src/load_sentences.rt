@@ -1,15 +1,16 @@
 //! Sentences of refusals of `load`: what is wrong, where, and what mends it.
 
+use crate::cell_sentences::push_cell_fault;
 use crate::filled::{Words, push_name};
 use crate::pack_words::{DAMAGED, NO_LABEL, label_words, mount_words};
 use s3_cards::{Name, host_byte};
-use s3_cells::{CellFault, place_without_character};
+use s3_cells::{Field, place_without_character};
 use s3_labels::{LabelFault, Organization};
 use s3_lines::indicator::Indicator;
 use s3_lines::sheet::{CodePart, RecordCode};
 use s3_load::{HeadingFault, LoadFault, Reason, Shape, ValueFault};
 use s3_record_types::TypeFault;
-use s3_refusals::{Shown, wide_text};
+use s3_refusals::{Shown, begins_as_pack, wide_text};
 use std::alloc::{AllocError, Global};
 
 /// The characters that other programs put between the cells of a table, each with what to report if a table has it.
@@ -26,11 +27,22 @@ const DELIMITER_CURES: [(u8, &str); 3] = [
 pub const TOO_LONG: &str =
     "standard input has more than 268,435,456 bytes, and a pack can't hold so large a table; see what the < or the pipe gives, or load the table in parts, the further ones by --append";
 
+/// How many bytes of a pack's header are looked at.
+const HEADER_BEGINNING: usize = 16;
+
+/// The refusal of a pack in the place of a table.
+const PACK_AS_TABLE: &str =
+    "standard input is a pack, not a table; give the table in CSV, as `bureau unload` prints it, or copy a file of that pack by `bureau copy`";
+
 /// How many characters of a cell are shown.
 const MOST_SHOWN: usize = 40;
 
-/// Why a table with two or four bytes a character isn't loaded, and how to convert it; `None` for any other table.
-pub fn wide_sentence(alloc: Global, table: &[u8]) -> Result<Option<String>, AllocError> {
+/// Why a table isn't loaded, by the bytes with which it begins, and what helps: it is a pack, or it has two or four bytes a character;
+/// `None` for any other table.
+pub fn table_sentence(alloc: Global, table: &[u8]) -> Result<Option<String>, AllocError> {
+    if is_pack(table) {
+        return Ok(Some(String::from_str(alloc, PACK_AS_TABLE)?));
+    }
     let Some(wide) = wide_text(table) else {
         return Ok(None);
     };
@@ -38,6 +50,13 @@ pub fn wide_sentence(alloc: Global, table: &[u8]) -> Result<Option<String>, Allo
     Ok(Some(format!(in alloc;
         "the table is in {family}; save it as CSV in UTF-8, or convert it by `iconv -f {name} -t UTF-8 TABLE > NEW`"
     )?))
+}
+
+/// Whether an input is a pack: it begins as one, and the header of a pack has zeros, which no text has.
+pub fn is_pack(input: &[u8]) -> bool {
+    begins_as_pack(input)
+        && input.len() >= HEADER_BEGINNING
+        && input[..HEADER_BEGINNING].contains(&0)
 }
 
 /// Why a label can't be used by a load.
@@ -240,15 +259,17 @@ fn unknown_cure(name: &[u8]) -> &'static str {
     "leave the column out, or name a field as the I sheet does"
 }
 
-/// What is wrong with a row of a table whose numbers have a comma before their decimals, or a point.
+/// What is wrong with a row of a table whose numbers have a comma before their decimals, or a point, given the field of the cell that is
+/// in error.
 pub fn value_sentence(
     alloc: Global,
     fault: &ValueFault,
+    field: Option<&Field>,
     has_comma: bool,
 ) -> Result<String, AllocError> {
     let mut text = String::new(alloc);
     push_place(&mut text, fault.line, fault.field)?;
-    push_reason(&mut text, &fault.reason, has_comma)?;
+    push_reason(&mut text, &fault.reason, field, has_comma)?;
     Ok(text)
 }
 
@@ -261,12 +282,16 @@ fn push_place(text: &mut String, line: u64, field: Option<Name>) -> Result<(), A
     text.push_str(": ")
 }
 
-fn push_reason(text: &mut String, reason: &Reason, has_comma: bool) -> Result<(), AllocError> {
+fn push_reason(
+    text: &mut String,
+    reason: &Reason,
+    field: Option<&Field>,
+    has_comma: bool,
+) -> Result<(), AllocError> {
     match reason {
         Reason::Cell(fault, cell) => {
             push_quoted(text, cell)?;
-            text.push_str(words_of(*fault, has_comma))?;
-            text.push_str(hint_of(*fault, has_comma, cell))
+            push_cell_fault(text, *fault, field, cell, has_comma)
         }
         Reason::OverLines(cell) => {
             text.push_str("the cell ")?;
@@ -358,34 +383,6 @@ fn push_type(text: &mut String, indicator: Indicator) -> Result<(), AllocError> 
         Indicator::Halt(number) => write!(text, "H{number}"),
         Indicator::Level(number) => write!(text, "L{number}"),
         _ => text.push_str("LR"),
-    }
-}
-
-/// What further mends a cell with a comma that is no number, if numbers have a point before their decimals: other marks may be named.
-pub fn hint_of(fault: CellFault, has_comma: bool, cell: &[u8]) -> &'static str {
-    if matches!(fault, CellFault::NoNumber) && !has_comma && cell.contains(&b',') {
-        ", or name its marks by --decimal and --thousands"
-    } else {
-        ""
-    }
-}
-
-/// What is wrong with a cell, and what mends it.
-pub fn words_of(fault: CellFault, has_comma: bool) -> &'static str {
-    match fault {
-        CellFault::NoNumber if has_comma =>
-            " is no number; write digits, with a minus before them and a comma if they are needed",
-        CellFault::NoNumber =>
-            " is no number; write digits, with a minus before them and a point if they are needed",
-        CellFault::TooManyDecimals => " has more decimals than the field; round it",
-        CellFault::TooLarge =>
-            " has more digits before the point than the field; write a smaller number",
-        CellFault::TooLong => " is longer than the field; shorten it",
-        CellFault::NoCharacter =>
-            " has a character that no card can have; use capital letters, digits and the signs of cards",
-        CellFault::NoDate =>
-            " is no date of the years 1900 to 1999; write it as YYYY-MM-DD, or leave the cell empty",
-        CellFault::NoMemory => "",
     }
 }
 

@@ -26,11 +26,11 @@ pub const SAVE: Word = Word {
     help: "Where the pack is written",
 };
 
-/// Another file that is there is written over.
+/// Another pack that is there, or an empty file, is replaced. No other file is.
 pub const OVERWRITE: Word = Word {
     name: "overwrite",
     takes: Takes::Nothing,
-    help: "Writes over a file that is there and isn't the pack's",
+    help: "Lets --save replace another pack than the one that was read, or an empty file",
 };
 
 /// Level 1 as an area.

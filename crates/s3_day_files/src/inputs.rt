@@ -13,13 +13,16 @@ use s3_day_log::{Begun, DayLog, LogFault};
 use s3_host_files::{LockedPack, read_pack, read_to_save, read_within, shown_name};
 use s3_operating::DayDeck;
 use s3_paper_commands::encoding_words;
-use s3_refusals::Shown;
+use s3_refusals::{Shown, begins_as_pack};
 use s3_replies::{Rules, RulesFault};
 use std::alloc::AllocError;
 use std::io::{ErrorKind, Write};
 
 /// The most bytes of the rules that are read.
 const RULES_LIMIT: usize = 4_194_304;
+
+/// How many lines are reported that are no rules.
+const MOST_TOLD: usize = 20;
 
 /// The most bytes of a log that is read.
 const LOG_LIMIT: usize = 268_435_456;
@@ -189,7 +192,7 @@ pub fn rules_text<'a>(rt: &HostRuntime, path: Option<&'a str>) -> Result<Vec<u8>
     }
 }
 
-/// The rules of a text of a file, or none if no file is named. Each line that is no rule is reported.
+/// The rules of a text of a file, or none if no file is named. Lines that are no rules are reported.
 pub fn read_rules<'a>(
     rt: &HostRuntime,
     path: Option<&'a str>,
@@ -198,7 +201,7 @@ pub fn read_rules<'a>(
     let Some(path) = path else {
         return Ok(Rules::none(rt.alloc()));
     };
-    if let Some(words) = encoding_words(text) {
+    if let Some(words) = no_rules_words(text) {
         let path = Shown(path);
         let _ = writeln!(rt.stderr(), "{path} {words}");
         return Err(DayFault::Replies(1));
@@ -209,14 +212,34 @@ pub fn read_rules<'a>(
     }
 }
 
-/// Why rules are refused. Each line that is no rule is reported.
+/// Why a file has no rules, by the bytes with which it begins, and what to do: words after its name. `None` for a file that may have
+/// rules.
+fn no_rules_words(text: &[u8]) -> Option<&'static str> {
+    if begins_as_pack(text) {
+        Some("is a pack, not replies; name it after --pack, and after --replies a file of rules")
+    } else if text.starts_with(b"//") {
+        Some(
+            "is a deck, not replies; name it after --deck1 or --deck2, and after --replies a file of rules",
+        )
+    } else {
+        encoding_words(text)
+    }
+}
+
+/// Why rules are refused. The first lines that are no rules are reported, and how many others there are.
 fn rules_refused<'a>(rt: &HostRuntime, path: &str, fault: &RulesFault) -> DayFault<'a> {
     let RulesFault::IllFormed(lines) = fault else {
         return DayFault::from(AllocError);
     };
-    for line in lines {
+    for line in lines.iter().take(MOST_TOLD) {
         let path = Shown(path);
         let _ = writeln!(rt.stderr(), "{path}, {line}");
+    }
+    let others = lines.len().saturating_sub(MOST_TOLD);
+    if others == 1 {
+        let _ = writeln!(rt.stderr(), "1 other error isn't shown");
+    } else if others > 1 {
+        let _ = writeln!(rt.stderr(), "{others} other errors aren't shown");
     }
     match lines.first() {
         Some(first) => DayFault::Replies(first.number),

@@ -10,7 +10,7 @@ use clap::ArgMatches;
 use s3_cards::LevelId;
 use s3_host_files::{StandardOutput, WRITTEN, is_input, path_of, shown_name, stream_at};
 use s3_journal::{LevelCount, PostedDay, Saved, Work, saved_of};
-use s3_journal_files::{JournalRefusal, read_journal, report_lost_lines};
+use s3_journal_files::{JournalRefusal, read_listed_journal, report_lost_lines};
 use s3_paper_commands::status::DONE;
 use s3_refusals::Shown;
 use std::alloc::AllocError;
@@ -134,7 +134,7 @@ fn journal_text<'a>(
     form: Form,
     kept: &[KeptPack],
 ) -> Result<String, DayFault<'a>> {
-    let journal = read_journal(rt, name)?;
+    let journal = read_listed_journal(rt, name)?;
     if journal.has_lost_lines {
         report_lost_lines(rt, shown_name(name));
         return Err(DayFault::Journal(JournalRefusal::Malformed));

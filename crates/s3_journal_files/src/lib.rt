@@ -16,6 +16,6 @@ mod reports;
 
 pub use apart::keep_journal_apart;
 pub use file::{GivenPack, JournalFile, MadeJournal, NewLine};
-pub use reading::{Journal, read_journal};
+pub use reading::{Journal, read_journal, read_listed_journal};
 pub use refusal::JournalRefusal;
 pub use reports::report_lost_lines;

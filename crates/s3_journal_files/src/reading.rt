@@ -10,6 +10,27 @@ use std::io::Write;
 /// The most bytes of a journal that is read.
 const JOURNAL_LIMIT: usize = 268_435_456;
 
+/// What helps if a journal can't be read.
+#[derive(Clone, Copy)]
+struct Cures {
+    /// If the file is no journal.
+    no_journal: &'static str,
+    /// If a line of the journal is damaged.
+    damaged: &'static str,
+}
+
+/// For commands with the option --journal.
+const BY_OPTION: Cures = Cures {
+    no_journal: "give the file that --journal wrote, or a new name",
+    damaged: "restore the journal from a copy, or give --journal a new name",
+};
+
+/// For commands that have the journal as an argument.
+const BY_ARGUMENT: Cures = Cures {
+    no_journal: "give the file that --journal of `bureau operate` or another command wrote",
+    damaged: "restore the journal from a copy",
+};
+
 /// A journal that is read.
 #[derive(Drop)]
 pub struct Journal {
@@ -27,17 +48,35 @@ pub struct Journal {
     pub is_cut: bool,
 }
 
-/// The lines of a journal, or of standard input if its name is `-`. What is wrong with them is reported.
+/// The lines of the journal that --journal names, or of standard input if its name is `-`. What is wrong with them is reported.
 pub fn read_journal<'a>(rt: &HostRuntime, name: &'a str) -> Result<Journal, JournalRefusal<'a>> {
+    read_by(rt, name, BY_OPTION)
+}
+
+/// The lines of a journal for a command that has no option --journal, as `read_journal` gives them.
+pub fn read_listed_journal<'a>(
+    rt: &HostRuntime,
+    name: &'a str,
+) -> Result<Journal, JournalRefusal<'a>> {
+    read_by(rt, name, BY_ARGUMENT)
+}
+
+/// The lines of a journal. What is wrong with them is reported, with what helps.
+fn read_by<'a>(
+    rt: &HostRuntime,
+    name: &'a str,
+    cures: Cures,
+) -> Result<Journal, JournalRefusal<'a>> {
     let bytes = match read_within(rt, name, JOURNAL_LIMIT) {
         Ok(bytes) => bytes,
         Err(error) => return Err(JournalRefusal::of(&error, shown_name(name))),
     };
     let Ok(text) = str::from_utf8(&bytes) else {
         let name = Shown(shown_name(name));
+        let cure = cures.no_journal;
         let _ = writeln!(
             rt.stderr(),
-            "{name} is no journal, for it isn't text in UTF-8; give the file that --journal wrote, or a new name"
+            "{name} is no journal, for it isn't text in UTF-8; {cure}"
         );
         return Err(JournalRefusal::Malformed);
     };
@@ -54,12 +93,19 @@ pub fn read_journal<'a>(rt: &HostRuntime, name: &'a str) -> Result<Journal, Jour
             })
         }
         Err(JournalFault::NoMemory) => Err(JournalRefusal::NoMemory),
-        Err(fault) => {
+        Err(JournalFault::Line(1)) if !text.starts_with(BEGINNING) => {
             let name = Shown(shown_name(name));
+            let (beginning, cure) = (BEGINNING, cures.no_journal);
             let _ = writeln!(
                 rt.stderr(),
-                "{name}: {fault}; restore the journal from a copy, or give --journal a new name"
+                "{name} is no journal: a journal begins with {beginning}, and this file doesn't; {cure}"
             );
+            Err(JournalRefusal::Malformed)
+        }
+        Err(fault) => {
+            let name = Shown(shown_name(name));
+            let cure = cures.damaged;
+            let _ = writeln!(rt.stderr(), "{name}: {fault}; {cure}");
             Err(JournalRefusal::Malformed)
         }
     }

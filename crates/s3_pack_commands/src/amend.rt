@@ -22,8 +22,9 @@ use s3_data_commands::words::{
 use s3_host_files::{StandardOutput, is_input};
 use s3_journal::{Posting, Work};
 use s3_layout::SourceLayout;
-use s3_paper_commands::status::{DONE, FILE_WRONG, NOTHING_SAVED, OPTIONS_WRONG, PACK_SAVED};
-use s3_paper_commands::words::{CommandWords, Example, Takes, Word, value_of};
+use s3_paper_commands::OutputReason;
+use s3_paper_commands::status::{DONE, FILE_FAILED, NOTHING_SAVED, OPTIONS_WRONG, PACK_SAVED};
+use s3_paper_commands::words::{CommandWords, Example, Status, Takes, Word, value_of};
 use s3_refusals::Shown;
 use std::alloc::{AllocError, Global};
 use std::io;
@@ -41,7 +42,15 @@ pub const AMEND: CommandWords = CommandWords {
     name: "amend",
     about: "Changes fields of one record of a file, and prints the record before and after",
     aliases: &[LEVEL_ALIAS],
-    statuses: &[PACK_SAVED, NOTHING_SAVED, OPTIONS_WRONG, FILE_WRONG],
+    statuses: &[
+        PACK_SAVED,
+        NOTHING_SAVED,
+        OPTIONS_WRONG,
+        Status {
+            number: FILE_FAILED,
+            meaning: "a file or standard input can't be read or written; or the pack is saved, and the record can't be printed",
+        },
+    ],
     examples: &[Example {
         line: "bureau amend --pack shop.pack --save shop.pack --area 1 --label CUSTOM --layout custom.rpg --key 10042 DUE=0",
         purpose: "Corrects a field of the record with a key",
@@ -251,12 +260,17 @@ fn amended(
     };
     match amend(rt.alloc(), pack, &amendment) {
         Ok(amended) => Ok(amended),
-        Err(fault) => Err(fault_of(rt, asked, &fault)),
+        Err(fault) => Err(fault_of(rt, asked, layout, &fault)),
     }
 }
 
 /// What a refusal is to the command. Mistakes are reported before it, a line each.
-fn fault_of(rt: &HostRuntime, asked: &Asked<'_>, fault: &AmendFault) -> Fault {
+fn fault_of(
+    rt: &HostRuntime,
+    asked: &Asked<'_>,
+    layout: &SourceLayout,
+    fault: &AmendFault,
+) -> Fault {
     let words = Words::of_file(asked.path, asked.area, asked.label);
     match fault {
         AmendFault::NoMemory => Fault::NoMemory,
@@ -268,14 +282,19 @@ fn fault_of(rt: &HostRuntime, asked: &Asked<'_>, fault: &AmendFault) -> Fault {
                 "the records of {label} in area {area} of {path} have {number} bytes, and the layout's records have another length; give the source of a program that uses this file",
             ),
         ),
-        AmendFault::Mistakes(mistakes) => refuse_mistakes(rt, asked, mistakes),
+        AmendFault::Mistakes(mistakes) => refuse_mistakes(rt, asked, layout, mistakes),
     }
 }
 
 /// Reports mistakes, a line each.
-fn refuse_mistakes(rt: &HostRuntime, asked: &Asked<'_>, mistakes: &[Mistake]) -> Fault {
+fn refuse_mistakes(
+    rt: &HostRuntime,
+    asked: &Asked<'_>,
+    layout: &SourceLayout,
+    mistakes: &[Mistake],
+) -> Fault {
     for mistake in mistakes {
-        match mistake_sentence(rt.alloc(), mistake, asked.key, asked.has_comma) {
+        match mistake_sentence(rt.alloc(), mistake, layout, asked.key, asked.has_comma) {
             Ok(sentence) => {
                 let sentence = sentence.as_str();
                 let _ = writeln!(rt.stderr(), "{sentence}");
@@ -333,9 +352,10 @@ fn print_record(
     }
 }
 
-/// The sentence for a record that is amended and can't be printed.
+/// The sentence for a record that can't be printed after the pack is saved.
 fn unprinted_sentence(alloc: Global, error: io::Error) -> Result<String, AllocError> {
+    let reason = OutputReason(error);
     format!(in alloc;
-        "the record is amended, but can't be printed, because standard output can't be written: {error}"
+        "the pack is saved, but the record can't be printed, because standard output can't be written: {reason}"
     )
 }

@@ -3,25 +3,30 @@
 use s3_amend::Mistake;
 use s3_cards::Name;
 use s3_cells::CellFault;
+use s3_data_commands::cell_sentences::push_cell_fault;
+use s3_data_commands::cells::field_named;
 use s3_data_commands::filled::{Words, push_name};
-use s3_data_commands::load_sentences::{hint_of, push_quoted, words_of};
+use s3_data_commands::load_sentences::push_quoted;
+use s3_layout::SourceLayout;
 use std::alloc::{AllocError, Global};
 
-/// The sentence about a mistake, given the text of --key and whether numbers have a comma before their decimals.
+/// The sentence about a mistake, given the layout, the text of --key and whether numbers have a comma before their decimals.
 pub fn mistake_sentence(
     alloc: Global,
     mistake: &Mistake,
+    layout: &SourceLayout,
     key: &str,
     has_comma: bool,
 ) -> Result<String, AllocError> {
     let mut text = String::new(alloc);
-    push_mistake(&mut text, mistake, key, has_comma)?;
+    push_mistake(&mut text, mistake, layout, key, has_comma)?;
     Ok(text)
 }
 
 fn push_mistake(
     text: &mut String,
     mistake: &Mistake,
+    layout: &SourceLayout,
     key: &str,
     has_comma: bool,
 ) -> Result<(), AllocError> {
@@ -31,9 +36,11 @@ fn push_mistake(
             push_quoted(text, name)?;
             text.push_str("; name a field as the I sheet does")
         }
-        Mistake::Value(name, fault, value) => push_refused(text, *name, value, *fault, has_comma),
+        Mistake::Value(name, fault, value) => {
+            push_refused(text, layout, *name, value, *fault, has_comma)
+        }
         Mistake::KeyValue(name, fault) => {
-            push_refused(text, *name, key.as_bytes(), *fault, has_comma)
+            push_refused(text, layout, *name, key.as_bytes(), *fault, has_comma)
         }
         Mistake::KeyCharacter | Mistake::LongKey(_) | Mistake::NoKey => {
             text.push_str("--key ")?;
@@ -47,6 +54,7 @@ fn push_mistake(
 /// Appends that a field can't get a value, and why.
 fn push_refused(
     text: &mut String,
+    layout: &SourceLayout,
     name: Name,
     value: &[u8],
     fault: CellFault,
@@ -55,8 +63,7 @@ fn push_refused(
     push_name(text, Some(name))?;
     text.push_str(": ")?;
     push_quoted(text, value)?;
-    text.push_str(words_of(fault, has_comma))?;
-    text.push_str(hint_of(fault, has_comma, value))
+    push_cell_fault(text, fault, field_named(layout, name), value, has_comma)
 }
 
 /// Appends a sentence whose values are numbers and names.

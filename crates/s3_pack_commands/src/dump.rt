@@ -93,7 +93,13 @@ pub const RESTORE: CommandWords = CommandWords {
         line: "bureau restore --save new.pack < shop.dump",
         purpose: "Makes a pack of its text",
     }],
-    words: &[SAVE, OVERWRITE],
+    words: &[
+        SAVE,
+        Word {
+            help: "Lets --save replace a pack or an empty file",
+            ..OVERWRITE
+        },
+    ],
 };
 
 /// Runs `bureau dump`, and returns the exit status: 0 if it is done, else the status of the refusal, whose sentence
