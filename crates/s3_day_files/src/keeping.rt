@@ -88,7 +88,7 @@ fn report_more(
         let (kept, first, last) = (numbers.len(), Shown(first.as_str()), Shown(last.as_str()));
         let _ = writeln!(
             rt.stderr(),
-            "{kept} packs are kept as {first} to {last}, and --keep {count} keeps fewer, so the save removes the oldest ones; give --keep {kept}, or move away what must stay"
+            "{kept} packs are kept as {first} to {last}, more than --keep {count} says: this save and later ones remove the oldest; give --keep {kept}, or move away what must stay"
         );
     }
     Ok(())
@@ -268,7 +268,7 @@ impl SetAside {
             retried::remove_file(rt, kept.as_str())?;
             if !self.is_quiet || before > self.count {
                 let (kept, count) = (Shown(kept.as_str()), self.count);
-                let _ = writeln!(rt.stderr(), "{kept} is removed, as --keep {count} asks");
+                let _ = writeln!(rt.stderr(), "{kept}, by its new number, is removed, as --keep {count} asks");
             }
         }
         Ok(())

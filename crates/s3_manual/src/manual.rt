@@ -27,7 +27,7 @@ pub fn is_manual(words: &[String]) -> bool {
 }
 
 /// The words after `bureau help` that aren't commands of the program.
-const OF_MANUAL: [&'static str; 5] = ["man", "completions", "help", "--help", "-h"];
+const OF_MANUAL: [&'static str; 4] = ["man", "completions", "--help", "-h"];
 
 /// Whether the word at a place of a command line is this one.
 fn is_word(words: &[String], place: usize, wanted: &str) -> bool {
