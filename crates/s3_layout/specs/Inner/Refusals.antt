@@ -78,7 +78,9 @@ abbrev pub type_refusal : Option Indicator → List Indicator → Option LayoutF
 type_refusal record_type types = if has_named record_type types then None else Some OtherType
 
 abbrev pub whole_refusal : Choice → List Line → Option LayoutFault
-whole_refusal choice lines = refused_or (chosen_file choice.file lines) (λ file. type_refusal choice.record_type (types_from file.name first lines))
+whole_refusal choice lines =
+    refused_or (chosen_file choice.file lines)
+    (λ file. type_refusal choice.record_type (types_from file.name first lines))
 
 abbrev pub types_refusal : Option Name → List Line → Option LayoutFault
 types_refusal name lines = refused_or (chosen_file name lines) (λ file. None)
