@@ -4,3 +4,4 @@ pub mod Entries
 pub mod Kinds
 pub mod Columns
 pub mod Layouts
+pub mod Refusals

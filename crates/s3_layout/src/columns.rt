@@ -1,8 +1,12 @@
 //! The fields of a layout, by their lines.
 ghost use Rattle.std.specs.Prelude.{◌≡◌, ◌++◌, ◌∷◌, [], IfOk, OnOk, map};
-ghost use Rattle.std.specs.List.{All};
+ghost use Rattle.std.specs.List.{All, IsDistinct};
+ghost use Rattle.std.specs.Option.{option_or};
+ghost use Rattle.std.specs.Result.{result_err};
+ghost use Rattle.s3_cards.specs.Names.{same_name};
 ghost use Rattle.s3_cells.specs.Inner.Fields.{LiesIn};
-ghost use Rattle.s3_layout.specs.Inner.Columns.{AreFieldsOf, column_of, entry_column, kind_of as kind_of_spec};
+ghost use Rattle.s3_layout.specs.Inner.Columns.{AreFieldsOf, column_of, entry_column, field_name, kind_of as kind_of_spec};
+ghost use Rattle.s3_layout.specs.Inner.Refusals.{Refuses, entries_refusal, form_refusal, name_refusal};
 
 use crate::fault::LayoutFault;
 use indexmap::IndexSet;
@@ -17,7 +21,8 @@ pub fn fields_of(
     entries: &[FieldLine],
     record_length: u16,
 ) -> Result<Vec<Field>, LayoutFault>
-    ensures { IfOk result (λ fields. AreFieldsOf record_length entries.now fields.items) }
+    ensures fields { IfOk result (λ fields. AreFieldsOf record_length entries.now fields.items) }
+    ensures refused { Refuses (entries_refusal record_length [] entries.now) result }
 {
     let mut fields = Vec::new(alloc);
     let mut names = IndexSet::new(alloc);
@@ -37,6 +42,10 @@ fn add_field(
     requires { All (LiesIn record_length) fields.old.items }
     ensures lies { OnOk result (All (LiesIn record_length) fields.new.items) }
     ensures columns { OnOk result (map column_of fields.new.items ≡ map column_of fields.old.items ++ entry_column entry.now ∷ []) }
+    ensures names { OnOk result (names.new.keys ≡ names.old.keys ++ entry.now.name ∷ []) }
+    ensures own_names { OnOk result (IsDistinct same_name names.new.keys) }
+    ensures named { OnOk result (names.old.keys ≡ map field_name fields.old.items → names.new.keys ≡ map field_name fields.new.items) }
+    ensures refused { Refuses (option_or (form_refusal record_length entry.now) (name_refusal names.old.keys entry.now.name)) result }
 {
     let field = field_of(entry, record_length)?;
     if !names.insert(field.name)? {
@@ -50,6 +59,7 @@ fn add_field(
 fn field_of(entry: &FieldLine, record_length: u16) -> Result<Field, LayoutFault>
     ensures lies { IfOk result (LiesIn record_length) }
     ensures column { IfOk result (λ field. column_of field ≡ entry_column entry.now) }
+    ensures refused { result_err result ≡ form_refusal record_length entry.now }
 {
     let no_form = LayoutFault::NoForm(entry.name);
     let Some(kind) = kind_of(entry.form) else {

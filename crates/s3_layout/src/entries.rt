@@ -3,7 +3,8 @@ ghost use Rattle.std.specs.Prelude.{◌≡◌, ◌++◌, true, Some, None, IfOk,
 ghost use Rattle.std.specs.List.{list_any};
 ghost use Rattle.s3_lines.specs.Indicators.{same_indicator};
 ghost use Rattle.s3_layout.specs.Inner.Files.{Chooses};
-ghost use Rattle.s3_layout.specs.Inner.Entries.{behind as behind_spec, behind_input as behind_input_spec, begun as begun_spec, chosen_type as chosen_type_spec, entries_from, first as first_spec, has_named, is_meant as is_meant_spec, is_taken as is_taken_spec, taken, types_from};
+ghost use Rattle.s3_layout.specs.Inner.Entries.{behind as behind_spec, behind_input as behind_input_spec, begun as begun_spec, chosen_type as chosen_type_spec, entries_from, first as first_spec, is_meant as is_meant_spec, is_taken as is_taken_spec, taken, types_from};
+ghost use Rattle.s3_layout.specs.Inner.Refusals.{Refuses, type_refusal};
 
 use crate::fault::LayoutFault;
 use s3_cards::Name;
@@ -140,7 +141,7 @@ pub fn test_type(
     file: Name,
     record_type: Option<Indicator>,
 ) -> Result<(), LayoutFault>
-    ensures { OnOk result (has_named record_type (types_from file first_spec lines.now) ≡ true) }
+    ensures { Refuses (type_refusal record_type (types_from file first_spec lines.now)) result }
 {
     let types = types_of(alloc, lines, file)?;
     match record_type {

@@ -1,6 +1,7 @@
 -- The fields of lines of the I sheet.
 use Rattle.std.specs.Prelude.{◌≡◌, ◌+◌, ◌-◌, ℕ, List, Option, Some, None, map, false}
-use Rattle.std.specs.List.{All}
+use Rattle.std.specs.List.{All, IsDistinct}
+use Rattle.s3_cards.specs.Names.{same_name}
 use Rattle.s3_cards.specs.declared.name.Name.{Name}
 use Rattle.s3_cells.specs.Inner.Fields.{LiesIn}
 use Rattle.s3_cells.specs.declared.field.Field.{Field}
@@ -35,7 +36,11 @@ column_of field = (field.name, (field.start, (field.width, Some field.kind)))
 abbrev pub entry_column : FieldLine Name → Name × (ℕ × (ℕ × Option FieldKind))
 entry_column entry = (entry.name, (entry.from - 1, (entry.to + 1 - entry.from, kind_of entry.form)))
 
--- they are those of the lines, in their order, and lie in the records
+abbrev pub field_name : Field → Name
+field_name field = field.name
+
+-- they are those of the lines, in their order, lie in the records, and have names of their own
 pub record AreFieldsOf (record_length : ℕ) (entries : List (FieldLine Name)) (fields : List Field) : Type 0 where
   pub lie : All (LiesIn record_length) fields
   pub columns : map column_of fields ≡ map entry_column entries
+  pub own_names : IsDistinct same_name (map field_name fields)

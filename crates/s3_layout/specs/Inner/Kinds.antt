@@ -4,7 +4,7 @@ use Rattle.s3_cards.specs.Names.{same_name}
 use Rattle.s3_cards.specs.declared.name.Name.{Name}
 use Rattle.s3_lines.specs.declared.indicator.Indicator.{Indicator}
 use Rattle.s3_lines.specs.declared.sheet.InputLine.{InputLine}
-use Rattle.s3_lines.specs.declared.sheet.InputLine.TheVariants.{Record, And, Or, Field}
+use Rattle.s3_lines.specs.declared.sheet.InputLine.TheVariants.{Record, And, Or}
 use Rattle.s3_lines.specs.declared.sheet.RecordCode.{RecordCode}
 use Rattle.s3_meaning.specs.Names.{entries}
 use Rattle.s3_meaning.specs.RecordTypes.{RecordType, further_codes}
