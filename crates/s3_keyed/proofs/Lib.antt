@@ -13,3 +13,4 @@ mod Order
 mod Ordered
 mod Places
 mod Sectors
+pub mod Unused

@@ -8,3 +8,4 @@ pub mod Keyed
 pub mod Samples
 pub mod Shape
 pub mod Sought
+pub mod Unused

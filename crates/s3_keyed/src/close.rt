@@ -9,6 +9,7 @@ ghost use Rattle.s3_keyed.specs.Inner.KeyOrder.{IsAscending};
 ghost use Rattle.s3_keyed.specs.Index.{entry_at, index_in};
 ghost use Rattle.s3_keyed.specs.Inner.Shape.{layout_in, bytes_in, entry_of};
 ghost use Rattle.s3_keyed.specs.Inner.Added.{entries_of};
+ghost use Rattle.s3_keyed.specs.Inner.Unused.{KeepsUnused};
 
 use crate::added::AddedEntries;
 use crate::entries::read_entry;
@@ -56,6 +57,7 @@ pub fn merge<P: Sectors>(
     requires short { All (λ entry. entry.key < 256 ^ file.now.key_length) (entries_of added.old) }
     ensures merged { OnOk result (index_in (layout_in file.now) (indexed + length (entries_of added.old)) (bytes_in file.now (P.state pool.new).contents) ≡ insert_entries (index_in (layout_in file.now) indexed (bytes_in file.now (P.state pool.old).contents)) (entries_of added.old)) }
     ensures records { (count : ℕ) → count ≤ file.now.file.capacity → records_in file.now.file.record_length count (bytes_in file.now (P.state pool.new).contents) ≡ records_in file.now.file.record_length count (bytes_in file.now (P.state pool.old).contents) }
+    ensures unused { KeepsUnused (layout_in file.now) (indexed + length (entries_of added.old)) (bytes_in file.now (P.state pool.old).contents) (bytes_in file.now (P.state pool.new).contents) }
     ensures changes { Changes file.now.file.sectors result (P.state pool.old) (P.state pool.new) }
 {
     let mut left = indexed;

@@ -9,6 +9,7 @@ ghost use Rattle.s3_keyed.specs.KeyOrder.{number_of, key_order, is_good_index};
 ghost use Rattle.s3_files.specs.Inner.Records.{record_at};
 ghost use Rattle.s3_keyed.specs.Index.{key_of, index_in};
 ghost use Rattle.s3_keyed.specs.Inner.Shape.{layout_in, bytes_in, keys_on};
+ghost use Rattle.s3_keyed.specs.Inner.Unused.{KeepsUnused};
 ghost use Rattle.s3_keyed.specs.Calls.{place_of_key, nth_by_key as nth_by_key_spec, with_added, with_loaded, with_updated, keyed_result};
 ghost use Rattle.s3_keyed.specs.Inner.Calls.{IsOfSectors, index_answer, unit_of, Answers, Leaves, OnRefusal, or_no_key, failed_keyed_transfers};
 
@@ -134,6 +135,7 @@ impl Keyed {
         ensures updated { Leaves (with_updated (shown self.now).layout.key i bytes.now (records_now (shown self.now) (P.state pool.old).contents)) result (records_now (shown self.now) (P.state pool.new).contents) }
         ensures ordered { OnOk result (HasKeyOrder (shown self.now) (P.state pool.new).contents) }
         ensures refused { OnRefusal result (KeepsContents (P.state pool.old) (P.state pool.new)) }
+        ensures unused { KeepsUnused (shown self.now).layout (shown self.now).count (bytes_now (shown self.now) (P.state pool.old).contents) (bytes_now (shown self.now) (P.state pool.new).contents) }
         ensures within { ChangesWithin (Contains (shown self.now).sectors) (P.state pool.old) (P.state pool.new) }
         ensures failures { (P.state pool.new).failures ≡ (P.state pool.old).failures + failed_keyed_transfers result }
     {
@@ -164,6 +166,7 @@ impl Keyed {
         ensures updated { Leaves (with_updated (shown self.now).layout.key i bytes.now (records_now (shown self.now) (P.state pool.old).contents)) result (records_now (shown self.now) (P.state pool.new).contents) }
         ensures ordered { OnOk result (HasKeyOrder (shown self.now) (P.state pool.new).contents) }
         ensures refused { OnRefusal result (KeepsContents (P.state pool.old) (P.state pool.new)) }
+        ensures unused { KeepsUnused (shown self.now).layout (shown self.now).count (bytes_now (shown self.now) (P.state pool.old).contents) (bytes_now (shown self.now) (P.state pool.new).contents) }
         ensures within { ChangesWithin (Contains (shown self.now).sectors) (P.state pool.old) (P.state pool.new) }
         ensures failures { (P.state pool.new).failures ≡ (P.state pool.old).failures + failed_keyed_transfers result }
     {
@@ -329,6 +332,7 @@ impl Keyed {
         ensures ordered { OnOk result (HasKeyOrder (shown self.new) (P.state pool.new).contents) }
         ensures refused { OnRefusal result (IsUntouched (shown self.old) (shown self.new) (P.state pool.old) (P.state pool.new)) }
         ensures same { IsSameFile (shown self.old) (shown self.new) }
+        ensures unused { KeepsUnused (shown self.old).layout ((shown self.old).count + 1) (bytes_now (shown self.old) (P.state pool.old).contents) (bytes_now (shown self.old) (P.state pool.new).contents) }
         ensures within { ChangesWithin (Contains (shown self.old).sectors) (P.state pool.old) (P.state pool.new) }
         ensures failures { (P.state pool.new).failures ≡ (P.state pool.old).failures + failed_keyed_transfers result }
     {
@@ -353,6 +357,7 @@ impl Keyed {
         ensures ordered { OnOk result (HasKeyOrder (shown self.new) (P.state pool.new).contents) }
         ensures refused { OnRefusal result (IsUntouched (shown self.old) (shown self.new) (P.state pool.old) (P.state pool.new)) }
         ensures same { IsSameFile (shown self.old) (shown self.new) }
+        ensures unused { KeepsUnused (shown self.old).layout ((shown self.old).count + 1) (bytes_now (shown self.old) (P.state pool.old).contents) (bytes_now (shown self.old) (P.state pool.new).contents) }
         ensures within { ChangesWithin (Contains (shown self.old).sectors) (P.state pool.old) (P.state pool.new) }
         ensures failures { (P.state pool.new).failures ≡ (P.state pool.old).failures + failed_keyed_transfers result }
     {
@@ -378,6 +383,7 @@ impl Keyed {
         ensures index { OnOk result (index_in (shown self).layout (shown self).count (bytes_now (shown self) (P.state pool.new).contents) ≡ key_order (keys_now (shown self) (P.state pool.old).contents)) }
         ensures good { OnOk result (is_good_index (index_in (shown self).layout (shown self).count (bytes_now (shown self) (P.state pool.new).contents)) (keys_now (shown self) (P.state pool.new).contents) ≡ true) }
         ensures records { records_now (shown self) (P.state pool.new).contents ≡ records_now (shown self) (P.state pool.old).contents }
+        ensures unused { KeepsUnused (shown self).layout (shown self).count (bytes_now (shown self) (P.state pool.old).contents) (bytes_now (shown self) (P.state pool.new).contents) }
         ensures within { ChangesWithin (Contains (shown self).sectors) (P.state pool.old) (P.state pool.new) }
         ensures failures { (P.state pool.new).failures ≡ (P.state pool.old).failures + failed_keyed_transfers result }
         ensures fault { IfErr result IsOfSectors }
@@ -423,6 +429,7 @@ impl Keyed {
         ensures ok { OnOk result (records_now (shown self.new) (P.state pool.new).contents ≡ records_now (shown self.old) (P.state pool.old).contents ++ bytes.now ∷ []) }
         ensures ordered { OnOk result (HasKeyOrder (shown self.new) (P.state pool.new).contents) }
         ensures same { IsSameFile (shown self.old) (shown self.new) }
+        ensures unused { KeepsUnused (shown self.old).layout ((shown self.old).count + 1) (bytes_now (shown self.old) (P.state pool.old).contents) (bytes_now (shown self.old) (P.state pool.new).contents) }
         ensures changes { Changes (shown self.old).sectors result (P.state pool.old) (P.state pool.new) }
     {
         let number = self.count + 1;
@@ -450,6 +457,7 @@ impl Keyed {
         ensures ok { OnOk result (records_now (shown self.new) (P.state pool.new).contents ≡ records_now (shown self.old) (P.state pool.old).contents ++ bytes.now ∷ []) }
         ensures ordered { OnOk result (HasKeyOrder (shown self.new) (P.state pool.new).contents) }
         ensures same { IsSameFile (shown self.old) (shown self.new) }
+        ensures unused { KeepsUnused (shown self.old).layout ((shown self.old).count + 1) (bytes_now (shown self.old) (P.state pool.old).contents) (bytes_now (shown self.old) (P.state pool.new).contents) }
         ensures changes { Changes (shown self.old).sectors result (P.state pool.old) (P.state pool.new) }
     {
         let number = self.count + 1;

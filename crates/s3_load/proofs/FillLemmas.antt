@@ -16,6 +16,8 @@ use Rattle.s3_keyed.specs.Calls.{keyed_result, with_added, with_loaded}
 use Rattle.s3_keyed.specs.Index.{KeyPlace, Layout, index_in, key_of, keys_of, layout_of}
 use Rattle.s3_keyed.specs.KeyOrder.{is_good_index}
 use Rattle.s3_keyed.specs.Inner.Keyed.{HasKeyOrder, IsSameFile, IsUntouched, KeyedFile, bytes_now, keys_now, opened_of, records_now, shown}
+use Rattle.s3_keyed.specs.Inner.Unused.{KeepsUnused}
+use Rattle.s3_keyed.proofs.Unused.{unused_more, unused_same, unused_then}
 use Rattle.s3_keyed.specs.declared.fault.KeyedFault.{KeyedFault}
 use Rattle.s3_keyed.specs.declared.fault.KeyedFault.TheVariants.{Duplicate, NotAscending}
 use Rattle.s3_files.specs.declared.fault.FileFault.{FileFault}
@@ -24,7 +26,7 @@ use Rattle.s3_keyed.specs.declared.keyed.Keyed.{Keyed}
 use Rattle.s3_pack_care.specs.Inner.Rows.{KeepsTail, shape_of}
 use Rattle.s3_unload.specs.Inner.Ordered.{in_order}
 use Rattle.s3_load.specs.declared.rows.Row.{Row}
-use Rattle.s3_load.specs.Inner.Filling.{AddsByKey, AddsRecord, ChangesOnly, HasGoodIndex, HasMore, IsAtWork, IsFilled, counted, records_of}
+use Rattle.s3_load.specs.Inner.Filling.{AddsByKey, AddsRecord, ChangesOnly, HasGoodIndex, HasMore, IsAtWork, IsFilled, KeepsSpare, KeepsSpareNow, counted, records_of}
 
 -- the records of rows, one more
 records_more : (rows : List Row) (i : ℕ) (row : Row) → i < length rows → row ≡ get_or rows i row → records_of (take (i + 1) rows) ≡ records_of (take i rows) ++ row.bytes.items ∷ []
@@ -230,3 +232,45 @@ good_by_key file label middle new work good =
     ap₂ (λ (l : Layout) rs. keys_of l.key rs) (sym work.layout) (now_is file label new work.sectors work.layout) in
     let same : is_good_index (index_in (layout_of label) (shown file).count (bytes_at (sectors_of label) new)) (keys_of (layout_of label).key (in_order (counted label (shown file).count) new)) ≡ true = ap₂ is_good_index index keys ∙ good in
     counted_good label (shown file).count new same
+
+-- ---- the bytes that are in no record and in no entry
+-- a file in which nothing was written yet
+pub spare_same : (label : FileLabel) (count : ℕ) (contents : List (List ℕ)) → KeepsSpare label count contents contents
+spare_same label count contents = unused_same (layout_of label) count (bytes_at (sectors_of label) contents)
+
+-- one in which a call changed nothing, and then another call
+pub spare_later : (first middle : Keyed) (old mid : PoolState) (new : List (List ℕ)) → IsUntouched (shown first) (shown middle) old mid → KeepsSpareNow middle mid.contents new → KeepsSpareNow first old.contents new
+spare_later first middle old mid new same after =
+    subst (λ (f : KeyedFile). KeepsUnused f.layout (f.count + 1) (bytes_now f old.contents) (bytes_now f new)) same.file
+    (subst (λ c. KeepsUnused (shown middle).layout ((shown middle).count + 1) (bytes_now (shown middle) c) (bytes_now (shown middle) new)) same.sectors.contents after)
+
+count_more : (bytes : List ℕ) (first last : Keyed) (old new : List (List ℕ)) → AddsByKey bytes first last old new → (shown last).count ≡ (shown first).count + 1
+count_more bytes first last old new adds =
+    sym (length_records (shown last).layout.record_length (shown last).count (bytes_now (shown last) new)) ∙ ap length adds
+    ∙ length-append (records_now (shown first) old) (bytes ∷ [])
+    ∙ ap (λ n. n + 1) (length_records (shown first).layout.record_length (shown first).count (bytes_now (shown first) old))
+
+-- the same of the label's sectors and layout
+of_label : (file : Keyed) (label : FileLabel) (count : ℕ) (old new : List (List ℕ)) → (shown file).sectors ≡ sectors_of label → (shown file).layout ≡ layout_of label
+    → KeepsUnused (shown file).layout count (bytes_now (shown file) old) (bytes_now (shown file) new) → KeepsSpare label count old new
+of_label file label count old new sectors layout same =
+    subst (λ (l : Layout). KeepsUnused l count (bytes_at (sectors_of label) old) (bytes_at (sectors_of label) new)) layout
+    (subst (λ (s : List ℕ). KeepsUnused (shown file).layout count (bytes_at s old) (bytes_at s new)) sectors same)
+
+-- one with a record more
+pub spare_by_key : (first last : Keyed) (label : FileLabel) (bytes : List ℕ) (old middle new : List (List ℕ)) → IsAtWork first label middle → AddsByKey bytes first last middle new → KeepsSpare label (shown first).count old middle
+    → KeepsSpareNow first middle new → KeepsSpare label (shown last).count old new
+spare_by_key first last label bytes old middle new work adds before after =
+    let more : (shown last).count ≡ (shown first).count + 1 = count_more bytes first last middle new adds in
+    let now : KeepsSpare label ((shown first).count + 1) middle new = of_label first label ((shown first).count + 1) middle new work.sectors work.layout after in
+    let wider : KeepsSpare label ((shown first).count + 1) old middle =
+    unused_more (layout_of label) (shown first).count ((shown first).count + 1) (bytes_at (sectors_of label) old) (bytes_at (sectors_of label) middle) (omega arith) before in
+    subst (λ n. KeepsSpare label n old new) (sym more)
+    (unused_then (layout_of label) ((shown first).count + 1) (bytes_at (sectors_of label) old) (bytes_at (sectors_of label) middle) (bytes_at (sectors_of label) new) wider now)
+
+-- one that was filled and closed
+pub spare_closed : (file : Keyed) (label : FileLabel) (old middle new : List (List ℕ)) → IsAtWork file label middle → KeepsSpare label (shown file).count old middle
+    → KeepsUnused (shown file).layout (shown file).count (bytes_now (shown file) middle) (bytes_now (shown file) new) → KeepsSpare label (shown file).count old new
+spare_closed file label old middle new work before after =
+    unused_then (layout_of label) (shown file).count (bytes_at (sectors_of label) old) (bytes_at (sectors_of label) middle) (bytes_at (sectors_of label) new) before
+    (of_label file label (shown file).count middle new work.sectors work.layout after)

@@ -27,6 +27,7 @@ use Rattle.s3_labels.specs.Inner.Written.{WritesSlot}
 use Rattle.s3_labels.proofs.Labelled.{slots_kept as judged_alike}
 use Rattle.s3_labels.proofs.MigratedPacks.{file_same}
 use Rattle.s3_labels.proofs.NewSlots.{judged_later}
+use Rattle.s3_keyed.specs.Inner.Unused.{KeepsUnused}
 use Rattle.s3_keyed.specs.Index.{index_in, keys_of, layout_of}
 use Rattle.s3_keyed.specs.KeyOrder.{is_good_index}
 use Rattle.s3_files.specs.Records.{records_in}
@@ -38,7 +39,7 @@ use Rattle.s3_pack_care.proofs.Copies.{files_apart, slot_stays}
 use Rattle.s3_pack_care.proofs.Named.{present_named}
 use Rattle.s3_pack_care.proofs.Relabelled.{file_behind, mounted_same}
 use Rattle.s3_load.specs.declared.order.Order.{Order}
-use Rattle.s3_load.specs.Inner.Filling.{ChangesOnly, HasGoodIndex, HasMore, counted}
+use Rattle.s3_load.specs.Inner.Filling.{ChangesOnly, HasGoodIndex, HasMore, KeepsSpare, counted}
 use Rattle.s3_load.specs.Inner.Loaded.{ChangesLoaded, HasFile, HasSpace, IsAsked, IsCounted, IsPlaced, KeepsLoadedTail}
 use Rattle.s3_load.proofs.CountedSlots.{counted_slots, slots_later}
 
@@ -290,8 +291,16 @@ module _ (order : Order) (added : List (List ℕ)) (header : Header) (begun plac
       ∙ ap (drop (n * label.record_length)) (sym (file_bytes_are label placed_in) ∙ begun_bytes ∙ file_bytes_are label begun) in
       subst (λ (s : List ℕ). drop (n * label.record_length) (bytes_at s new) ≡ drop (n * label.record_length) (bytes_at s begun)) (sym (counted_sectors label n)) same
 
-  pub loaded_tail : KeepsLoadedTail order begun new
-  loaded_tail = record { header = header; mounts = is.mounts; slot = placed.slot; label = counted label n; there = now_there; named = placed.asked.named; so = own_tail }
+  own_spare : KeepsSpare label n placed_in filled → KeepsSpare (counted label n) n begun new
+  own_spare spare =
+      let before : bytes_at (sectors_of label) placed_in ≡ bytes_at (sectors_of label) begun = sym (file_bytes_are label placed_in) ∙ begun_bytes ∙ file_bytes_are label begun in
+      let after : bytes_at (sectors_of label) filled ≡ bytes_at (sectors_of label) new = sym (sym (file_bytes_are label new) ∙ own_bytes ∙ file_bytes_are label filled) in
+      subst (λ (s : List ℕ). KeepsUnused (layout_of label) n (bytes_at s begun) (bytes_at s new)) (sym (counted_sectors label n))
+      (subst (λ (b : List ℕ). KeepsUnused (layout_of label) n b (bytes_at (sectors_of label) new)) before
+      (subst (λ (b : List ℕ). KeepsUnused (layout_of label) n (bytes_at (sectors_of label) placed_in) b) after spare))
+
+  pub loaded_tail : (is_indexed label.organization ≡ true → KeepsSpare label n placed_in filled) → KeepsLoadedTail order begun new
+  loaded_tail spare = record { header = header; mounts = is.mounts; slot = placed.slot; label = counted label n; there = now_there; named = placed.asked.named; so = (own_tail, λ indexed. own_spare (spare indexed)) }
 
   pub loaded_only : length new ≡ length begun → ChangesLoaded order header begun new
   loaded_only long = record {

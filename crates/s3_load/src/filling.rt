@@ -8,7 +8,7 @@ ghost use Rattle.s3_slots.specs.declared.making.Size.TheVariants.{Records};
 ghost use Rattle.s3_slots.specs.declared.slot.Standing.TheVariants.{Present};
 ghost use Rattle.s3_labels.specs.Inner.Areas.{IsReady, slots_at};
 ghost use Rattle.s3_files.specs.Inner.Files.{AreStored};
-ghost use Rattle.s3_load.specs.Inner.Filling.{AddsByKey, AddsRecord, ChangesOnly, HasGoodIndex, HasMore, IsAtWork, counted, records_of};
+ghost use Rattle.s3_load.specs.Inner.Filling.{AddsByKey, AddsRecord, ChangesOnly, HasGoodIndex, HasMore, IsAtWork, KeepsSpare, KeepsSpareNow, counted, records_of};
 ghost use Rattle.s3_load.specs.Inner.Loaded.{IsAsked, IsNewOf, at_least_one as at_least_one_spec, has_key as has_key_spec, size_asked};
 ghost use Rattle.s3_load.specs.Inner.Refusals.{NamesNone};
 
@@ -146,6 +146,7 @@ pub fn fill(
     requires { IsOfPack (length store.old) label.now }
     ensures records { IfOk result (HasMore label.now (records_of rows.now) store.old store.new) }
     ensures index { IfOk result (λ count. is_indexed label.now.organization ≡ true → HasGoodIndex (counted label.now count) store.new) }
+    ensures spare { IfOk result (λ count. is_indexed label.now.organization ≡ true → KeepsSpare label.now count store.old store.new) }
     ensures long { length store.new ≡ length store.old }
     ensures only { ChangesOnly (sectors_of label.now) store.old store.new }
     ensures no_slot { IfErr result NamesNone }
@@ -209,7 +210,7 @@ fn append_row(
 }
 
 /// Puts records into a file with an index.
-#[tactic(auto, using(s3_files::proofs::Rooms::of_pack_room, s3_files::proofs::Rooms::of_pack_stored, s3_keyed::proofs::Indexes::of_pack_index, crate::proofs::FillLemmas::opened_records, crate::proofs::FillLemmas::opened_work, crate::proofs::FillLemmas::one_more_by_key, crate::proofs::FillLemmas::all_by_key, crate::proofs::FillLemmas::good_by_key, crate::proofs::FillLemmas::only_same, crate::proofs::FillLemmas::only_kept, crate::proofs::FillLemmas::only_more, crate::proofs::FillLemmas::only_within))]
+#[tactic(auto, using(s3_files::proofs::Rooms::of_pack_room, s3_files::proofs::Rooms::of_pack_stored, s3_keyed::proofs::Indexes::of_pack_index, crate::proofs::FillLemmas::opened_records, crate::proofs::FillLemmas::opened_work, crate::proofs::FillLemmas::one_more_by_key, crate::proofs::FillLemmas::all_by_key, crate::proofs::FillLemmas::good_by_key, crate::proofs::FillLemmas::spare_same, crate::proofs::FillLemmas::only_same, crate::proofs::FillLemmas::only_kept, crate::proofs::FillLemmas::only_more, crate::proofs::FillLemmas::only_within))]
 fn fill_by_key(
     alloc: Global,
     store: &mut MemoryStore,
@@ -220,6 +221,7 @@ fn fill_by_key(
     requires indexed { is_indexed label.now.organization ≡ true }
     ensures records { IfOk result (HasMore label.now (records_of rows.now) store.old store.new) }
     ensures index { IfOk result (λ count. HasGoodIndex (counted label.now count) store.new) }
+    ensures spare { IfOk result (λ count. KeepsSpare label.now count store.old store.new) }
     ensures long { length store.new ≡ length store.old }
     ensures only { ChangesOnly (sectors_of label.now) store.old store.new }
     ensures no_slot { IfErr result NamesNone }
@@ -250,7 +252,7 @@ fn fill_by_key(
 
 /// Puts a record into a file with an index, and answers whether there was room for it; that another has its key is added to the
 /// faults.
-#[tactic(auto, using(s3_files::proofs::FileFrames::stored_within, crate::proofs::FillLemmas::loaded_last, crate::proofs::FillLemmas::still_at_work, crate::proofs::FillLemmas::untouched_at_work, crate::proofs::FillLemmas::only_same, crate::proofs::FillLemmas::only_more, crate::proofs::FillLemmas::only_within))]
+#[tactic(auto, using(s3_files::proofs::FileFrames::stored_within, crate::proofs::FillLemmas::loaded_last, crate::proofs::FillLemmas::spare_later, crate::proofs::FillLemmas::still_at_work, crate::proofs::FillLemmas::untouched_at_work, crate::proofs::FillLemmas::only_same, crate::proofs::FillLemmas::only_more, crate::proofs::FillLemmas::only_within))]
 fn put_row(
     alloc: Global,
     file: &mut Keyed,
@@ -261,6 +263,7 @@ fn put_row(
 ) -> Result<bool, LoadFault>
     requires { IsAtWork file.old label.now store.old }
     ensures adds { IfOk result (λ put. put ≡ true → faults.new.count ≡ 0 → AddsByKey row.now.bytes.items file.old file.new store.old store.new) }
+    ensures spare { OnOk result (KeepsSpareNow file.old store.old store.new) }
     ensures work { OnOk result (IsAtWork file.new label.now store.new) }
     ensures before { OnOk result (faults.new.count ≡ 0 → faults.old.count ≡ 0) }
     ensures long { length store.new ≡ length store.old }
@@ -291,6 +294,7 @@ fn add_row(
     requires work { IsAtWork file.old label.now store.old }
     requires long { length row.now.bytes.items ≡ label.now.record_length }
     ensures adds { IfOk result (λ put. put ≡ true → faults.new.count ≡ 0 → AddsByKey row.now.bytes.items file.old file.new store.old store.new) }
+    ensures spare { OnOk result (KeepsSpareNow file.old store.old store.new) }
     ensures work { OnOk result (IsAtWork file.new label.now store.new) }
     ensures before { OnOk result (faults.new.count ≡ 0 → faults.old.count ≡ 0) }
     ensures long { length store.new ≡ length store.old }

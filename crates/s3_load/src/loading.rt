@@ -34,8 +34,8 @@ use std::io::{ErrorKind, Read};
 /// The pack with the records of a table in a file of a level: a new file, which takes the place of a file of its label that isn't
 /// permanent, and has the shape of the new one unless the order allows another, or after the records of the file that is there. Records of a file with an index go in by their keys, whatever
 /// the order of the rows. No byte changes but those of the file and its label, and of the label of a file that is replaced. The
-/// sectors of a file without an index keep the bytes after its last record: a new file isn't cleared. Refused as `LoadFault` says,
-/// with `DamagedSlot` for the first damaged slot; the pack that is given stays as it is.
+/// file's sectors keep each byte that is in no record and in no entry of its index: a new file isn't cleared. Refused as `LoadFault`
+/// says, with `DamagedSlot` for the first damaged slot; the pack that is given stays as it is.
 #[tactic(auto, using(crate::proofs::Refused::none_named))]
 pub fn load<R: Read + Drop>(
     alloc: Global,

@@ -9,7 +9,8 @@ use Rattle.s3_files.specs.Inner.Files.{AreStored, FileShape, file_of}
 use Rattle.s3_files.specs.declared.sequential.Sequential.{Sequential}
 use Rattle.s3_keyed.specs.Index.{index_in, keys_of, layout_of}
 use Rattle.s3_keyed.specs.KeyOrder.{is_good_index}
-use Rattle.s3_keyed.specs.Inner.Keyed.{HasKeyOrder, records_now, shown}
+use Rattle.s3_keyed.specs.Inner.Keyed.{HasKeyOrder, bytes_now, records_now, shown}
+use Rattle.s3_keyed.specs.Inner.Unused.{KeepsUnused}
 use Rattle.s3_keyed.specs.declared.keyed.Keyed.{Keyed}
 use Rattle.s3_pack_care.specs.Inner.Rows.{KeepsTail, shape_of}
 use Rattle.s3_unload.specs.Inner.Ordered.{in_order}
@@ -42,6 +43,10 @@ abbrev pub HasGoodIndex : FileLabel → List (List ℕ) → Type 0
 HasGoodIndex label contents =
     is_good_index (index_in (layout_of label) label.count (bytes_at (sectors_of label) contents)) (keys_of (layout_of label).key (in_order label contents)) ≡ true
 
+-- a file with an index keeps the bytes that are in none of its first so many records and entries
+abbrev pub KeepsSpare : FileLabel → (count : ℕ) → (old new : List (List ℕ)) → Type 0
+KeepsSpare label count old new = KeepsUnused (layout_of label) count (bytes_at (sectors_of label) old) (bytes_at (sectors_of label) new)
+
 -- ---- a file without an index
 -- the file of the label over these sectors, with these records after those that the label counts, and the same bytes after them
 pub record IsFilled (file : Sequential) (label : FileLabel) (added : List (List ℕ)) (old new : List (List ℕ)) : Type 0 where
@@ -66,6 +71,10 @@ pub record IsAtWork (file : Keyed) (label : FileLabel) (contents : List (List �
   pub key_order : HasKeyOrder (shown file) contents
   pub sectors : (shown file).sectors ≡ sectors_of label
   pub layout : (shown file).layout ≡ layout_of label
+
+-- the bytes that are in no record and in no entry stay, except those of the next record and of one more entry
+abbrev pub KeepsSpareNow : Keyed → (old new : List (List ℕ)) → Type 0
+KeepsSpareNow file old new = KeepsUnused (shown file).layout ((shown file).count + 1) (bytes_now (shown file) old) (bytes_now (shown file) new)
 
 -- the file has one record more
 abbrev pub AddsByKey : List ℕ → Keyed → Keyed → (old new : List (List ℕ)) → Type 0

@@ -32,7 +32,7 @@ use Rattle.s3_load.specs.declared.order.Order.{Order}
 use Rattle.s3_load.specs.declared.order.Room.{Room}
 use Rattle.s3_load.specs.declared.order.Room.TheVariants.{ForTable, Records as ForRecords, Tracks as ForTracks}
 use Rattle.s3_load.specs.declared.rows.Row.{Row}
-use Rattle.s3_load.specs.Inner.Filling.{HasGoodIndex, counted, records_of}
+use Rattle.s3_load.specs.Inner.Filling.{HasGoodIndex, KeepsSpare, counted, records_of}
 use Rattle.s3_load.specs.Inner.Tables.{IsTable}
 
 -- ---- the ordered file
@@ -155,10 +155,10 @@ pub record IsInReplaced (order : Order) (contents : List (List ℕ)) (k : ℕ) :
 abbrev pub IsOfLoad : Order → (old new : List (List ℕ)) → (k : ℕ) → Type 0
 IsOfLoad order old new k = IsInLabelled (area_of order.level) order.name new k ⊎ IsInReplaced order old k
 
--- The loaded file, if it has no index, has the same bytes after its last record, to the end of its sectors. So after the records of a
--- new file are the bytes that these sectors had before.
+-- Without an index, the loaded file keeps the bytes after its last record, to the end of its sectors. With an index, it keeps each byte
+-- of its sectors that is in no record and in no entry. So a new file has there the bytes that these sectors had before.
 abbrev pub KeepsLoadedTail : Order → (old new : List (List ℕ)) → Type 0
-KeepsLoadedTail order old new = IsOfFile (area_of order.level) order.name new (λ slot label. is_indexed label.organization ≡ false → KeepsTail (file_of label) old new)
+KeepsLoadedTail order old new = IsOfFile (area_of order.level) order.name new (λ slot label. (is_indexed label.organization ≡ false → KeepsTail (file_of label) old new) × (is_indexed label.organization ≡ true → KeepsSpare label label.count old new))
 
 -- ---- steps
 -- the ordered file is in a slot: a new one without records, if no slot was damaged, or the existing one

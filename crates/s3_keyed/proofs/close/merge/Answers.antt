@@ -9,6 +9,7 @@ use Rattle.s3_keyed.specs.Inner.Shape.{layout_in, bytes_in, entry_of}
 use Rattle.s3_keyed.proofs.Merging.{IsMerging, merge-start}
 use Rattle.s3_keyed.proofs.MergeSteps.{next_place, next_fits, above_fits, less_left, less_added, some_entries, last_at, no_entries, last_hit, last_miss, step_moved, step_placed, merge_ends, ascends_take, short_take, short_at}
 use Rattle.s3_keyed.proofs.Places.{same_records}
+use Rattle.s3_keyed.proofs.Unused.{unused_same, unused_step}
 use Rattle.s3_store.proofs.Calls.{changes_none, changes_err, changes_behind, changes_then}
 use Rattle.s3_keyed.proofs.close.merge.Goals as goal
 
@@ -19,6 +20,15 @@ returns-in_err-write_entry-clause-records g c =
     same_records (layout_in f) (bytes_in f (g.P.Sectors.state c.last_above.new.pool).contents) (bytes_in f (g.P.Sectors.state c.write_entry.new.pool).contents) count (c.highest.left + (c.len-above.result - 1)) few c.write_entry.ensures.outside
     ∙ ap (λ l. records_in f.file.record_length count (bytes_in f l)) c.last_above.ensures.reads.keeps.contents
     ∙ c.highest.invariant.records count few
+
+pub returns-in_err-write_entry-clause-unused : goal.returns-in_err-write_entry-clause-unused
+returns-in_err-write_entry-clause-unused g c =
+    let f = c.args.file.now in
+    let long = some_entries (entries_of c.highest.added) (entry_of c.in-Some.top) c.len-above.result c.len-above.ensures c.in-Some.ensures in
+    unused_step (layout_in f) (c.args.indexed + length (entries_of c.args.added.now)) (c.highest.left + (c.len-above.result - 1)) f.file.sectors (bytes_in f (g.P.Sectors.state c.args.pool.now).contents)
+    (g.P.Sectors.state c.highest.pool) (g.P.Sectors.state c.last_above.new.pool) (g.P.Sectors.state c.write_entry.new.pool)
+    (next_place c.highest.left _ (c.args.indexed + length (entries_of c.args.added.now)) c.len-above.result (entries_of c.highest.added) c.highest.invariant.merging.room (omega arith) long)
+    c.highest.invariant.unused c.last_above.ensures.reads.keeps c.write_entry.ensures.outside
 
 pub returns-in_err-write_entry-clause-changes : goal.returns-in_err-write_entry-clause-changes
 returns-in_err-write_entry-clause-changes g c =
@@ -31,6 +41,15 @@ returns-in_err-write_entry-2-clause-records g c =
     same_records (layout_in f) (bytes_in f (g.P.Sectors.state c.last_above.new.pool).contents) (bytes_in f (g.P.Sectors.state c.write_entry-in_default-2.new.pool).contents) count (c.highest.left + (c.len-above.result - 1)) few c.write_entry-in_default-2.ensures.outside
     ∙ ap (λ l. records_in f.file.record_length count (bytes_in f l)) c.last_above.ensures.reads.keeps.contents
     ∙ c.highest.invariant.records count few
+
+pub returns-in_err-write_entry-2-clause-unused : goal.returns-in_err-write_entry-2-clause-unused
+returns-in_err-write_entry-2-clause-unused g c =
+    let f = c.args.file.now in
+    let long = some_entries (entries_of c.highest.added) (entry_of c.in-Some.top) c.len-above.result c.len-above.ensures c.in-Some.ensures in
+    unused_step (layout_in f) (c.args.indexed + length (entries_of c.args.added.now)) (c.highest.left + (c.len-above.result - 1)) f.file.sectors (bytes_in f (g.P.Sectors.state c.args.pool.now).contents)
+    (g.P.Sectors.state c.highest.pool) (g.P.Sectors.state c.last_above.new.pool) (g.P.Sectors.state c.write_entry-in_default-2.new.pool)
+    (next_place c.highest.left _ (c.args.indexed + length (entries_of c.args.added.now)) c.len-above.result (entries_of c.highest.added) c.highest.invariant.merging.room (omega arith) long)
+    c.highest.invariant.unused c.last_above.ensures.reads.keeps c.write_entry-in_default-2.ensures.outside
 
 pub returns-in_err-write_entry-2-clause-changes : goal.returns-in_err-write_entry-2-clause-changes
 returns-in_err-write_entry-2-clause-changes g c =
@@ -68,6 +87,10 @@ highest-preserved-in-Some-2 g c =
           same_records (layout_in f) (bytes_in f (g.P.Sectors.state c.last_above.new.pool).contents) (bytes_in f (g.P.Sectors.state c.write_entry.new.pool).contents) count (left + above) few c.write_entry.ensures.outside
           ∙ ap (λ l. records_in f.file.record_length count (bytes_in f l)) c.last_above.ensures.reads.keeps.contents
           ∙ c.highest.invariant.records count few;
+      unused = unused_step (layout_in f) (c.args.indexed + length (entries_of c.args.added.now)) (c.highest.left + (c.len-above.result - 1)) f.file.sectors (bytes_in f (g.P.Sectors.state c.args.pool.now).contents)
+          (g.P.Sectors.state c.highest.pool) (g.P.Sectors.state c.last_above.new.pool) (g.P.Sectors.state c.write_entry.new.pool)
+          (next_place c.highest.left _ (c.args.indexed + length (entries_of c.args.added.now)) c.len-above.result (entries_of c.highest.added) c.highest.invariant.merging.room (omega arith) long)
+          c.highest.invariant.unused c.last_above.ensures.reads.keeps c.write_entry.ensures.outside;
       changes = changes_then c.highest.invariant.changes (changes_behind c.in_ok-last.ensures.reads c.in_ok-write_entry.ensures.changes);
     }
 
@@ -97,6 +120,10 @@ highest-preserved g c =
           same_records (layout_in f) (bytes_in f (g.P.Sectors.state c.last_above.new.pool).contents) (bytes_in f (g.P.Sectors.state c.write_entry-in_default-2.new.pool).contents) count (left + above) few c.write_entry-in_default-2.ensures.outside
           ∙ ap (λ l. records_in f.file.record_length count (bytes_in f l)) c.last_above.ensures.reads.keeps.contents
           ∙ c.highest.invariant.records count few;
+      unused = unused_step (layout_in f) (c.args.indexed + length (entries_of c.args.added.now)) (c.highest.left + (c.len-above.result - 1)) f.file.sectors (bytes_in f (g.P.Sectors.state c.args.pool.now).contents)
+          (g.P.Sectors.state c.highest.pool) (g.P.Sectors.state c.last_above.new.pool) (g.P.Sectors.state c.write_entry-in_default-2.new.pool)
+          (next_place c.highest.left _ (c.args.indexed + length (entries_of c.args.added.now)) c.len-above.result (entries_of c.highest.added) c.highest.invariant.merging.room (omega arith) long)
+          c.highest.invariant.unused c.last_above.ensures.reads.keeps c.write_entry-in_default-2.ensures.outside;
       changes = changes_then c.highest.invariant.changes (changes_behind c.in_ok-last.ensures.reads c.in_ok-write_entry-2.ensures.changes);
     }
 
@@ -117,6 +144,7 @@ highest-init g c =
       added_ascends = c.requires.added_ascends;
       short = c.requires.short;
       records = λ count few. refl;
+      unused = unused_same (layout_in f) (c.args.indexed + length (entries_of c.args.added.now)) (bytes_in f (g.P.Sectors.state c.args.pool.now).contents);
       changes = changes_none f.file.sectors tt (g.P.Sectors.state c.args.pool.now);
     }
 

@@ -6,6 +6,7 @@ use Rattle.s3_keyed.specs.Index.{entry_at}
 use Rattle.s3_keyed.specs.Inner.Added.{entries_of}
 use Rattle.s3_store.specs.Inner.Calls.{Changes}
 use Rattle.s3_keyed.specs.Inner.Shape.{layout_in, bytes_in}
+use Rattle.s3_keyed.specs.Inner.Unused.{KeepsUnused}
 use Rattle.s3_keyed.proofs.Merging.{IsMerging}
 use Rattle.s3_keyed.proofs.close.merge.Given as goal
 
@@ -17,6 +18,7 @@ invariant-highest g l = record {
   added_ascends : ascends (keys_in (entries_of l.added)) ≡ true;
   short : All (λ entry. entry.key < 256 ^ l.file.key_length) (entries_of l.added);
   records : (count : ℕ) → count ≤ l.file.file.capacity → records_in l.file.file.record_length count (bytes_in l.file (g.P.Sectors.state l.pool).contents) ≡ records_in l.file.file.record_length count (bytes_in l.file (g.P.Sectors.state l.initial.pool).contents);
+  unused : KeepsUnused (layout_in l.file) (l.indexed + length (entries_of l.initial.added)) (bytes_in l.file (g.P.Sectors.state l.initial.pool).contents) (bytes_in l.file (g.P.Sectors.state l.pool).contents);
   changes : Changes {T = Unit {0}} l.file.file.sectors (Ok tt) (g.P.Sectors.state l.initial.pool) (g.P.Sectors.state l.pool);
 }
 

@@ -39,3 +39,4 @@ returns-clause-tail c =
     loaded_tail order (records_of c.args.rows.now) header c.args.mounted.now.pool c.placed_label.new.mounted.pool c.fill.new.store c.set_count.new.mounted.pool c.in_ok-label.label count c.in_ok-label.ensures.placed
     (c.in_ok-label.ensures.mounted.mounts ∙ ap Ok c.in_ok-label.ensures.header) c.fill.ensures.only c.in_ok-count.ensures.records c.in_ok-count.ensures.index
     (subst (λ h. IsCounted order.level order.name count h c.fill.new.store c.set_count.new.mounted.pool) c.in_ok-label.ensures.header c.in_ok-set_count.ensures.counted)
+    c.in_ok-count.ensures.spare

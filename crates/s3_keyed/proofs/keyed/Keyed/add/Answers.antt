@@ -1,4 +1,4 @@
-use Rattle.std.proofs.Common.{◌++◌, ◌∷◌, [], Ok, refl, sym, ap, ◌∙◌, arith}
+use Rattle.std.proofs.Common.{◌+◌, ◌++◌, ◌∷◌, [], Ok, refl, sym, ap, ◌∙◌, arith}
 use Rattle.std.specs.List.{Contains}
 use Rattle.s3_store.proofs.Frames.{within_from_keeps, keeps_within}
 use Rattle.s3_files.proofs.FileFrames.{stored_keeps}
@@ -9,6 +9,7 @@ use Rattle.s3_keyed.specs.Inner.Shape.{layout_in, bytes_in}
 use Rattle.s3_keyed.specs.Inner.Keyed.{shown, records_now, keys_now}
 use Rattle.s3_keyed.proofs.Appending.{added_duplicate, added_full, added_made, is_none}
 use Rattle.s3_keyed.proofs.CallLemmas.{ordered_keeps, some_room}
+use Rattle.s3_keyed.proofs.Unused.{unused_behind, unused_kept}
 use Rattle.s3_keyed.proofs.keyed.Keyed.add.Goals as goal
 
 pub returns-then-is_some-clause-added : goal.returns-then-is_some-clause-added
@@ -83,3 +84,23 @@ returns-then-self-clause-same g c = record { sectors = refl; layout = refl; star
 
 pub returns-clause-ordered : goal.returns-clause-ordered
 returns-clause-ordered g c = c.in_ok-append_added.ensures.ordered
+
+pub returns-in_err-place-clause-unused : goal.returns-in_err-place-clause-unused
+returns-in_err-place-clause-unused g c =
+    unused_kept (layout_in c.args.self.now.file) (c.args.self.now.count + 1) c.args.self.now.file.file.sectors (g.P.Sectors.state c.args.pool.now) (g.P.Sectors.state c.place.new.pool) c.place.ensures.reads.keeps
+
+pub returns-then-is_some-clause-unused : goal.returns-then-is_some-clause-unused
+returns-then-is_some-clause-unused g c =
+    unused_kept (layout_in c.args.self.now.file) (c.args.self.now.count + 1) c.args.self.now.file.file.sectors (g.P.Sectors.state c.args.pool.now) (g.P.Sectors.state c.place.new.pool) c.place.ensures.reads.keeps
+
+pub returns-then-self-clause-unused : goal.returns-then-self-clause-unused
+returns-then-self-clause-unused g c =
+    unused_kept (layout_in c.args.self.now.file) (c.args.self.now.count + 1) c.args.self.now.file.file.sectors (g.P.Sectors.state c.args.pool.now) (g.P.Sectors.state c.place.new.pool) c.place.ensures.reads.keeps
+
+pub returns-in_err-append_added-clause-unused : goal.returns-in_err-append_added-clause-unused
+returns-in_err-append_added-clause-unused g c =
+    unused_behind (layout_in c.args.self.now.file) (c.args.self.now.count + 1) c.args.self.now.file.file.sectors (g.P.Sectors.state c.args.pool.now) (g.P.Sectors.state c.place.new.pool) (g.P.Sectors.state c.append_added.new.pool) c.place.ensures.reads.keeps c.append_added.ensures.unused
+
+pub returns-clause-unused : goal.returns-clause-unused
+returns-clause-unused g c =
+    unused_behind (layout_in c.args.self.now.file) (c.args.self.now.count + 1) c.args.self.now.file.file.sectors (g.P.Sectors.state c.args.pool.now) (g.P.Sectors.state c.place.new.pool) (g.P.Sectors.state c.append_added.new.pool) c.place.ensures.reads.keeps c.append_added.ensures.unused

@@ -1,4 +1,4 @@
-use Rattle.std.proofs.Common.{◌^◌, refl}
+use Rattle.std.proofs.Common.{◌+◌, ◌^◌, refl, arith}
 use Rattle.s3_keyed.specs.KeyOrder.{number_of}
 use Rattle.s3_keyed.specs.Inner.Added.{entries_of}
 use Rattle.s3_keyed.specs.Inner.Shape.{layout_in, bytes_in}
@@ -6,6 +6,7 @@ use Rattle.s3_files.proofs.RecordLemmas.{records_push}
 use Rattle.s3_keyed.proofs.Appending.{appended_added, added_lacks}
 use Rattle.s3_keyed.proofs.MergeSteps.{number_fits}
 use Rattle.s3_store.proofs.Calls.{changes_none, changes_no_memory}
+use Rattle.s3_keyed.proofs.Unused.{record_unused, unused_same}
 use Rattle.s3_keyed.proofs.keyed.Keyed.append_added.Goals as goal
 
 pub returns-clause-ok : goal.returns-clause-ok
@@ -42,3 +43,17 @@ returns-in_err-write_record-clause-same g c = record { sectors = refl; layout = 
 
 pub returns-clause-same : goal.returns-clause-same
 returns-clause-same g c = record { sectors = refl; layout = refl; started = refl }
+
+pub returns-in_err-insert-clause-unused : goal.returns-in_err-insert-clause-unused
+returns-in_err-insert-clause-unused g c =
+    unused_same (layout_in c.args.self.now.file) (c.args.self.now.count + 1) (bytes_in c.args.self.now.file (g.P.Sectors.state c.args.pool.now).contents)
+
+pub returns-in_err-write_record-clause-unused : goal.returns-in_err-write_record-clause-unused
+returns-in_err-write_record-clause-unused g c =
+    let self = c.args.self.now in
+    record_unused (layout_in self.file) (self.count + 1) self.count (bytes_in self.file (g.P.Sectors.state c.args.pool.now).contents) (bytes_in self.file (g.P.Sectors.state c.write_record.new.pool).contents) (omega arith) c.write_record.ensures.outside
+
+pub returns-clause-unused : goal.returns-clause-unused
+returns-clause-unused g c =
+    let self = c.args.self.now in
+    record_unused (layout_in self.file) (self.count + 1) self.count (bytes_in self.file (g.P.Sectors.state c.args.pool.now).contents) (bytes_in self.file (g.P.Sectors.state c.write_record.new.pool).contents) (omega arith) c.write_record.ensures.outside

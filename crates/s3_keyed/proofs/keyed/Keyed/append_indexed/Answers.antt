@@ -9,6 +9,7 @@ use Rattle.s3_files.proofs.RecordLemmas.{records_push}
 use Rattle.s3_keyed.proofs.Places.{length_keys, same_records}
 use Rattle.s3_keyed.proofs.Appending.{appended_indexed}
 use Rattle.s3_store.proofs.Calls.{changes_err, changes_then}
+use Rattle.s3_keyed.proofs.Unused.{entry_unused, record_unused, unused_then}
 use Rattle.s3_keyed.proofs.keyed.Keyed.append_indexed.Goals as goal
 
 pub write_entry-requires-clause-within : goal.write_entry-requires-clause-within
@@ -45,3 +46,39 @@ returns-clause-ordered g c =
 
 pub returns-clause-changes : goal.returns-clause-changes
 returns-clause-changes g c = changes_then c.in_ok-write_entry.ensures.changes c.in_ok-write_record.ensures.changes
+
+pub returns-in_err-write_entry-clause-unused : goal.returns-in_err-write_entry-clause-unused
+returns-in_err-write_entry-clause-unused g c =
+    let self = c.args.self.now in
+    let old = bytes_in self.file (g.P.Sectors.state c.args.pool.now).contents in
+    let middle = bytes_in self.file (g.P.Sectors.state c.write_entry.new.pool).contents in
+    let counted = c.requires.ordered.counted in
+    let none = ap length c.requires.none_added in
+    let same : self.indexed ≡ self.count = omega (arith, counted, none, length_keys (layout_in self.file) self.count old) in
+    entry_unused (layout_in self.file) (self.count + 1) self.indexed old middle (omega (arith, same)) c.write_entry.ensures.outside
+
+pub returns-in_err-write_record-clause-unused : goal.returns-in_err-write_record-clause-unused
+returns-in_err-write_record-clause-unused g c =
+    let self = c.args.self.now in
+    let old = bytes_in self.file (g.P.Sectors.state c.args.pool.now).contents in
+    let middle = bytes_in self.file (g.P.Sectors.state c.write_entry.new.pool).contents in
+    let new = bytes_in self.file (g.P.Sectors.state c.write_record.new.pool).contents in
+    let counted = c.requires.ordered.counted in
+    let none = ap length c.requires.none_added in
+    let same : self.indexed ≡ self.count = omega (arith, counted, none, length_keys (layout_in self.file) self.count old) in
+    unused_then (layout_in self.file) (self.count + 1) old middle new
+    (entry_unused (layout_in self.file) (self.count + 1) self.indexed old middle (omega (arith, same)) c.write_entry.ensures.outside)
+    (record_unused (layout_in self.file) (self.count + 1) self.count middle new (omega arith) c.write_record.ensures.outside)
+
+pub returns-clause-unused : goal.returns-clause-unused
+returns-clause-unused g c =
+    let self = c.args.self.now in
+    let old = bytes_in self.file (g.P.Sectors.state c.args.pool.now).contents in
+    let middle = bytes_in self.file (g.P.Sectors.state c.write_entry.new.pool).contents in
+    let new = bytes_in self.file (g.P.Sectors.state c.write_record.new.pool).contents in
+    let counted = c.requires.ordered.counted in
+    let none = ap length c.requires.none_added in
+    let same : self.indexed ≡ self.count = omega (arith, counted, none, length_keys (layout_in self.file) self.count old) in
+    unused_then (layout_in self.file) (self.count + 1) old middle new
+    (entry_unused (layout_in self.file) (self.count + 1) self.indexed old middle (omega (arith, same)) c.write_entry.ensures.outside)
+    (record_unused (layout_in self.file) (self.count + 1) self.count middle new (omega arith) c.write_record.ensures.outside)

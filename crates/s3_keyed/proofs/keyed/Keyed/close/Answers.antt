@@ -1,9 +1,10 @@
-use Rattle.std.proofs.Common.{◌≡◌, ◌+◌, length, sym, ap, ◌∙◌, arith}
+use Rattle.std.proofs.Common.{◌≡◌, ◌+◌, length, sym, ap, subst, ◌∙◌, arith}
 use Rattle.s3_keyed.specs.KeyOrder.{key_order, is_good_index}
 use Rattle.s3_keyed.specs.Index.{index_in, keys_of}
 use Rattle.s3_keyed.specs.Inner.Added.{entries_of}
 use Rattle.s3_keyed.specs.Inner.Shape.{layout_in, bytes_in}
 use Rattle.s3_keyed.specs.Inner.Keyed.{shown, keys_now}
+use Rattle.s3_keyed.specs.Inner.Unused.{KeepsUnused}
 use Rattle.s3_keyed.proofs.Places.{length_keys}
 use Rattle.s3_keyed.proofs.Goodness.{to_ascends, order_is_good}
 use Rattle.s3_keyed.proofs.Ordered.{index_ascending}
@@ -40,3 +41,17 @@ returns-clause-good g c =
     ap (λ l. is_good_index l (keys_now (shown self) (g.P.Sectors.state c.merge.new.pool).contents)) index
     ∙ ap (is_good_index (key_order keys)) same
     ∙ order_is_good keys (to_ascends (key_order keys) c.requires.ordered.distinct)
+
+pub returns-in_err-merge-clause-unused : goal.returns-in_err-merge-clause-unused
+returns-in_err-merge-clause-unused g c =
+    let self = c.args.self in
+    let old = bytes_in self.file (g.P.Sectors.state c.args.pool.now).contents in
+    let all : self.indexed + length (entries_of self.added) ≡ self.count = omega (arith, c.requires.ordered.counted, length_keys (layout_in self.file) self.count old) in
+    subst (λ n. KeepsUnused (layout_in self.file) n old (bytes_in self.file (g.P.Sectors.state c.merge.new.pool).contents)) all c.merge.ensures.unused
+
+pub returns-clause-unused : goal.returns-clause-unused
+returns-clause-unused g c =
+    let self = c.args.self in
+    let old = bytes_in self.file (g.P.Sectors.state c.args.pool.now).contents in
+    let all : self.indexed + length (entries_of self.added) ≡ self.count = omega (arith, c.requires.ordered.counted, length_keys (layout_in self.file) self.count old) in
+    subst (λ n. KeepsUnused (layout_in self.file) n old (bytes_in self.file (g.P.Sectors.state c.merge.new.pool).contents)) all c.merge.ensures.unused

@@ -1,4 +1,4 @@
-use Rattle.std.proofs.Common.{◌++◌, ◌∷◌, [], Ok, nat_lt, refl, sym, ap, ◌∙◌, arith}
+use Rattle.std.proofs.Common.{◌+◌, ◌++◌, ◌∷◌, [], Ok, nat_lt, refl, sym, ap, ◌∙◌, arith}
 use Rattle.std.specs.List.{list_all, Contains}
 use Rattle.s3_store.proofs.Frames.{within_from_keeps, keeps_within}
 use Rattle.s3_files.proofs.FileFrames.{stored_keeps}
@@ -9,6 +9,7 @@ use Rattle.s3_keyed.specs.Inner.Shape.{layout_in, bytes_in}
 use Rattle.s3_keyed.specs.Inner.Keyed.{shown, records_now, keys_now}
 use Rattle.s3_keyed.proofs.Appending.{loaded_not_ascending, loaded_full, loaded_made, above_is_new}
 use Rattle.s3_keyed.proofs.CallLemmas.{ordered_keeps, some_room}
+use Rattle.s3_keyed.proofs.Unused.{unused_behind, unused_kept}
 use Rattle.s3_keyed.proofs.keyed.Keyed.load.Goals as goal
 
 pub returns-then-not-branch-clause-loaded : goal.returns-then-not-branch-clause-loaded
@@ -114,3 +115,31 @@ returns-then-is_empty-clause-ordered g c = c.in_ok-append_indexed.ensures.ordere
 
 pub returns-clause-ordered : goal.returns-clause-ordered
 returns-clause-ordered g c = c.in_ok-append_added.ensures.ordered
+
+pub returns-in_err-is_above_all-clause-unused : goal.returns-in_err-is_above_all-clause-unused
+returns-in_err-is_above_all-clause-unused g c =
+    unused_kept (layout_in c.args.self.now.file) (c.args.self.now.count + 1) c.args.self.now.file.file.sectors (g.P.Sectors.state c.args.pool.now) (g.P.Sectors.state c.is_above_all.new.pool) c.is_above_all.ensures.reads.keeps
+
+pub returns-then-not-branch-clause-unused : goal.returns-then-not-branch-clause-unused
+returns-then-not-branch-clause-unused g c =
+    unused_kept (layout_in c.args.self.now.file) (c.args.self.now.count + 1) c.args.self.now.file.file.sectors (g.P.Sectors.state c.args.pool.now) (g.P.Sectors.state c.is_above_all.new.pool) c.is_above_all.ensures.reads.keeps
+
+pub returns-then-self-clause-unused : goal.returns-then-self-clause-unused
+returns-then-self-clause-unused g c =
+    unused_kept (layout_in c.args.self.now.file) (c.args.self.now.count + 1) c.args.self.now.file.file.sectors (g.P.Sectors.state c.args.pool.now) (g.P.Sectors.state c.is_above_all.new.pool) c.is_above_all.ensures.reads.keeps
+
+pub returns-in_err-append_indexed-clause-unused : goal.returns-in_err-append_indexed-clause-unused
+returns-in_err-append_indexed-clause-unused g c =
+    unused_behind (layout_in c.args.self.now.file) (c.args.self.now.count + 1) c.args.self.now.file.file.sectors (g.P.Sectors.state c.args.pool.now) (g.P.Sectors.state c.is_above_all.new.pool) (g.P.Sectors.state c.append_indexed.new.pool) c.is_above_all.ensures.reads.keeps c.append_indexed.ensures.unused
+
+pub returns-then-is_empty-clause-unused : goal.returns-then-is_empty-clause-unused
+returns-then-is_empty-clause-unused g c =
+    unused_behind (layout_in c.args.self.now.file) (c.args.self.now.count + 1) c.args.self.now.file.file.sectors (g.P.Sectors.state c.args.pool.now) (g.P.Sectors.state c.is_above_all.new.pool) (g.P.Sectors.state c.append_indexed.new.pool) c.is_above_all.ensures.reads.keeps c.append_indexed.ensures.unused
+
+pub returns-in_err-append_added-clause-unused : goal.returns-in_err-append_added-clause-unused
+returns-in_err-append_added-clause-unused g c =
+    unused_behind (layout_in c.args.self.now.file) (c.args.self.now.count + 1) c.args.self.now.file.file.sectors (g.P.Sectors.state c.args.pool.now) (g.P.Sectors.state c.is_above_all.new.pool) (g.P.Sectors.state c.append_added.new.pool) c.is_above_all.ensures.reads.keeps c.append_added.ensures.unused
+
+pub returns-clause-unused : goal.returns-clause-unused
+returns-clause-unused g c =
+    unused_behind (layout_in c.args.self.now.file) (c.args.self.now.count + 1) c.args.self.now.file.file.sectors (g.P.Sectors.state c.args.pool.now) (g.P.Sectors.state c.is_above_all.new.pool) (g.P.Sectors.state c.append_added.new.pool) c.is_above_all.ensures.reads.keeps c.append_added.ensures.unused

@@ -5,6 +5,7 @@ use Rattle.s3_keyed.specs.Inner.Shape.{layout_in, bytes_in}
 use Rattle.s3_keyed.specs.Inner.Keyed.{shown, records_now}
 use Rattle.s3_keyed.proofs.Places.{index_stays}
 use Rattle.s3_keyed.proofs.CallLemmas.{below_capacity, keys_updated, ordered_same, place_there, same_key, update_changed, update_made}
+use Rattle.s3_keyed.proofs.Unused.{record_unused, unused_same}
 use Rattle.s3_keyed.proofs.keyed.Keyed.replace.Goals as goal
 
 pub returns-then-not-have_same_key-clause-updated : goal.returns-then-not-have_same_key-clause-updated
@@ -47,3 +48,17 @@ returns-clause-ordered g c =
     (index_stays layout bytes new (c.args.i * long) long self.file.file.count c.write_record.ensures.records c.write_record.ensures.outside)
     (index_stays layout bytes new (c.args.i * long) long self.indexed c.write_record.ensures.records c.write_record.ensures.outside)
     (ap (keys_of layout.key) set ∙ keys_updated layout.key c.args.i c.args.bytes.now c.args.old.now records c.requires.there same)
+
+pub returns-then-not-have_same_key-clause-unused : goal.returns-then-not-have_same_key-clause-unused
+returns-then-not-have_same_key-clause-unused g c =
+    unused_same (layout_in c.args.self.now.file) c.args.self.now.count (bytes_in c.args.self.now.file (g.P.Sectors.state c.args.pool.now).contents)
+
+pub returns-in_err-write_record-clause-unused : goal.returns-in_err-write_record-clause-unused
+returns-in_err-write_record-clause-unused g c =
+    let self = c.args.self.now in
+    record_unused (layout_in self.file) self.count c.args.i (bytes_in self.file (g.P.Sectors.state c.args.pool.now).contents) (bytes_in self.file (g.P.Sectors.state c.write_record.new.pool).contents) (place_there self.file.file.record_length self.count c.args.i (bytes_in self.file (g.P.Sectors.state c.args.pool.now).contents) c.args.old.now c.requires.there) c.write_record.ensures.outside
+
+pub returns-clause-unused : goal.returns-clause-unused
+returns-clause-unused g c =
+    let self = c.args.self.now in
+    record_unused (layout_in self.file) self.count c.args.i (bytes_in self.file (g.P.Sectors.state c.args.pool.now).contents) (bytes_in self.file (g.P.Sectors.state c.write_record.new.pool).contents) (place_there self.file.file.record_length self.count c.args.i (bytes_in self.file (g.P.Sectors.state c.args.pool.now).contents) c.args.old.now c.requires.there) c.write_record.ensures.outside

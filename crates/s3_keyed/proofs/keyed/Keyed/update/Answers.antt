@@ -10,6 +10,7 @@ use Rattle.s3_keyed.specs.Inner.Shape.{layout_in, bytes_in}
 use Rattle.s3_keyed.specs.Inner.Keyed.{shown, records_now}
 use Rattle.s3_keyed.proofs.Places.{index_stays}
 use Rattle.s3_keyed.proofs.CallLemmas.{no_record, below_capacity, update_none, update_changed, update_made, same_key, keys_updated, ordered_same}
+use Rattle.s3_keyed.proofs.Unused.{record_unused, unused_behind, unused_kept, unused_same}
 use Rattle.s3_keyed.proofs.keyed.Keyed.update.Goals as goal
 
 pub returns-then-i-self-clause-updated : goal.returns-then-i-self-clause-updated
@@ -77,3 +78,27 @@ has_key_of-requires-clause-within g c = below_capacity c.args.i c.args.self.now.
 
 pub write_record-requires-clause-within : goal.write_record-requires-clause-within
 write_record-requires-clause-within g c = below_capacity c.args.i c.args.self.now.count c.args.self.now.file.file.capacity c.if-i-self.false c.args.self.now.counted
+
+pub returns-then-i-self-clause-unused : goal.returns-then-i-self-clause-unused
+returns-then-i-self-clause-unused g c =
+    unused_same (layout_in c.args.self.now.file) c.args.self.now.count (bytes_in c.args.self.now.file (g.P.Sectors.state c.args.pool.now).contents)
+
+pub returns-in_err-has_key_of-clause-unused : goal.returns-in_err-has_key_of-clause-unused
+returns-in_err-has_key_of-clause-unused g c =
+    unused_kept (layout_in c.args.self.now.file) c.args.self.now.count c.args.self.now.file.file.sectors (g.P.Sectors.state c.args.pool.now) (g.P.Sectors.state c.has_key_of.new.pool) c.has_key_of.ensures.reads.keeps
+
+pub returns-then-not-branch-clause-unused : goal.returns-then-not-branch-clause-unused
+returns-then-not-branch-clause-unused g c =
+    unused_kept (layout_in c.args.self.now.file) c.args.self.now.count c.args.self.now.file.file.sectors (g.P.Sectors.state c.args.pool.now) (g.P.Sectors.state c.has_key_of.new.pool) c.has_key_of.ensures.reads.keeps
+
+pub returns-in_err-write_record-clause-unused : goal.returns-in_err-write_record-clause-unused
+returns-in_err-write_record-clause-unused g c =
+    let self = c.args.self.now in
+    unused_behind (layout_in self.file) self.count self.file.file.sectors (g.P.Sectors.state c.args.pool.now) (g.P.Sectors.state c.has_key_of.new.pool) (g.P.Sectors.state c.write_record.new.pool) c.has_key_of.ensures.reads.keeps
+    (record_unused (layout_in self.file) self.count c.args.i (bytes_in self.file (g.P.Sectors.state c.has_key_of.new.pool).contents) (bytes_in self.file (g.P.Sectors.state c.write_record.new.pool).contents) c.if-i-self.false c.write_record.ensures.outside)
+
+pub returns-clause-unused : goal.returns-clause-unused
+returns-clause-unused g c =
+    let self = c.args.self.now in
+    unused_behind (layout_in self.file) self.count self.file.file.sectors (g.P.Sectors.state c.args.pool.now) (g.P.Sectors.state c.has_key_of.new.pool) (g.P.Sectors.state c.write_record.new.pool) c.has_key_of.ensures.reads.keeps
+    (record_unused (layout_in self.file) self.count c.args.i (bytes_in self.file (g.P.Sectors.state c.has_key_of.new.pool).contents) (bytes_in self.file (g.P.Sectors.state c.write_record.new.pool).contents) c.if-i-self.false c.write_record.ensures.outside)
