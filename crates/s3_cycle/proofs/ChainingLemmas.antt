@@ -1,5 +1,5 @@
 -- CHAIN: its request, and how the run continues if no record is found.
-use Rattle.std.proofs.Common.{◌≡◌, ℕ, suc, ◌<◌, arith, ℤ, List, [], ◌∷◌, Bool, true, false, length, refl, sym, ap, ◌∙◌, subst}
+use Rattle.std.proofs.Common.{◌≡◌, ℕ, suc, ◌+◌, ◌<◌, arith, ℤ, List, [], ◌∷◌, Bool, true, false, length, refl, sym, ap, ◌∙◌, subst}
 use Rattle.std.specs.Prelude.{Option, Some, None, slice_get, unwrap_or, if◌then◌else◌}
 use Rattle.std.specs.List.{list_all}
 use Rattle.std.proofs.lemmas.Bool.{and_parts}
@@ -49,7 +49,7 @@ use Rattle.s3_cycle.specs.declared.went.Calculated.TheVariants as one
 use Rattle.s3_cycle.specs.Inner.Requests.{IsSoughtBy, IsDiskFile, IsChainedBy, request_of}
 use Rattle.s3_cycle.specs.declared.stepper.Stepper.{Stepper}
 use Rattle.s3_cycle.specs.Inner.Rest.{calculating, answered, chain_answered}
-use Rattle.s3_cycle.specs.Inner.Going.{own, held_by, here, IsRunning, CanCalculate, IsChainOf, IsLineAt, GoesOn, Changes}
+use Rattle.s3_cycle.specs.Inner.Going.{own, held_by, here, IsRunning, CanCalculate, IsChainOf, IsLineAt, IsPastChain, GoesOn, Changes}
 use Rattle.s3_cycle.specs.Inner.Entries.{turn_entry}
 use Rattle.s3_cycle.specs.Inner.Environment.{environment}
 use Rattle.s3_cycle.specs.Inner.Calculating.{Does, IsPerformed, ShowsMiss, Misses, lines_left, performing}
@@ -215,16 +215,16 @@ answered_so source p progress file missing line e is (Refused code) = ap (λ (en
 answered_so source p progress file missing line e is (Reply digit) = ap (λ (entry : Option Indicator). not_found (again source) entry (calculating source p progress) e) (sym is)
 
 -- CHAIN seeks a record
-pub chains_waiting : (c mid new : Stepper) (place file size : ℕ) (missing : Option Indicator) (line : CalculationLine Reference) (seeks : Sought) → IsRunning c → CanCalculate c.program c.progress → IsChainIn c.program place line file
+pub chains_waiting : (c mid new : Stepper) (place file size : ℕ) (missing : Option Indicator) (line : CalculationLine Reference) (seeks : Sought) → IsRunning c → CanCalculate c.program c.progress → c.progress.course.here.place ≡ place + 1 → IsChainIn c.program place line file
     → missing ≡ first_indicator line.indicators → Changes c mid (λ source. forgotten source (name_of_file c.program file)) → true ≡ is_served (held_by c) (file_at c.program file) → size ≡ (file_at c.program file).record_length → Seeks c line file seeks
     → new ≡ record mid { request = asks.File file (calls.Chain size seeks); point = at.Chained file missing } → GoesOn c new (here c (chaining place))
 unfolding request_of
-chains_waiting c mid new place file size missing line seeks running calculates it is changes served sized sought_there same =
+chains_waiting c mid new place file size missing line seeks running calculates next it is changes served sized sought_there same =
     goes_then c mid new _ _ (changed_program c mid change changes) refl
     (goes_wait mid new (asks.File file (calls.Chain size seeks)) (at.Chained file missing) (here c (chaining place)) same
     (changed_running c mid change changes running)
-    (changed_stays (λ p progress. (IsChainOf p file missing × (size ≡ (file_at p file).record_length)) × CanCalculate p progress) c mid change changes
-    ((record { place = place; line = line; there = it.there; operation = it.bears; names = it.names; within = it.within; misses = is }, sized), calculates))
+    (changed_stays (λ p progress. (IsChainOf p file missing × (size ≡ (file_at p file).record_length)) × (CanCalculate p progress × IsPastChain p progress)) c mid change changes
+    ((record { place = place; line = line; there = it.there; operation = it.bears; names = it.names; within = it.within; misses = is }, sized), (calculates, record { place = place; is_chain = record { line = line; there = it.there; operation = it.bears }; is_next = next })))
     tt
     (changed_stays (λ p progress. IsDiskFile p.files.items file (IsChainedBy size seeks)) c mid change changes
     (chain_fits c.program line place file size seeks it.there it.bears it.names it.within sized sought_there.by))

@@ -67,7 +67,7 @@ use Rattle.s3_cycle.specs.declared.stepper.Stepper.{Stepper}
 use Rattle.s3_cycle.specs.Inner.Requests.{Allows, IsLine, IsDiskFile, TakesRecord, request_of, request_to}
 use Rattle.s3_cycle.specs.Inner.Rest.{lines_from, starts_of}
 use Rattle.s3_cycle.specs.Inner.Environment.{environment, others}
-use Rattle.s3_cycle.specs.Inner.Going.{own, held_by, here, AreSound, IsRunning, IsWalk, GoesOn, Changes, puts_record}
+use Rattle.s3_cycle.specs.Inner.Going.{own, held_by, here, AreSound, IsPastLine, IsRunning, IsWalk, GoesOn, Changes, puts_record}
 use Rattle.s3_cycle.specs.Inner.Entries.{turn_entry}
 use Rattle.s3_cycle.specs.Inner.Lines.{is_held, is_due, IsDue}
 use Rattle.s3_cycle.specs.Inner.Printing.{AsksFor, CanCompose, CanStore, ComposesLine}
@@ -274,13 +274,13 @@ update_fits c file asked current is stores =
       suits = record { takes = stores.fits.suits; updated = ap is_updated (sym (taking_line c file asked stores)) ∙ updated };
     }
 
-pub stores : (old new : Stepper) (line : Output) (k : ℕ) (call : FileCall) (w : Walk) (next : ℕ) → IsRunning old → IsWalk old.program old.progress w → puts_record call ≡ true
+pub stores : (old new : Stepper) (line : Output) (k : ℕ) (call : FileCall) (w : Walk) (next : ℕ) → IsRunning old → IsWalk old.program old.progress w → IsPastLine old.program w next → puts_record call ≡ true
     → request_to (name_of_file old.program k) old.composition call ≡ disk_request (file_at old.program k) line old.composition (held_by old)
     → IsDiskFile old.program.files.items k (Allows call (length old.composition)) → new ≡ record old { request = asks.File k call; point = at.Records w next }
     → GoesOn old new (here old (λ source program progress e. ask (disk_request (file_at program k) line old.composition e) (λ answer. stored_or_halted (again source) (lines_from source program progress w next) answer e)))
 unfolding request_of
-stores old new line k call w next running walk is meant fits same =
-    goes_wait old new (asks.File k call) (at.Records w next) _ same running (is, walk) tt fits
+stores old new line k call w next running walk past is meant fits same =
+    goes_wait old new (asks.File k call) (at.Records w next) _ same running (is, (walk, past)) tt fits
     (ap (λ r. ask r (λ answer. stored_or_halted (again (own old)) (lines_from (own old) old.program old.progress w next) answer (held_by old))) (sym meant))
 
 -- ---- a line is written
@@ -490,6 +490,12 @@ asks_for old start line instruction asked line_is slot whole storing =
     let at : whole.file ≡ file_at old.program instruction.file = whole_file old start instruction whole ∙ ap (file_at old.program) (sym slot) in
     λ positions e.
     ap (λ (f : FileLine). disk_request f line positions e) (sym at) ∙ (storing.line line positions e line_is ∙ ap (λ (f : FileLine). disk_spec.request_of asked f positions e) at)
+
+-- the line is the one before the next
+pub line_past : (old mid : Stepper) (w : Walk) (place : ℕ) (due : IsDue old w place) (line : Output) (instruction : OutputInstruction) → IsComposed old mid w place due.start line instruction → IsPastLine mid.program w (place + 1)
+line_past old mid w place due line instruction is =
+    let P : Program → Type 0 = λ p. IsPastLine p w (place + 1) in
+    subst P (sym (composed_program old mid due.start is.composes)) (record { place = place; start = due.start; there = due.there; is_next = refl })
 
 -- the line's file on disk can take the record
 pub stores_line : (old mid : Stepper) (w : Walk) (place : ℕ) (start : OutputStart) (line : Output) (instruction : OutputInstruction) (asked : DiskRequest) → IsComposed old mid w place start line instruction

@@ -11,7 +11,7 @@ ghost use Rattle.s3_program.specs.declared.starts.Walk.TheVariants as walk;
 ghost use Rattle.s3_match.specs.Inner.Heads.{file_at};
 ghost use Rattle.s3_match.specs.Inner.Reading.{IsUnreadAt, input_at};
 ghost use Rattle.s3_cycle.specs.Inner.Answers.{IsRecordOrNothing, is_done_or_refused, is_reply};
-ghost use Rattle.s3_cycle.specs.Inner.Going.{CanCalculate, Continues, GoesOn, IsChainOf, IsRunning, IsWaiting, IsWalk, here};
+ghost use Rattle.s3_cycle.specs.Inner.Going.{CanCalculate, Continues, GoesOn, IsChainOf, IsPastChain, IsPastLine, IsRunning, IsWaiting, IsWalk, here};
 
 use crate::progress::{Continuation, Point, Time};
 use crate::request::Answer;
@@ -83,6 +83,7 @@ impl Stepper {
     fn go_on_stored(&mut self, walk: Walk, next: usize, answer: Answer<'_>)
         requires running { IsRunning self.old }
         requires walk { IsWalk self.old.program self.old.progress walk }
+        requires past { IsPastLine self.old.program walk next }
         requires fits { is_done_or_refused answer ≡ true }
         ensures { GoesOn self.old self.new (here self.old (λ source program progress. stored_or_halted (again source) (lines_from source program progress walk next) (answer_of answer.entry))) }
     {
@@ -111,6 +112,7 @@ impl Stepper {
     fn go_on_chained(&mut self, file: usize, missing: Option<Indicator>, answer: Answer<'_>)
         requires running { IsRunning self.old }
         requires calculates { CanCalculate self.old.program self.old.progress }
+        requires past { IsPastChain self.old.program self.old.progress }
         requires chain { IsChainOf self.old.program file missing }
         requires fits { IsRecordOrNothing (file_at self.old.program file) answer }
         ensures { GoesOn self.old self.new (here self.old (λ source program progress. chain_answered source program progress file missing (answer_of answer.entry))) }

@@ -1,5 +1,5 @@
 //! CHAIN: what it looks for, and what becomes of the record.
-ghost use Rattle.std.specs.Prelude.{◌≡◌, ◌<◌, true, None, Some, IsTrue, length, slice_get};
+ghost use Rattle.std.specs.Prelude.{◌≡◌, ◌<◌, ◌+◌, true, None, Some, IsTrue, length, slice_get};
 ghost use Rattle.s3_lines.specs.declared.sheet.CalculationLine.{CalculationLine};
 ghost use Rattle.s3_program.specs.declared.program.Reference.{Reference};
 ghost use Rattle.s3_lines.specs.declared.sheet.Operation.TheVariants as op;
@@ -16,7 +16,7 @@ ghost use Rattle.s3_match.specs.Inner.Heads.{file_at};
 ghost use Rattle.s3_match.specs.Inner.Reading.{IsReading};
 ghost use Rattle.s3_match.specs.Inner.Types.{is_type_start, kind_at, name_of_file};
 ghost use Rattle.s3_cycle.specs.Inner.Rest.{calculating, chain_answered};
-ghost use Rattle.s3_cycle.specs.Inner.Going.{AreSound, IsRunning, CanCalculate, IsChainOf, IsLineAt, Changes, GoesOn, own, here};
+ghost use Rattle.s3_cycle.specs.Inner.Going.{AreSound, IsRunning, CanCalculate, IsChainOf, IsLineAt, IsPastChain, Changes, GoesOn, own, here};
 ghost use Rattle.s3_cycle.specs.Inner.Heads.{IsRecordOf};
 ghost use Rattle.s3_cycle.specs.Inner.Calculating.{Misses};
 ghost use Rattle.s3_cycle.specs.Inner.Chaining.{ChainsAt, DoesChain, Seeks};
@@ -53,6 +53,7 @@ impl Stepper {
         requires running { IsRunning self.old }
         requires calculates { CanCalculate self.old.program self.old.progress }
         requires chain { IsLineAt self.old.program place op.Chain }
+        requires next { self.old.progress.course.here.place ≡ place + 1 }
         requires chained { (line : CalculationLine Reference) → slice_get self.old.program.calculations.items place ≡ Some line → IsChained self.old.program line chained }
         ensures { DoesChain self.old self.new place result }
     {
@@ -90,6 +91,7 @@ impl Stepper {
     fn miss(&mut self, missing: Option<Indicator>) -> Calculated
         requires running { IsRunning self.old }
         requires calculates { CanCalculate self.old.program self.old.progress }
+        requires past { IsPastChain self.old.program self.old.progress }
         requires settable { is_settable_entry missing ≡ true }
         ensures { Misses self.old self.new missing result }
     {
@@ -110,6 +112,7 @@ impl Stepper {
     pub fn chain_missed(&mut self, missing: Option<Indicator>)
         requires running { IsRunning self.old }
         requires calculates { CanCalculate self.old.program self.old.progress }
+        requires past { IsPastChain self.old.program self.old.progress }
         requires settable { is_settable_entry missing ≡ true }
         ensures { GoesOn self.old self.new (here self.old (λ source program progress. not_found (again source) missing (calculating source program progress))) }
     {
@@ -124,6 +127,7 @@ impl Stepper {
     pub fn chain_found(&mut self, file: usize, missing: Option<Indicator>, bytes: &[u8])
         requires running { IsRunning self.old }
         requires calculates { CanCalculate self.old.program self.old.progress }
+        requires past { IsPastChain self.old.program self.old.progress }
         requires chain { IsChainOf self.old.program file missing }
         requires record { IsRecordOf (file_at self.old.program file) bytes.now }
         ensures { GoesOn self.old self.new (here self.old (λ source program progress. chain_answered source program progress file missing (Found bytes.now))) }

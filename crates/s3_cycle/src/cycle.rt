@@ -121,6 +121,7 @@ impl Cycle {
     }
 
     /// The place of a halted run in its source: after reply 0 it continues as the meaning does after that card.
+    /// It is `Nowhere` only if the run doesn't halt, or if a halt indicator halts it.
     pub fn stand(&self) -> Stand
         ensures value { result ≡ stand_of self.now }
         ensures card { (source : Source) → AsksAt source self.now result }

@@ -10,7 +10,7 @@ ghost use Rattle.s3_match.specs.Inner.Heads.{file_at};
 ghost use Rattle.s3_match.specs.Inner.Types.{name_of_file};
 ghost use Rattle.s3_cycle.specs.Inner.Requests.{Allows, IsDiskFile, request_to};
 ghost use Rattle.s3_cycle.specs.Inner.Rest.{lines_from};
-ghost use Rattle.s3_cycle.specs.Inner.Going.{AreSound, Changes, IsRunning, IsWalk, GoesOn, held_by, here, puts_record};
+ghost use Rattle.s3_cycle.specs.Inner.Going.{AreSound, Changes, IsPastLine, IsRunning, IsWalk, GoesOn, held_by, here, puts_record};
 ghost use Rattle.s3_cycle.specs.Inner.Printing.{AsksFor, CanStore};
 
 use crate::progress::Point;
@@ -63,6 +63,7 @@ impl Stepper {
     pub fn store(&mut self, file: usize, request: DiskRequest, walk: Walk, next: usize)
         requires running { IsRunning self.old }
         requires walk { IsWalk self.old.program self.old.progress walk }
+        requires past { IsPastLine self.old.program walk next }
         requires stores { CanStore self.old file request }
         ensures { (line : Output) → AsksFor self.old.program file line request
             → GoesOn self.old self.new (here self.old (λ source program progress e. ask (disk_request_spec (file_at program file) line self.old.composition e)

@@ -114,11 +114,12 @@ impl Stepper {
         let Time::Details(selection) = self.progress.time else {
             return Stand::Nowhere;
         };
+        let number = selection.number;
         match self.progress.reading.files.get(selection.place) {
             Some(input) => Stand::Field {
                 place,
                 file: input.file,
-                number: selection.number,
+                number,
             },
             None => Stand::Nowhere,
         }

@@ -1,5 +1,5 @@
 -- Steps of a suspended run: each continues as the semantics does.
-use Rattle.std.specs.Prelude.{◌≡◌, ◌≤◌, ◌<◌, ℕ, Bool, true, false, not, ◌||◌, List, length, Option, Some, is_some, slice_get}
+use Rattle.std.specs.Prelude.{◌≡◌, ◌≤◌, ◌<◌, ◌+◌, ℕ, Bool, true, false, not, ◌||◌, List, length, Option, Some, is_some, slice_get}
 use Rattle.std.specs.List.{All, list_any, list_all}
 use Rattle.s3_lines.specs.Files.{is_card_reader}
 use Rattle.s3_cards.specs.declared.name.Name.{Name}
@@ -19,6 +19,7 @@ use Rattle.s3_meaning.specs.Selection as meaning
 use Rattle.s3_program.specs.declared.program.Program.{Program}
 use Rattle.s3_program.specs.declared.program.Reference.{Reference}
 use Rattle.s3_program.specs.declared.program.Reference.TheVariants.{File}
+use Rattle.s3_program.specs.declared.starts.OutputStart.{OutputStart}
 use Rattle.s3_program.specs.declared.starts.TypeStart.{TypeStart}
 use Rattle.s3_program.specs.declared.starts.Walk.{Walk}
 use Rattle.s3_program.specs.declared.starts.Walk.TheVariants as walk
@@ -50,7 +51,7 @@ use Rattle.s3_cycle.specs.declared.request.Request.TheVariants as asks
 use Rattle.s3_cycle.specs.declared.state.State.{State}
 use Rattle.s3_cycle.specs.declared.stepper.Stepper.{Stepper}
 use Rattle.s3_cycle.specs.Inner.Requests.{IsLine, FitsFile}
-use Rattle.s3_cycle.specs.Inner.Rest.{rest, inputs_in, moved_bytes, selected_bytes, fields_at}
+use Rattle.s3_cycle.specs.Inner.Rest.{rest, inputs_in, moved_bytes, selected_bytes, starts_of, fields_at}
 use Rattle.s3_cycle.specs.Inner.Environment.{environment}
 
 -- ---- the state of a run
@@ -156,6 +157,19 @@ pub record CanMove (program : Program) (progress : Progress) (m : Moves) (place 
   pub moves : AreMoves program progress m
   pub within : AreWithin program (moved_bytes progress m) place
 
+-- an output line is the one before the next of a walk
+pub record IsPastLine (program : Program) (w : Walk) (next : ℕ) : Type 0 where
+  pub place : ℕ
+  pub start : OutputStart
+  pub there : slice_get (starts_of program.starts w) place ≡ Some start
+  pub is_next : next ≡ place + 1
+
+-- calculations continue at the line after a CHAIN
+pub record IsPastChain (program : Program) (progress : Progress) : Type 0 where
+  pub place : ℕ
+  pub is_chain : IsLineAt program place operation.Chain
+  pub is_next : progress.course.here.place ≡ place + 1
+
 -- the line at this place has a field
 pub record IsField (program : Program) (place : ℕ) : Type 0 where
   pub field : FieldLine Reference
@@ -164,11 +178,11 @@ pub record IsField (program : Program) (place : ℕ) : Type 0 where
 -- what each continuation after reply 0 needs
 abbrev pub Continues : Program → Progress → Continuation → Type 0
 Continues program progress (after.Halts number) = (is_between 1 9 number ≡ true) × CanBegin program progress
-Continues program progress (after.Lines w next) = IsWalk program progress w
+Continues program progress (after.Lines w next) = IsWalk program progress w × IsPastLine program w next
 Continues program progress (after.Head place) = IsUnreadAt progress.reading.files.items place
 Continues program progress (after.Field m place) = IsField program place × CanMove program progress m place
 Continues program progress (after.Division place) = IsLineAt program place operation.Divide × CanCalculate program progress
-Continues program progress after.Calculations = CanCalculate program progress
+Continues program progress after.Calculations = CanCalculate program progress × IsPastChain program progress
 
 -- a request whose only answer is Done
 abbrev pub is_print_or_jump : Request → Bool
@@ -213,9 +227,9 @@ is_ask request = false
 
 abbrev pub Waits : Program → Progress → Request → Point → Type 0
 Waits program progress request (at.Lines w next) = (is_print_or_jump request ≡ true) × IsWalk program progress w
-Waits program progress request (at.Records w next) = (is_record_request request ≡ true) × IsWalk program progress w
+Waits program progress request (at.Records w next) = (is_record_request request ≡ true) × (IsWalk program progress w × IsPastLine program w next)
 Waits program progress request (at.Head place) = IsHeadRequest program progress place request × IsUnreadAt progress.reading.files.items place
-Waits program progress request (at.Chained file missing) = IsChainRequest program file missing request × CanCalculate program progress
+Waits program progress request (at.Chained file missing) = IsChainRequest program file missing request × (CanCalculate program progress × IsPastChain program progress)
 Waits program progress request at.Calculations = (request ≡ asks.Jump) × CanCalculate program progress
 Waits program progress request (at.Reply next) = (is_ask request ≡ true) × Continues program progress next
 Waits program progress request (at.End at_once) = request ≡ asks.End at_once

@@ -1,12 +1,15 @@
 -- The source line and the data at which a job halts.
-use Rattle.std.specs.Prelude.{◌≡◌, ◌⊎◌, ℕ, ◌-◌, ◌∷◌, Bool, true, false, List, [], slice_get, Option, Some, None, option_map, if◌then◌else◌}
+use Rattle.std.specs.Prelude.{◌≡◌, ◌⊎◌, ℕ, ◌+◌, ◌-◌, ◌∷◌, Bool, true, false, List, [], slice_get, Option, Some, None, option_map, if◌then◌else◌}
 use Rattle.std.specs.Option.{option_and_then}
+use Rattle.s3_lines.specs.Ranges.{is_between}
+use Rattle.s3_lines.specs.declared.indicator.Indicator.TheVariants.{Halt}
 use Rattle.s3_lines.specs.declared.sheet.CalculationLine.{CalculationLine}
 use Rattle.s3_lines.specs.declared.sheet.Factor.{Factor}
 use Rattle.s3_lines.specs.declared.sheet.Factor.TheVariants.{Named}
 use Rattle.s3_lines.specs.declared.sheet.Operation.{Operation}
 use Rattle.s3_lines.specs.declared.sheet.Operation.TheVariants as op
 use Rattle.s3_meaning.specs.Calculating.{sought_in}
+use Rattle.s3_meaning.specs.Environment.{turn}
 use Rattle.s3_meaning.specs.Output.{filled}
 use Rattle.s3_meaning.specs.Requests as Meant
 use Rattle.s3_meaning.specs.Runs.{Rest}
@@ -38,8 +41,8 @@ use Rattle.s3_cycle.specs.declared.stand.Stand.TheVariants.{Nowhere, Head, Field
 use Rattle.s3_cycle.specs.declared.stand.Totals.{Totals}
 use Rattle.s3_cycle.specs.declared.stand.Totals.TheVariants as totals
 use Rattle.s3_cycle.specs.declared.stepper.Stepper.{Stepper}
-use Rattle.s3_cycle.specs.Inner.Going.{IsField, IsLineAt, own, held_by}
-use Rattle.s3_cycle.specs.Inner.Rest.{calculating, division_then, field_then, head_again, lines_from, moved_bytes, rest, selected_bytes, selected_input, starts_of}
+use Rattle.s3_cycle.specs.Inner.Going.{IsField, IsLineAt, is_ask, own, held_by}
+use Rattle.s3_cycle.specs.Inner.Rest.{calculating, division_then, field_then, halts_from, head_again, lines_from, moved_bytes, rest, selected_bytes, selected_input, starts_of}
 
 -- ---- the place of a halt
 -- the output line before the next one of a walk
@@ -172,6 +175,12 @@ file_of program stand = None
 abbrev pub GoesOnAs : Source → Stepper → Rest → Type 0
 GoesOnAs source c meant = (answers : List Meant.Answer) → rest source c (Meant.Reply 0 ∷ answers) ≡ meant (held_by c) answers
 
+-- One of H1 to H9 halts the run. After reply 0 it is turned off, and the later ones that are on halt in turn.
+pub record AsksIndicator (source : Source) (c : Stepper) : Type 0 where
+  pub number : ℕ
+  pub is_one : is_between 1 9 number ≡ true
+  pub goes_on : GoesOnAs source c (λ e. halts_from source c.program c.progress (number + 1) (turn (Halt number) false e))
+
 -- The halt is at the last record of this file, which has this number. After reply 0 the file is read again.
 pub record AsksHead (source : Source) (c : Stepper) (file number : ℕ) : Type 0 where
   pub place : ℕ
@@ -186,29 +195,41 @@ pub record AsksField (source : Source) (c : Stepper) (m : Moves) (place : ℕ) :
   pub is_field : IsField c.program place
   pub goes_on : GoesOnAs source c (field_then source c.program c.progress m place)
 
--- The halt is at this line. It is a DIV by zero, whose quotient becomes 0 after reply 0, or (`AsksBehind`) calculations continue after it.
+-- the processed record is the one with this number in this file
+pub record IsProcessed (c : Stepper) (file number : ℕ) : Type 0 where
+  pub selection : Selection
+  pub at_details : c.progress.time ≡ time.Details selection
+  pub input : InputFile
+  pub there : slice_get c.progress.reading.files.items selection.place ≡ Some input
+  pub is_file : input.file ≡ file
+  pub is_number : selection.number ≡ number
+
+-- The halt is at this line, a DIV by zero. After reply 0 its quotient becomes 0.
 pub record AsksDivision (source : Source) (c : Stepper) (place : ℕ) : Type 0 where
   pub is_division : IsLineAt c.program place op.Divide
   pub goes_on : GoesOnAs source c (division_then source c.program c.progress place)
 
-pub record AsksBehind (source : Source) (c : Stepper) (place : ℕ) : Type 0 where
-  pub is_behind : place ≡ c.progress.course.here.place - 1
+-- The halt is at this line, a CHAIN. After reply 0 calculations continue at the line after it.
+pub record AsksChain (source : Source) (c : Stepper) (place : ℕ) : Type 0 where
+  pub is_chain : IsLineAt c.program place op.Chain
+  pub is_next : c.progress.course.here.place ≡ place + 1
   pub goes_on : GoesOnAs source c (calculating source c.program c.progress)
 
 -- The halt is at the output line that starts at this place. After reply 0 the line is skipped, and the lines after it follow.
 pub record AsksLine (source : Source) (c : Stepper) (file place : ℕ) : Type 0 where
   pub lines : Walk
-  pub next : ℕ
+  pub number : ℕ
   pub start : OutputStart
-  pub there : slice_get (starts_of c.program.starts lines) (next - 1) ≡ Some start
+  pub there : slice_get (starts_of c.program.starts lines) number ≡ Some start
   pub is_file : start.file ≡ file
   pub is_place : start.place ≡ place
-  pub goes_on : GoesOnAs source c (lines_from source c.program c.progress lines next)
+  pub goes_on : GoesOnAs source c (lines_from source c.program c.progress lines (number + 1))
 
+-- The card of a halt. There is none only if the run doesn't halt, or if a halt indicator halts it.
 abbrev pub AsksAt : Source → Stepper → Stand → Type 0
-AsksAt source c Nowhere = Unit {0}
+AsksAt source c Nowhere = (is_ask c.request ≡ false) ⊎ AsksIndicator source c
 AsksAt source c (Head file number) = AsksHead source c file number
-AsksAt source c (Field place file number) = AsksField source c moves.Selected place
+AsksAt source c (Field place file number) = AsksField source c moves.Selected place × IsProcessed c file number
 AsksAt source c (ChainedField place) = AsksField source c moves.Chained place
-AsksAt source c (Calculation place) = AsksDivision source c place ⊎ AsksBehind source c place
+AsksAt source c (Calculation place) = AsksDivision source c place ⊎ AsksChain source c place
 AsksAt source c (Output file place) = AsksLine source c file place

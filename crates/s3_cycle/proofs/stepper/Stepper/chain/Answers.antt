@@ -3,7 +3,7 @@ use Rattle.s3_lines.specs.declared.sheet.FileLine.{FileLine}
 use Rattle.s3_meaning.specs.Calculating.{forgotten}
 use Rattle.s3_match.specs.Inner.Types.{name_of_file}
 use Rattle.s3_operations.specs.Inner.Indicators.{is_settable_entry}
-use Rattle.s3_cycle.specs.Inner.Going.{CanCalculate}
+use Rattle.s3_cycle.specs.Inner.Going.{CanCalculate, IsPastChain}
 use Rattle.s3_cycle.proofs.GoingLemmas.{changed_running, changed_stays}
 use Rattle.s3_cycle.proofs.ChainingLemmas.{chain_in, chain_settable, chains_missing, chains_waiting, served_as}
 use Rattle.s3_cycle.proofs.SoughtLemmas.{file_as}
@@ -28,6 +28,12 @@ miss-requires-clause-calculates c =
     let s = c.args.self.now in
     changed_stays (λ p progress. CanCalculate p progress) s c.forget.new.self (λ source. forgotten source (name_of_file s.program c.args.chained.file)) c.forget.ensures c.requires.calculates
 
+pub miss-requires-clause-past : goal.miss-requires-clause-past
+miss-requires-clause-past c =
+    let s = c.args.self.now in
+    changed_stays IsPastChain s c.forget.new.self (λ source. forgotten source (name_of_file s.program c.args.chained.file)) c.forget.ensures
+    (record { place = c.args.place; is_chain = c.requires.chain; is_next = c.requires.next })
+
 pub miss-requires-clause-settable : goal.miss-requires-clause-settable
 miss-requires-clause-settable c =
     let line = c.requires.chain.line in
@@ -47,7 +53,7 @@ returns c =
     let s = c.args.self.now in
     let line = c.requires.chain.line in
     let is = c.requires.chained line c.requires.chain.there in
-    chains_waiting s c.forget.new.self c.wait.new.self c.args.place c.args.chained.file c.args.chained.length c.args.chained.missing line c.sought-sought.result c.requires.running c.requires.calculates
+    chains_waiting s c.forget.new.self c.wait.new.self c.args.place c.args.chained.file c.args.chained.length c.args.chained.missing line c.sought-sought.result c.requires.running c.requires.calculates c.requires.next
     (chain_in s.program c.args.place line c.args.chained c.requires.chain.there c.requires.chain.operation is) is.misses c.forget.ensures
     (sym c.if-not-is_served.false ∙ served_as s line c.args.chained c.holds-is_served.result is c.holds-is_served.ensures)
     (is.size ∙ ap (λ (f : FileLine). f.record_length) (sym (file_as s.program line c.args.chained is)))

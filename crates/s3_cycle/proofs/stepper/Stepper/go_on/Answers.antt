@@ -26,3 +26,15 @@ go_on_replied-requires-clause-fits c =
 pub unreachable-requires : goal.unreachable-requires
 unreachable-requires c =
     never_answered c.args.self.now.program c.args.self.now.composition c.args.self.now.request c.in-End.at_once (answer_of c.args.answer.now) (waits_at c.args.self.now (at.End c.in-End.at_once) c.requires.waiting c.in-End.is) c.requires.fits
+
+pub go_on_stored-requires-clause-walk : goal.go_on_stored-requires-clause-walk
+go_on_stored-requires-clause-walk c = (waits_at c.args.self.now (at.Records c.in-Records.walk c.in-Records.next) c.requires.waiting c.in-Records.is).1.0
+
+pub go_on_stored-requires-clause-past : goal.go_on_stored-requires-clause-past
+go_on_stored-requires-clause-past c = (waits_at c.args.self.now (at.Records c.in-Records.walk c.in-Records.next) c.requires.waiting c.in-Records.is).1.1
+
+pub go_on_chained-requires-clause-calculates : goal.go_on_chained-requires-clause-calculates
+go_on_chained-requires-clause-calculates c = (waits_at c.args.self.now (at.Chained c.in-Chained.file c.in-Chained.missing) c.requires.waiting c.in-Chained.is).1.0
+
+pub go_on_chained-requires-clause-past : goal.go_on_chained-requires-clause-past
+go_on_chained-requires-clause-past c = (waits_at c.args.self.now (at.Chained c.in-Chained.file c.in-Chained.missing) c.requires.waiting c.in-Chained.is).1.1
