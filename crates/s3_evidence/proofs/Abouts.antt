@@ -4,7 +4,7 @@ use Rattle.std.specs.Prelude.{◌||◌, nat_eq, slice_get, Option, Some, None, I
 use Rattle.std.specs.Global.{Vec}
 use Rattle.std.specs.Bool.{beq}
 use Rattle.std.specs.List.{All, flat_map, list_any, range_with_len}
-use Rattle.std.proofs.lemmas.List.Elements.{All-append, All-nil}
+use Rattle.std.proofs.lemmas.List.Elements.{All-append, All-nil, All-weaker}
 use Rattle.std.proofs.lemmas.List.{append-nil}
 use Rattle.std.proofs.lemmas.List.Concat.{flat_map-append}
 use Rattle.std.proofs.lemmas.List.Folds.{list_any-append, list_any_at}
@@ -26,10 +26,11 @@ use Rattle.s3_bureau.specs.Inner.Held.{State}
 use Rattle.s3_evidence.specs.declared.evidence.CheckedIndex.{CheckedIndex}
 use Rattle.s3_evidence.specs.declared.evidence.Evidence.{Evidence}
 use Rattle.s3_evidence.specs.declared.evidence.Evidence.TheVariants as evidence
+use Rattle.s3_evidence.specs.declared.evidence.RecordRead.{RecordRead}
 use Rattle.s3_job_files.specs.declared.file.OpenFile.{OpenFile}
 use Rattle.s3_job_files.specs.Files.{JobFile}
 use Rattle.s3_job_files.specs.Inner.Holds.{job_file_of, slots_by}
-use Rattle.s3_evidence.specs.Inner.About.{AreOfSectors, HasIndex, IsAbout, IsInUse, IsPartOf, IsRecordOf, has_in_use}
+use Rattle.s3_evidence.specs.Inner.About.{AreOfSectors, HasIndex, IsAbout, IsInUse, IsPartOf, IsReadInUse, IsRecordOf, has_in_use}
 use Rattle.s3_evidence.specs.Inner.Looks.{Looks}
 use Rattle.s3_evidence.proofs.Looks.{looks_back}
 
@@ -112,6 +113,13 @@ record_read label runs contents between None of same from = tt
 record_read label runs contents between (Some bytes) of same from =
     subst (λ (all : List (List ℕ)). IsPartOf (sectors_in label.extents) all bytes.items) same (subst (λ (rs : List Stretch). IsPartOf (sectors_in rs) between bytes.items) of from)
 
+-- a record that was read after others of a file that the job has in use
+pub read_before : (level : LevelId) (old between : State) (label : FileLabel) (found : Option (Vec ℕ)) (read : RecordRead) → Looks None old between → IsInUse level old label → found ≡ Some read.bytes
+    → IsRecordOf label between.beside.state.contents found → IsReadInUse level old read
+read_before level old between label found read looks in_use is from =
+    let given : IsRecordOf label between.beside.state.contents (Some read.bytes) = subst (IsRecordOf label between.beside.state.contents) is from in
+    (label, (in_use, subst (λ (contents : List (List ℕ)). IsRecordOf label contents (Some read.bytes)) looks.keeps.contents given))
+
 in_use_after : (level : LevelId) (old new : State) (label : FileLabel) → Looks None old new → IsInUse level old label → IsInUse level new label
 in_use_after level old new label looks use' = record {
   is_master = use'.is_master;
@@ -123,12 +131,16 @@ in_use_after level old new label looks use' = record {
 record_after : (old new : State) (label : FileLabel) (read : Option (Vec ℕ)) → Looks None old new → IsRecordOf label old.beside.state.contents read → IsRecordOf label new.beside.state.contents read
 record_after old new label read looks from = subst (λ (contents : List (List ℕ)). IsRecordOf label contents read) (sym looks.keeps.contents) from
 
+read_after : (level : LevelId) (old new : State) → Looks None old new → (read : RecordRead) → IsReadInUse level old read → IsReadInUse level new read
+read_after level old new looks read of =
+    (of.0, (in_use_after level old new of.0 looks of.1.0, record_after old new of.0 (Some read.bytes) looks of.1.1))
+
 -- what was found before a look that came to its end is so after it
 pub about_after : (level : LevelId) (old new : State) (found : Evidence) → Looks None old new → IsAbout level old found → IsAbout level new found
 about_after level old new evidence.Nothing looks about = tt
 about_after level old new (evidence.Records last before) looks about =
     (about.0, (in_use_after level old new about.0 looks about.1.0, (record_after old new about.0 last looks about.1.1.0, record_after old new about.0 before looks about.1.1.1)))
-about_after level old new (evidence.Totals before) looks about = (about.0, (in_use_after level old new about.0 looks about.1.0, record_after old new about.0 before looks about.1.1))
+about_after level old new (evidence.Totals records) looks about = All-weaker (IsReadInUse level old) (IsReadInUse level new) (read_after level old new looks) records.items about
 about_after level old new (evidence.Slots slots) looks about = about
 about_after level old new (evidence.Indexes indexes) looks about =
     subst (λ (areas : Areas). All (λ (index : CheckedIndex). (label : FileLabel) × HasIndex level areas index.label label) indexes.items) (sym looks.areas) about

@@ -1,12 +1,17 @@
 //! The jobs of a level that were begun, and the sources among them: the cards of the deck alone say all of this.
 
+ghost use Rattle.std.specs.Prelude.{IsTrue};
+ghost use Rattle.s3_lines.specs.Inner.Ranges.{are_read};
+
 use indexmap::IndexMap;
 use s3_cards::{Deck, Name};
+use s3_compile::{CompileFault, compile};
 use s3_decks::{JobEntry, Statements, jobs_of, program_of};
 use s3_level::Level;
 use s3_lines::sheet::Line;
 use s3_ocl::{JobCards, Switch};
 use s3_operator::{Halt, HaltCode};
+use s3_program::program::Program;
 use s3_sheets::{SheetFault, read_sheets};
 use std::alloc::{AllocError, Global};
 
@@ -166,6 +171,22 @@ impl Begun {
         }
     }
 
+    /// The program of this name that was compiled last, made from its source once more; none if the deck doesn't have the source.
+    pub fn program_of(
+        &self,
+        alloc: Global,
+        level: &Level,
+        name: Name,
+    ) -> Result<Option<Program>, AllocError> {
+        let Some(place) = self.compiled.get(&name) else {
+            return Ok(None);
+        };
+        match self.jobs.get(*place) {
+            Some(job) => program_in(alloc, level, job),
+            None => Ok(None),
+        }
+    }
+
     /// The names of the programs that were compiled, in the order of their first sources, each once.
     pub fn programs(&self, alloc: Global) -> Result<Vec<Name>, AllocError> {
         let mut names = Vec::new(alloc);
@@ -252,6 +273,42 @@ fn source_in(
     };
     let lines = read_source(alloc, level.deck(), cards.data_from(), cards.data_to())?;
     Ok(lines.map(|lines| Source { name, lines }))
+}
+
+/// The program that a job has compiled.
+fn program_in(alloc: Global, level: &Level, job: &JobEntry) -> Result<Option<Program>, AllocError> {
+    match statements_of(job) {
+        Some(cards) => compile_source(alloc, level.deck(), cards.data_from(), cards.data_to()),
+        None => Ok(None),
+    }
+}
+
+/// The program of the source between two places of a deck, if it has no diagnostics.
+fn compile_source(
+    alloc: Global,
+    deck: &Deck,
+    from: usize,
+    to: usize,
+) -> Result<Option<Program>, AllocError> {
+    if from > to || to > deck.len() {
+        return Ok(None);
+    }
+    match read_sheets(alloc, deck, from, to) {
+        Ok(lines) => compile_lines(alloc, &lines),
+        Err(SheetFault::Diagnostics(_)) => Ok(None),
+        Err(SheetFault::NoMemory) => Err(AllocError),
+    }
+}
+
+/// The program of these lines, if they have no diagnostics.
+fn compile_lines(alloc: Global, lines: &[Line]) -> Result<Option<Program>, AllocError>
+    requires { IsTrue (are_read lines.now) }
+{
+    match compile(alloc, lines, 0) {
+        Ok(program) => Ok(Some(program)),
+        Err(CompileFault::Diagnostics(_)) => Ok(None),
+        Err(CompileFault::NoMemory) => Err(AllocError),
+    }
 }
 
 /// The lines of the sheets between two places of a deck, if no card has a diagnostic by itself.

@@ -42,15 +42,24 @@ pub enum Evidence {
         /// The record before it: the record read before, the last record of a load, or the record to be updated.
         before: Option<Vec<u8>>,
     },
-    /// The record of a file that was read before the one that brought totals on.
-    Totals {
-        /// That record.
-        before: Option<Vec<u8>>,
-    },
+    /// The last two records that were read of each file on disk that the cycle reads, while a program is at totals before a record. A file
+    /// of which fewer were read has fewer.
+    Totals(Vec<RecordRead>),
     /// The slots that block labels of the job's FILE statements.
     Slots(Vec<BlockingSlot>),
     /// The indexes of the files that the job's FILE statements name.
     Indexes(Vec<CheckedIndex>),
+}
+
+/// A record that was read of a file.
+#[derive(Drop)]
+pub struct RecordRead {
+    /// The name by which the program knows the file.
+    pub file: Name,
+    /// Its number among the records of the file that were read, from 1.
+    pub number: u32,
+    /// Its bytes.
+    pub bytes: Vec<u8>,
 }
 
 /// A damaged slot that blocks a label.

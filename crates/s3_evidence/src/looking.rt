@@ -8,13 +8,13 @@ ghost use Rattle.s3_bureau.specs.Inner.Held.{HoldsFor, is_open, level_of};
 ghost use Rattle.s3_bureau.specs.Inner.Stops.{failed_stop};
 ghost use Rattle.s3_labels.specs.Inner.Areas.{Areas};
 ghost use Rattle.s3_slots.specs.declared.label.FileLabel.{FileLabel};
-ghost use Rattle.s3_evidence.specs.Inner.About.{HasIndex, IsAbout, IsOwnArea, IsRecordOf};
+ghost use Rattle.s3_evidence.specs.Inner.About.{HasIndex, IsAbout, IsInUse, IsOwnArea, IsReadInUse, IsRecordOf};
 ghost use Rattle.s3_evidence.specs.Inner.Looks.{Looks, stop_in};
 
-use crate::evidence::{BlockingSlot, CheckedIndex, Evidence, IndexFlaw};
+use crate::evidence::{BlockingSlot, CheckedIndex, Evidence, IndexFlaw, RecordRead};
 use crate::index::{entry_place, flaw_of, number_behind};
 use crate::reading::{Sectors, read_bytes, read_sectors};
-use crate::wanted::{RecordPlace, SlotPlace, Wanted, find_wanted};
+use crate::wanted::{RecordPlace, SlotPlace, Wanted, WantedRecord, find_wanted};
 use s3_bureau::{Bureau, Stop};
 use s3_cards::{LevelId, Name};
 use s3_labels::FileLabel;
@@ -81,10 +81,7 @@ fn read_evidence<S: PackStore>(
             let before = read_record(alloc, bureau, &label, before)?;
             Ok(Evidence::Records { last, before })
         }
-        Wanted::Totals { label, before } => {
-            let before = read_record(alloc, bureau, &label, before)?;
-            Ok(Evidence::Totals { before })
-        }
+        Wanted::Totals(records) => Ok(Evidence::Totals(read_records(alloc, bureau, &records)?)),
         Wanted::Slots(places) => Ok(Evidence::Slots(read_slots(alloc, bureau, &places)?)),
         Wanted::Indexes(files) => Ok(Evidence::Indexes(check_indexes(alloc, bureau, &files)?)),
     }
@@ -115,6 +112,30 @@ fn read_record<S: PackStore>(
         at,
         label.record_length,
     )
+}
+
+/// Records of files, as far as the pack has them.
+#[tactic(auto, using(crate::proofs::Looks::looks_none, crate::proofs::Looks::looks_refused, crate::proofs::Looks::looks_then))]
+fn read_records<S: PackStore>(
+    alloc: Global,
+    bureau: &mut Bureau<S>,
+    records: &[WantedRecord],
+) -> Result<Vec<RecordRead>, Stop>
+    ensures looks { Looks (stop_in result) bureau.old bureau.new }
+    ensures from { IfOk result (λ read. (level : LevelId) → All (λ one. IsInUse level bureau.old one.label) records.now → All (IsReadInUse level bureau.old) read.items) }
+{
+    let mut read = Vec::new(alloc);
+    for wanted in records {
+        if let Some(bytes) = read_record(alloc, bureau, &wanted.label, Some(wanted.place))? {
+            let one = RecordRead {
+                file: wanted.file,
+                number: wanted.number,
+                bytes,
+            };
+            add(&mut read, one)?;
+        }
+    }
+    Ok(read)
 }
 
 /// The place of a record in the order in which the records were written.

@@ -8,7 +8,7 @@ ghost use Rattle.s3_solo.specs.World.{World};
 ghost use Rattle.s3_level.specs.Inner.Holds.{Around, Holds};
 ghost use Rattle.s3_level.specs.Inner.Queries.{files_of};
 ghost use Rattle.s3_evidence.specs.declared.wanted.Wanted.TheVariants.{Nothing};
-ghost use Rattle.s3_evidence.specs.Inner.About.{HasIndex, IsOwnArea, IsWanted, has_in_use};
+ghost use Rattle.s3_evidence.specs.Inner.About.{HasIndex, IsInUse, IsOwnArea, IsWanted, has_in_use};
 
 use crate::at_fault::{Asked, Found, MASTERS};
 use crate::begun::Source;
@@ -53,17 +53,25 @@ pub(crate) enum Wanted {
         /// The one before it.
         before: Option<RecordPlace>,
     },
-    /// A record of a file that the cycle reads.
-    Totals {
-        /// The label of the file.
-        label: FileLabel,
-        /// The record before the one that brought totals on.
-        before: Option<RecordPlace>,
-    },
+    /// The last two records that were read of each file that the cycle reads.
+    Totals(Vec<WantedRecord>),
     /// Slots that block labels.
     Slots(Vec<SlotPlace>),
     /// The indexes of these files, each under its label.
     Indexes(Vec<(Name, FileLabel)>),
+}
+
+/// A record of a file that the job has in use.
+#[derive(Drop)]
+pub(crate) struct WantedRecord {
+    /// The name by which the program knows the file.
+    pub(crate) file: Name,
+    /// Its number among the records of the file that were read, from 1.
+    pub(crate) number: u32,
+    /// The label of the file.
+    pub(crate) label: FileLabel,
+    /// Its place in the file.
+    pub(crate) place: RecordPlace,
 }
 
 /// A damaged slot under a label.
@@ -97,7 +105,7 @@ pub(crate) fn find_wanted<S: PackStore>(
         HaltCode::DamagedLabel | HaltCode::BadIndex => {
             wanted_at_start(alloc, bureau, level, code)
         }
-        _ => Ok(or_nothing(wanted_of_cycle(bureau, level))),
+        _ => wanted_of_cycle(alloc, bureau, level),
     }
 }
 
@@ -114,27 +122,107 @@ fn or_nothing(wanted: Option<Wanted>) -> Wanted
 
 // ---- a program at work
 
-/// The record that is to be read if a program at work halts in a calculation or an output line at totals before a record of a disk file:
-/// the record before that one. The cycle has the record itself.
-fn wanted_of_cycle<S: PackStore>(bureau: &Bureau<S>, level: LevelId) -> Option<Wanted>
-    ensures { IfSome result (λ wanted. IsWanted level bureau.now wanted) }
+/// Whether a program at work halts in a calculation or an output line at totals before a record.
+fn is_at_totals(cycle: &Cycle) -> bool {
+    matches!(cycle.totals(), Totals::Before { .. })
+        && matches!(
+            cycle.stand(),
+            Stand::Calculation { .. } | Stand::Output { .. }
+        )
+}
+
+/// The records that are to be read if a program at work halts at totals before a record: one of them is the one that was processed last,
+/// unless that was a card. The cycle has the record that brought the totals on, not the one that was processed.
+fn wanted_of_cycle<S: PackStore>(
+    alloc: Global,
+    bureau: &Bureau<S>,
+    level: LevelId,
+) -> Result<Wanted, AllocError>
+    ensures { IfOk result (λ wanted. IsWanted level bureau.now wanted) }
 {
-    let held = bureau.level(level);
-    let cycle = held.cycle()?;
-    let Totals::Before { file, number } = cycle.totals() else {
-        return None;
-    };
-    if !matches!(
-        cycle.stand(),
-        Stand::Calculation { .. } | Stand::Output { .. }
-    ) {
-        return None;
+    match bureau.level(level).cycle() {
+        Some(cycle) if is_at_totals(cycle) => {
+            Ok(Wanted::Totals(last_records(alloc, bureau, level, cycle)?))
+        }
+        _ => Ok(Wanted::Nothing),
     }
-    let file = open_file(held, cycle.file_line(file)?.name)?;
+}
+
+/// The last two records that were read of each file on disk that the cycle reads.
+fn last_records<S: PackStore>(
+    alloc: Global,
+    bureau: &Bureau<S>,
+    level: LevelId,
+    cycle: &Cycle,
+) -> Result<Vec<WantedRecord>, AllocError>
+    ensures { IfOk result (λ records. All (λ one. IsInUse level bureau.now one.label) records.items) }
+{
+    let mut records = Vec::new(alloc);
+    for line in cycle.file_lines() {
+        push_last_two(&mut records, bureau, level, line)?;
+    }
+    Ok(records)
+}
+
+/// Adds the last two records that were read of a file, if the cycle reads it and the job has it in use.
+fn push_last_two<S: PackStore>(
+    records: &mut Vec<WantedRecord>,
+    bureau: &Bureau<S>,
+    level: LevelId,
+    line: &FileLine,
+) -> Result<(), AllocError>
+    ensures { OnOk result (All (λ one. IsInUse level bureau.now one.label) records.old.items → All (λ one. IsInUse level bureau.now one.label) records.new.items) }
+{
+    if !line.is_by_cycle() {
+        return Ok(());
+    }
+    let count = count_read(bureau.level(level), line.name);
+    push_record(records, bureau, level, line.name, count)?;
+    push_record(records, bureau, level, line.name, count.saturating_sub(1))?;
+    Ok(())
+}
+
+/// How many records of a file were read; 0 if the job doesn't have it in use.
+fn count_read(held: &Level, name: Name) -> u32 {
+    match open_file(held, name) {
+        Some(file) => file.read,
+        None => 0,
+    }
+}
+
+/// Adds the record of a file that was read as the n-th, from 1, if the job has the file in use.
+fn push_record<S: PackStore>(
+    records: &mut Vec<WantedRecord>,
+    bureau: &Bureau<S>,
+    level: LevelId,
+    name: Name,
+    n: u32,
+) -> Result<(), AllocError>
+    ensures { OnOk result (All (λ one. IsInUse level bureau.now one.label) records.old.items → All (λ one. IsInUse level bureau.now one.label) records.new.items) }
+{
+    match wanted_record(bureau, level, name, n) {
+        Some(record) => Ok(records.push(record)?),
+        None => Ok(()),
+    }
+}
+
+/// The record of a file that was read as the n-th, from 1.
+fn wanted_record<S: PackStore>(
+    bureau: &Bureau<S>,
+    level: LevelId,
+    name: Name,
+    n: u32,
+) -> Option<WantedRecord>
+    ensures { IfSome result (λ one. IsInUse level bureau.now one.label) }
+{
+    let file = open_file(bureau.level(level), name)?;
     let label = label_of(bureau.areas(), level, file)?;
-    Some(Wanted::Totals {
+    let place = nth_read(file, n)?;
+    Some(WantedRecord {
+        file: name,
+        number: n,
         label,
-        before: nth_read(file, number.saturating_sub(1)),
+        place,
     })
 }
 

@@ -10,6 +10,9 @@ use s3_lines::sheet::{Device, FileLine};
 use s3_operator::HaltCode;
 use std::alloc::{AllocError, Global};
 
+/// What a card is called that was processed before the record that is shown above it.
+pub(crate) const CARD_BEFORE: &'static str = "the card before it:";
+
 /// A program that halts.
 #[derive(Clone, Copy)]
 pub(crate) struct AtWork<'a> {
@@ -47,6 +50,21 @@ impl<'a> AtWork<'a> {
         let before = self.last_card()?.checked_sub(1)?;
         let job = self.begun.statements()?;
         (before > job.data_from()).then_some(before)
+    }
+
+    /// How many data cards were read.
+    pub(crate) fn cards_read(&self) -> u32 {
+        match (self.last_card(), self.begun.statements()) {
+            (Some(last), Some(job)) => {
+                u32::try_from(last.saturating_sub(job.data_from())).unwrap_or(0)
+            }
+            _ => 0,
+        }
+    }
+
+    /// The number of the n-th data card of the job in the deck, both from 1.
+    pub(crate) fn number_of_card(&self, n: u32) -> Option<usize> {
+        self.begun.statements()?.data_from().checked_add(n as usize)
     }
 
     /// Whether the record that was read before another one of its file was also processed just before it: a reply may have passed it over,
@@ -91,6 +109,9 @@ fn push_last_card(text: &mut String, at: AtWork<'_>, shown: &Shown) -> Result<()
     let Some(number) = at.last_card() else {
         return Ok(());
     };
+    if shown.is_last_card_shown {
+        return Ok(());
+    }
     let words = if shown.is_after_totals {
         "the totals are those before this card, which isn't processed yet:"
     } else {
@@ -101,8 +122,8 @@ fn push_last_card(text: &mut String, at: AtWork<'_>, shown: &Shown) -> Result<()
     match at.card_before() {
         Some(before) if shown.is_before_shown => {
             at.cards
-                .push_named_card(text, "the card before it:", before, &shown.marked)
+                .push_named_card(text, CARD_BEFORE, before, &shown.marked)
         }
-        _ => Ok(()),
+        _ => text.push_str(&shown.record_before),
     }
 }

@@ -44,7 +44,11 @@ pub(crate) fn push_details(
         let marked = marked_for(alloc, cards, begun, halt.code, &blame.entries, &diagnostic)?;
         push_marked(text, &marked)?;
         let reason = blame.reasons.of(*card, *number);
-        push_detail(text, alloc, cards, begun, halt.code, *number, reason)?;
+        write!(text, "    {number:02}  ")?;
+        match halt.code {
+            HaltCode::FaultyJob => push_fault(text, alloc, cards, begun)?,
+            _ => push_words(text, diagnostic_words(*number), reason)?,
+        }
     }
     let more = halt.details.len().saturating_sub(MOST);
     if more > 0 {
@@ -152,23 +156,6 @@ fn push_card_at_fault(
     match cards.card(number) {
         Some(card) => push_under_ruler(text, card, columns.max(1)),
         None => Ok(()),
-    }
-}
-
-/// Appends what a detail means, and why the card has it.
-fn push_detail(
-    text: &mut String,
-    alloc: Global,
-    cards: DeckCards<'_>,
-    begun: &Begun,
-    code: HaltCode,
-    number: u8,
-    reason: &str,
-) -> Result<(), AllocError> {
-    write!(text, "    {number:02}  ")?;
-    match code {
-        HaltCode::FaultyJob => push_fault(text, alloc, cards, begun),
-        _ => push_words(text, diagnostic_words(number), reason),
     }
 }
 

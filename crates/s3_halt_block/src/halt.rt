@@ -14,19 +14,34 @@ use s3_operator::Halt;
 use s3_store::PackStore;
 use std::alloc::{AllocError, Global};
 
-/// Appends the block of a level's waiting halt: its meaning, its place, what it is about, the replies that it allows, and the effect of
-/// each reply. The deck's text is the one that the level's cards were read from, `begun` has followed the level
-/// up to this halt, and the evidence is what `look` gave for it.
+/// A halt that waits for a reply, and what is known of it.
+#[derive(Clone, Copy)]
+pub struct Waiting<'a> {
+    /// Its level.
+    pub level: LevelId,
+    /// The halt.
+    pub halt: &'a Halt,
+    /// The jobs of the level that were begun, up to this halt.
+    pub begun: &'a Begun,
+    /// What `look` gave for the halt.
+    pub evidence: &'a Evidence,
+}
+
+/// Appends the block of a waiting halt: its meaning, its place, what it is about, the replies that it allows, and the effect of each
+/// reply. The deck's text is the one that the level's cards were read from.
 pub fn push_halt<S: PackStore>(
     text: &mut String,
     alloc: Global,
     bureau: &Bureau<S>,
     deck: &DeckText<'_>,
-    begun: &Begun,
-    level: LevelId,
-    halt: &Halt,
-    evidence: &Evidence,
+    waiting: Waiting<'_>,
 ) -> Result<(), AllocError> {
+    let Waiting {
+        level,
+        halt,
+        begun,
+        evidence,
+    } = waiting;
     let held = bureau.level(level);
     let cards = DeckCards {
         text: deck,

@@ -14,10 +14,11 @@ mod files;
 mod halt;
 mod layout;
 mod match_fields;
+mod matched;
 mod replies;
 mod room;
 mod slot_words;
 mod stand;
 
-pub use halt::push_halt;
+pub use halt::{Waiting, push_halt};
 pub use replies::{push_choice, push_letters, push_replies, push_reply};

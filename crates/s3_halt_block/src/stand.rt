@@ -1,9 +1,10 @@
 //! The place of a program in its source, and what it holds there.
 
-use crate::at_work::{AtWork, is_on_cards};
+use crate::at_work::{AtWork, CARD_BEFORE, is_on_cards};
 use crate::bad_digits::bad_digits;
 use crate::causes::push_causes;
 use crate::match_fields::{Sort, level_fields};
+use crate::matched::{RecordOf, processed_before};
 use s3_cards::Name;
 use s3_cycle::{Sought, Stand, Totals};
 use s3_decks::{Columns, push_characters, push_name, push_ruled};
@@ -29,6 +30,10 @@ pub(crate) struct Shown {
     pub(crate) is_before_shown: bool,
     /// Whether it waits for totals, which are of the cards before it.
     pub(crate) is_after_totals: bool,
+    /// Whether it is shown already.
+    pub(crate) is_last_card_shown: bool,
+    /// The record on disk that was processed before it, to be shown after it; empty if there is none.
+    pub(crate) record_before: String,
 }
 
 impl Shown {
@@ -38,6 +43,8 @@ impl Shown {
             marked: Vec::new(alloc),
             is_before_shown: false,
             is_after_totals: false,
+            is_last_card_shown: false,
+            record_before: String::new(alloc),
         }
     }
 }
@@ -58,8 +65,8 @@ fn push_totals(text: &mut String, alloc: Global, at: AtWork<'_>) -> Result<Shown
     }
 }
 
-/// Appends the record of a file that waits for totals, and the one before it, with their control fields marked. A record on cards is handed
-/// on: it is the card that was read last.
+/// Appends the record of a file that waits for totals, and the one before it, with their control fields marked. What belongs on the card
+/// that was read last, or after it, is handed on.
 fn push_totals_before(
     text: &mut String,
     alloc: Global,
@@ -72,32 +79,107 @@ fn push_totals_before(
         return Ok(shown);
     };
     let marked = level_fields(alloc, &at.source.lines, line.name, Sort::Control)?;
+    let before = matched_before(alloc, at, slot, number)?;
     if is_on_cards(line) {
-        shown.marked = marked;
-        shown.is_before_shown = at.is_in_order();
         shown.is_after_totals = true;
+        shown.is_before_shown = at.is_in_order() || is_card(before);
+        shown.marked = marked;
+        push_disk_record_before(&mut shown.record_before, alloc, at, before)?;
     } else {
         text.push_str("  the totals are those before ")?;
         push_record_number(text, Some(line), number)?;
         text.push_str(", which isn't processed yet\n")?;
         push_ruled(text, at.cycle.record_behind_totals(), &marked)?;
-        push_record_before(text, at, &marked)?;
+        push_record_before(text, at, line.name, number, &marked)?;
+        push_disk_record_before(text, alloc, at, before)?;
+        shown.is_last_card_shown = push_card_before(text, alloc, at, before)?;
     }
     Ok(shown)
 }
 
-/// Appends the record that was read before the one that brought totals on, if it was processed before it.
+/// If files are matched, the record that was processed before the n-th of a file, which brought totals on.
+fn matched_before<'a>(
+    alloc: Global,
+    at: AtWork<'a>,
+    slot: usize,
+    number: u32,
+) -> Result<Option<RecordOf<'a>>, AllocError> {
+    if at.begun.has_skipped() || at.source.reads_in_turn() {
+        return Ok(None);
+    }
+    processed_before(alloc, at, slot, number)
+}
+
+/// Whether a record is a card.
+fn is_card(record: Option<RecordOf<'_>>) -> bool {
+    match record {
+        Some(record) => is_on_cards(record.line),
+        None => false,
+    }
+}
+
+/// Appends the record before the n-th of a file on disk, which brought totals on, if it was processed before it.
 fn push_record_before(
     text: &mut String,
     at: AtWork<'_>,
+    file: Name,
+    number: u32,
     marked: &[Columns],
 ) -> Result<(), AllocError> {
-    match at.evidence {
-        Evidence::Totals {
-            before: Some(record),
-        } if at.is_in_order() => push_named_record(text, "the record before it:", record, marked),
+    let Evidence::Totals(records) = at.evidence else {
+        return Ok(());
+    };
+    let before = number.saturating_sub(1);
+    match records
+        .iter()
+        .find(|record| record.file == file && record.number == before)
+    {
+        Some(record) if at.is_in_order() => {
+            push_named_record(text, "the record before it:", &record.bytes, marked)
+        }
         _ => Ok(()),
     }
+}
+
+/// Appends a record of a file on disk that was processed before the one that brought totals on.
+fn push_disk_record_before(
+    text: &mut String,
+    alloc: Global,
+    at: AtWork<'_>,
+    before: Option<RecordOf<'_>>,
+) -> Result<(), AllocError> {
+    let Some(record) = before else {
+        return Ok(());
+    };
+    if is_on_cards(record.line) {
+        return Ok(());
+    }
+    let marked = level_fields(alloc, &at.source.lines, record.line.name, Sort::Control)?;
+    text.push_str("  the record before it, ")?;
+    push_record_number(text, Some(record.line), record.number)?;
+    text.push_str(":\n")?;
+    push_ruled(text, record.bytes, &marked)
+}
+
+/// Appends a card that was processed before the record on disk that brought totals on. Whether it is the card that was read last.
+fn push_card_before(
+    text: &mut String,
+    alloc: Global,
+    at: AtWork<'_>,
+    before: Option<RecordOf<'_>>,
+) -> Result<bool, AllocError> {
+    let Some(record) = before else {
+        return Ok(false);
+    };
+    if !is_on_cards(record.line) {
+        return Ok(false);
+    }
+    let Some(card) = at.number_of_card(record.number) else {
+        return Ok(false);
+    };
+    let marked = level_fields(alloc, &at.source.lines, record.line.name, Sort::Control)?;
+    at.cards.push_named_card(text, CARD_BEFORE, card, &marked)?;
+    Ok(at.last_card() == Some(card))
 }
 
 /// Appends the place of a program. What belongs on the last data card is handed on.
@@ -203,6 +285,8 @@ fn push_head(
         marked: marks_of_head(alloc, at, line.name)?,
         is_before_shown: is_out_of_sequence(at.code),
         is_after_totals: false,
+        is_last_card_shown: false,
+        record_before: String::new(alloc),
     };
     if is_on_cards(line) {
         return Ok(shown);
@@ -294,6 +378,8 @@ fn push_field_record(
             marked,
             is_before_shown: false,
             is_after_totals: false,
+            is_last_card_shown: false,
+            record_before: String::new(alloc),
         });
     }
     push_ruled(text, record, &marked)?;

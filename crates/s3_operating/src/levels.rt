@@ -17,7 +17,7 @@ use s3_day_log::{AnsweredHalt, LoggedHalt};
 use s3_decks::DeckText;
 use s3_desk::Evidence;
 use s3_evidence::Begun;
-use s3_halt_block::push_halt;
+use s3_halt_block::{Waiting, push_halt};
 use s3_operator::HaltCode;
 use s3_replies::Typed;
 use s3_store::PackStore;
@@ -239,8 +239,15 @@ impl<'a> Levels<'a> {
             .prepare_block(alloc, machine.level(level))?;
         match self.seat(level).places() {
             Some(deck) => {
-                let jobs = self.seat(level).shown_jobs();
-                halt_text(alloc, machine, deck, jobs, level, halt, evidence)
+                let waiting = Waiting {
+                    level,
+                    halt,
+                    begun: self.seat(level).shown_jobs(),
+                    evidence,
+                };
+                let mut text = String::new(alloc);
+                push_halt(&mut text, alloc, machine, deck, waiting)?;
+                Ok(text)
             }
             None => Ok(String::new(alloc)),
         }
@@ -576,20 +583,6 @@ fn unread_text(
 ) -> Result<String, AllocError> {
     let mut text = String::new(alloc);
     push_unread(&mut text, level, deck, fault)?;
-    Ok(text)
-}
-
-fn halt_text<S: PackStore>(
-    alloc: Global,
-    machine: &Bureau<S>,
-    deck: &DeckText<'_>,
-    jobs: &Begun,
-    level: LevelId,
-    halt: &Halt,
-    evidence: &Evidence,
-) -> Result<String, AllocError> {
-    let mut text = String::new(alloc);
-    push_halt(&mut text, alloc, machine, deck, jobs, level, halt, evidence)?;
     Ok(text)
 }
 

@@ -22,6 +22,7 @@ use Rattle.s3_evidence.specs.declared.at_fault.Found.{Found}
 use Rattle.s3_evidence.specs.declared.at_fault.Found.TheVariants as found
 use Rattle.s3_evidence.specs.declared.evidence.Evidence.{Evidence}
 use Rattle.s3_evidence.specs.declared.evidence.Evidence.TheVariants as evidence
+use Rattle.s3_evidence.specs.declared.evidence.RecordRead.{RecordRead}
 use Rattle.s3_evidence.specs.declared.wanted.Wanted.{Wanted}
 use Rattle.s3_evidence.specs.declared.wanted.Wanted.TheVariants as wanted
 
@@ -63,7 +64,7 @@ IsFound level areas name (found.File label area) = (is_master : Bool) × ((area 
 abbrev pub IsWanted : LevelId → State → Wanted → Type 0
 IsWanted level bureau wanted.Nothing = Unit {0}
 IsWanted level bureau (wanted.Records label last before) = IsInUse level bureau label
-IsWanted level bureau (wanted.Totals label before) = IsInUse level bureau label
+IsWanted level bureau (wanted.Totals records) = All (λ one. IsInUse level bureau one.label) records.items
 IsWanted level bureau (wanted.Slots places) = All (λ place. IsOwnArea level place.area) places.items
 IsWanted level bureau (wanted.Indexes files) = All (λ file. HasIndex level bureau.beside.areas file.0 file.1) files.items
 
@@ -87,12 +88,16 @@ abbrev pub IsRecordOf : FileLabel → (contents : List (List ℕ)) → Option (V
 IsRecordOf label contents None = Unit {0}
 IsRecordOf label contents (Some bytes) = IsPartOf (sectors_of label) contents bytes.items
 
--- What a halt of a level is shown with: records of one file that the level's job has in use; slots of its own area or of the masters; indexes
+-- a record that was read is of a file that the level's job has in use
+abbrev pub IsReadInUse : LevelId → State → RecordRead → Type 0
+IsReadInUse level bureau read = (label : FileLabel) × (IsInUse level bureau label × IsRecordOf label bureau.beside.state.contents (Some read.bytes))
+
+-- What a halt of a level is shown with: records of files that the level's job has in use; slots of its own area or of the masters; indexes
 -- of files of these.
 abbrev pub IsAbout : LevelId → State → Evidence → Type 0
 IsAbout level bureau evidence.Nothing = Unit {0}
 IsAbout level bureau (evidence.Records last before) =
     (label : FileLabel) × (IsInUse level bureau label × (IsRecordOf label bureau.beside.state.contents last × IsRecordOf label bureau.beside.state.contents before))
-IsAbout level bureau (evidence.Totals before) = (label : FileLabel) × (IsInUse level bureau label × IsRecordOf label bureau.beside.state.contents before)
+IsAbout level bureau (evidence.Totals records) = All (IsReadInUse level bureau) records.items
 IsAbout level bureau (evidence.Slots slots) = All (λ slot. IsOwnArea level slot.area) slots.items
 IsAbout level bureau (evidence.Indexes indexes) = All (λ index. (label : FileLabel) × HasIndex level bureau.beside.areas index.label label) indexes.items
