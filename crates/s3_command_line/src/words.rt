@@ -536,7 +536,7 @@ const INIT: CommandWords = CommandWords {
         Word {
             name: "from",
             takes: Takes::Value("FILE"),
-            help: "An old pack: the valid files of its level 1 become the masters",
+            help: "An old pack: the valid files of its level 1 become the masters; - is standard input",
         },
         Word {
             name: "masters",

@@ -7,7 +7,7 @@ use crate::pack_words::{
     Save, area_number, care_sentence, keep_input, label_of, no_room_for_copy, pack_of,
     pack_to_change, refused, saved, tell_done,
 };
-use crate::words::{AGAIN, AREA, AREAS, JOURNAL, LABEL, OVERWRITE};
+use crate::words::{AGAIN, AREA, AREAS, JOURNAL, LABEL, LEVEL_ALIAS, OVERWRITE};
 use clap::ArgMatches;
 use s3_cards::Name;
 use s3_journal::{Posting, Work};
@@ -22,7 +22,7 @@ use std::alloc::{AllocError, Global};
 pub const COPY: CommandWords = CommandWords {
     name: "copy",
     about: "Copies a file of a pack, with its index, into an area of another or the same",
-    aliases: &[],
+    aliases: &[LEVEL_ALIAS],
     statuses: &[PACK_SAVED, NOTHING_SAVED, OPTIONS_WRONG, FILE_WRONG],
     examples: &[Example {
         line: "bureau copy --pack shop.pack --area 1 --label CUSTOM --into shop.pack --to-area 0 --save shop.pack",

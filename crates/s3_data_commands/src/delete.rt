@@ -8,7 +8,7 @@ use crate::pack_words::{
     Save, area_number, care_sentence, label_of, pack_to_change, refused, saved, tell_done,
     wrong_words,
 };
-use crate::words::{AGAIN, AREA, JOURNAL, LABEL, OVERWRITE, PACK, SAVE};
+use crate::words::{AGAIN, AREA, JOURNAL, LABEL, LEVEL_ALIAS, OVERWRITE, PACK, SAVE};
 use clap::ArgMatches;
 use s3_journal::{Posting, Work};
 use s3_listing::{SlotFile, file_in_slot};
@@ -22,7 +22,7 @@ use std::alloc::{AllocError, Global};
 pub const DELETE: CommandWords = CommandWords {
     name: "delete",
     about: "Deletes a file from a pack, or frees a damaged slot",
-    aliases: &[],
+    aliases: &[LEVEL_ALIAS],
     statuses: &[PACK_SAVED, NOTHING_SAVED, OPTIONS_WRONG, FILE_WRONG],
     examples: &[
         Example {

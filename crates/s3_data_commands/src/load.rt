@@ -28,6 +28,7 @@ use crate::journaling::journal_for;
 use crate::journaling::unmade_if_refused;
 use crate::key_cover::test_key;
 use crate::load_sentences::TOO_LONG;
+use crate::load_sentences::emptied_sentence;
 use crate::load_sentences::heading_sentence;
 use crate::load_sentences::load_sentence;
 use crate::load_sentences::other_types_sentence;
@@ -218,6 +219,11 @@ pub const LOAD: CommandWords = CommandWords {
             help: "Replaces a file even if records of other types than --type are lost",
         },
         Word {
+            name: "empty",
+            takes: Takes::Nothing,
+            help: "Replaces a file even by a table without rows, so that it has no record",
+        },
+        Word {
             name: "fill",
             takes: Takes::Nothing,
             help: "Fields that the table doesn't have are blank or 0",
@@ -274,6 +280,7 @@ struct LoadWords<'a> {
     appends: bool,
     reshapes: bool,
     drops_types: bool,
+    empties: bool,
     fills: bool,
     delimiter: u8,
     /// Whether a comma is before the decimals.
@@ -306,6 +313,7 @@ impl<'a> LoadWords<'a> {
             appends: matches.get_flag("append"),
             reshapes: matches.get_flag("new-shape"),
             drops_types: matches.get_flag("drop-types"),
+            empties: matches.get_flag("empty"),
             fills: matches.get_flag("fill"),
             delimiter: delimiter_of(rt, matches)?,
             has_comma: matches.get_str("decimal") == Some(","),
@@ -441,7 +449,7 @@ fn appended(alloc: Global, words: &LoadWords<'_>, table: &[u8]) -> Result<Append
 }
 
 /// A pack with a table, or records of a fixed length, in the file that the options name, given the file that a new one replaces. A file
-/// with records of other types is replaced only if `--drop-types` is given.
+/// with records of other types is replaced only if `--drop-types` is given, and one with records by none only if `--empty` is given.
 fn loaded_over(
     rt: &HostRuntime,
     words: &LoadWords<'_>,
@@ -451,13 +459,30 @@ fn loaded_over(
     replaced: Option<ReplacedFile>,
 ) -> Result<Vec<u8>, Fault> {
     let loaded = loaded(rt, words, layout, pack, table)?;
-    match replaced {
-        Some(file) if !words.drops_types => {
-            refuse_other_types(rt, words, file)?;
-        }
-        _ => {}
+    let Some(file) = replaced else {
+        return Ok(loaded);
+    };
+    if !words.drops_types {
+        refuse_other_types(rt, words, file)?;
+    }
+    if !words.empties {
+        refuse_emptied(rt, words, file, &loaded)?;
     }
     Ok(loaded)
+}
+
+/// Refuses to replace a file that has records by one without.
+fn refuse_emptied(
+    rt: &HostRuntime,
+    words: &LoadWords<'_>,
+    file: ReplacedFile,
+    loaded: &[u8],
+) -> Result<(), Fault> {
+    let new = loaded_file(rt.alloc(), words, loaded)?;
+    if file.records == 0 || new.records > 0 {
+        return Ok(());
+    }
+    Err(refused(emptied_sentence(rt.alloc(), words.label, file.records)))
 }
 
 /// Refuses to replace a file that has records of other types, or whose records can't be read.
@@ -580,12 +605,13 @@ fn replaced_file(
         // of a file of another record length, which is replaced if that is asked for, no type is known
         Some(0)
     };
+    let date = label.date;
     Ok(Some(ReplacedFile {
         records: label.count,
         others,
         capacity: label.capacity,
         retention: label.retention,
-        date: label.date,
+        date,
     }))
 }
 
@@ -850,11 +876,12 @@ fn test_words(rt: &HostRuntime, matches: &ArgMatches<'_>) -> Result<(), Fault> {
         || matches.get_str("retain").is_some()
         || matches.get_str("date").is_some()
         || matches.get_flag("new-shape")
-        || matches.get_flag("drop-types");
+        || matches.get_flag("drop-types")
+        || matches.get_flag("empty");
     if is_new && matches.get_flag("append") {
         return Err(wrong_words(
             rt.alloc(),
-            "--records, --tracks, --retain, --date, --new-shape and --drop-types are of a new file, and with --append the file that is there stays as it was made; leave them out",
+            "--records, --tracks, --retain, --date, --new-shape, --drop-types and --empty are of a new file, and with --append the file that is there stays as it was made; leave them out",
         ));
     }
     if matches.get_flag("drop-types") && matches.get_str("type").is_none() {

@@ -99,6 +99,18 @@ pub fn other_types_sentence(alloc: Global, label: &str, others: u32) -> Result<S
     )
 }
 
+/// Why a file that has so many records isn't replaced by one without records.
+pub fn emptied_sentence(alloc: Global, label: &str, records: u32) -> Result<String, AllocError> {
+    let records_are = if records == 1 {
+        "record, which"
+    } else {
+        "records, which"
+    };
+    format!(in alloc;
+        "the table has no rows, and the file {label} that is there has {records} {records_are} would be lost; see what made the table, or give --empty"
+    )
+}
+
 /// Why a file isn't replaced by one of another shape.
 fn shape_sentence(
     alloc: Global,

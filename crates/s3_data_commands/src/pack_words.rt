@@ -7,8 +7,9 @@ use crate::journaling::OpenJournal;
 use clap::ArgMatches;
 use s3_cards::{LevelId, Name, is_name, to_ebcdic};
 use s3_host_files::{
-    FileFault, Limit, LockedPack, StandardOutput, Target, is_empty_at, is_input, is_pack_at,
-    keep_save_apart, read_pack, read_to_save, retried, save_new_pack, save_pack, shown_name,
+    FileFault, Limit, LockedPack, STANDARD_INPUT, StandardOutput, Target, is_empty_at, is_input,
+    is_pack_at, keep_save_apart, read_pack, read_to_save, retried, save_new_pack, save_pack,
+    shown_name,
 };
 use s3_journal::Work;
 use s3_labels::{LabelFault, MountFault};
@@ -379,10 +380,11 @@ fn save_at(
     }
 }
 
-/// What a new file lets anyone do at most: what the pack does that the command changes.
+/// What a new file lets anyone do at most: what the pack does that the command changes, or standard input if it reads no pack.
 pub fn limit_of(rt: &HostRuntime, matches: &ArgMatches<'_>) -> Result<Option<Limit>, Fault> {
-    let Some(read) = matches.get_str("into").or(matches.get_str("pack")) else {
-        return Ok(None);
+    let read = match matches.get_str("into").or(matches.get_str("pack")) {
+        Some(pack) => pack,
+        None => STANDARD_INPUT,
     };
     match Limit::of(rt, read) {
         Ok(limit) => Ok(limit),

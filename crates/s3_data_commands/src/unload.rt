@@ -15,7 +15,7 @@ use crate::sentences::{
 };
 use crate::words::{
     AREA, DATE_FIELDS, DECIMAL, DELIMITER, LABEL, LAYOUT, LAYOUT_FILE, LAYOUT_PLAIN, LAYOUT_TYPE,
-    PACK, SAFE_CELLS,
+    LEVEL_ALIAS, PACK, SAFE_CELLS,
 };
 use clap::ArgMatches;
 use s3_cards::{LevelId, Name};
@@ -50,7 +50,7 @@ const FORMS: &'static [Choice] = &[
 pub const UNLOAD: CommandWords = CommandWords {
     name: "unload",
     about: "Writes the records of a file as a table in CSV, as texts, in hexadecimal digits or as records of a fixed length",
-    aliases: &[],
+    aliases: &[LEVEL_ALIAS],
     statuses: &[
         Status {
             number: DONE,

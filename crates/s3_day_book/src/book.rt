@@ -29,7 +29,17 @@ pub fn page_of_day(
     let old = mount_slots(alloc, before)?;
     let new = mount_slots(alloc, after)?;
     push_damaged(&mut book.given, &new)?;
-    let changes = changes_of(alloc, before, &old, after, &new)?;
+    let changes = changes_of(
+        alloc,
+        PackSlots {
+            pack: before,
+            slots: &old,
+        },
+        PackSlots {
+            pack: after,
+            slots: &new,
+        },
+    )?;
     let free = [
         u64::from(free_room(alloc, after, 0)?.tracks),
         u64::from(free_room(alloc, after, 1)?.tracks),
@@ -62,66 +72,42 @@ fn push_damaged_of(text: &mut String, region: &str, slots: &[Slot]) -> Result<()
 /// The files of all regions that the day changed.
 fn changes_of(
     alloc: Global,
-    old_pack: &[u8],
-    old: &AreaSlots,
-    new_pack: &[u8],
-    new: &AreaSlots,
+    old: PackSlots<'_>,
+    new: PackSlots<'_>,
 ) -> Result<Vec<Change>, AllocError> {
     let mut changes = Vec::new(alloc);
-    let before = area(old.masters(), old_pack);
-    push_changes(
-        alloc,
-        &mut changes,
-        MASTERS,
-        before,
-        area(new.masters(), new_pack),
-    )?;
-    push_level(
-        alloc,
-        &mut changes,
-        LEVEL_ONE,
-        LevelId::One,
-        old_pack,
-        old,
-        new_pack,
-        new,
-    )?;
-    push_level(
-        alloc,
-        &mut changes,
-        LEVEL_TWO,
-        LevelId::Two,
-        old_pack,
-        old,
-        new_pack,
-        new,
-    )?;
+    let (before, after) = (old.masters(), new.masters());
+    push_changes(alloc, &mut changes, MASTERS, before, after)?;
+    let (before, after) = (old.level(LevelId::One), new.level(LevelId::One));
+    push_changes(alloc, &mut changes, LEVEL_ONE, before, after)?;
+    let (before, after) = (old.level(LevelId::Two), new.level(LevelId::Two));
+    push_changes(alloc, &mut changes, LEVEL_TWO, before, after)?;
     Ok(changes)
 }
 
-/// Appends the files of a level that the day changed.
-fn push_level(
-    alloc: Global,
-    changes: &mut Vec<Change>,
-    name: &'static str,
-    level: LevelId,
-    old_pack: &[u8],
-    old: &AreaSlots,
-    new_pack: &[u8],
-    new: &AreaSlots,
-) -> Result<(), AllocError> {
-    let before = area(old.slots(level), old_pack);
-    push_changes(
-        alloc,
-        changes,
-        name,
-        before,
-        area(new.slots(level), new_pack),
-    )
+/// A pack, and the slots of its areas.
+#[derive(Clone, Copy)]
+struct PackSlots<'a> {
+    pack: &'a [u8],
+    slots: &'a AreaSlots,
 }
 
-fn area<'a>(slots: &'a [Slot], pack: &'a [u8]) -> Area<'a> {
-    Area { slots, pack }
+impl<'a> PackSlots<'a> {
+    /// The masters.
+    fn masters(&self) -> Area<'a> {
+        Area {
+            slots: self.slots.masters(),
+            pack: self.pack,
+        }
+    }
+
+    /// The area of a level.
+    fn level(&self, level: LevelId) -> Area<'a> {
+        Area {
+            slots: self.slots.slots(level),
+            pack: self.pack,
+        }
+    }
 }
 
 /// The page, given what changed, the slots of the pack, and the free tracks of each region.

@@ -43,7 +43,7 @@ impl Hindrance {
                 "is another file by now, which another program has put there, and stays as it is; repeat the command over that file, or give another name"
             }
             Hindrance::Protected => {
-                "is protected by its mode; its owner can allow reading and writing by `chmod`, or give another name"
+                "is protected by its mode or by an attribute; its owner can allow reading and writing by `chmod` or `chattr`, or give another name"
             }
             Hindrance::Changed => {
                 "was changed by another program while this command worked, and stays as it is; repeat the command over the changed file, or give another name"

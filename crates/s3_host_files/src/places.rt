@@ -17,19 +17,35 @@ pub fn followed(rt: &HostRuntime, path: &str) -> io::Result<PathBuf> {
     Ok(place)
 }
 
-/// The path at the end of the links that a path names, and what is there, if anything is.
+/// The path at the end of the links that a path names, and what is there, if anything is. A link to a device or a pipe isn't followed: a
+/// pipe of the shell has no other name.
 fn followed_to(rt: &HostRuntime, path: &str) -> io::Result<(PathBuf, Option<Metadata>)> {
     let alloc = rt.alloc();
     let mut place = Path::new(path).to_path_buf(alloc)?;
     for _link in 0..LINK_LIMIT {
         match retried::symlink_metadata(rt, place.as_path()) {
-            Ok(found) if found.is_symlink() => place = target_of(rt, place.as_path())?,
+            Ok(found) if found.is_symlink() => {
+                if let Some(device) = device_at(rt, place.as_path()) {
+                    return Ok((place, Some(device)));
+                }
+                place = target_of(rt, place.as_path())?;
+            }
             Ok(found) => return Ok((place, Some(found))),
             Err(error) if error.kind() == ErrorKind::NotFound => return Ok((place, None)),
             Err(error) => return Err(error),
         }
     }
     Err(io::Error::from(ErrorKind::FilesystemLoop))
+}
+
+/// What is at the end of a link, if that is a device or a pipe.
+fn device_at(rt: &HostRuntime, link: Path<'_>) -> Option<Metadata> {
+    let found = retried::metadata(rt, link).ok()?;
+    if found.is_file() || found.is_dir() {
+        None
+    } else {
+        Some(found)
+    }
 }
 
 /// The path that a link names, from its folder.

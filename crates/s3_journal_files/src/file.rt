@@ -1,11 +1,11 @@
 //! The file of a journal, kept until its command ends.
 
 use crate::opening::{BEGINNING, Opened, is_lockable, remove_second_name};
-use crate::reading::{Journal, read_journal};
+use crate::reading::{Journal, journal_text, read_journal};
 use crate::refusal::JournalRefusal;
 use crate::reports::{
-    report_again, report_cut, report_gone, report_left, report_lost_lines, report_new, report_old,
-    report_posted, report_unknown, report_unwritten,
+    report_again, report_changed, report_cut, report_gone, report_left, report_lost_lines,
+    report_new, report_old, report_posted, report_unknown, report_unwritten,
 };
 use s3_day_log::utc_text;
 use s3_host_files::{
@@ -179,7 +179,7 @@ impl<'a> JournalFile<'a> {
     }
 
     /// Appends a line of what a command did, and brings it to the disk. What a crash left of a line is removed first. It is refused if the
-    /// journal was removed or replaced since it was opened. If it fails, the line is removed again.
+    /// journal was removed, replaced or changed since it was opened. If it fails, the line is removed again.
     pub fn append(
         &mut self,
         rt: &HostRuntime,
@@ -187,21 +187,36 @@ impl<'a> JournalFile<'a> {
         work: Work,
     ) -> Result<(), JournalRefusal<'a>> {
         let line = self.line_for(rt, new, work)?;
-        match leads_to(rt, Path::new(self.name), &self.file) {
-            Ok(true) => {}
-            Ok(false) => {
-                report_gone(rt, self.name);
-                report_left(rt, new.save);
-                return Err(JournalRefusal::Unwritten(self.name));
-            }
-            Err(error) => return Err(self.unwritten(rt, &error, new.save)),
-        }
+        self.test_as_read(rt, new.save)?;
         match self.append_line(line.as_str()) {
             Ok(()) => Ok(()),
             Err(error) => {
                 self.take_back(rt);
                 Err(self.unwritten(rt, &error, new.save))
             }
+        }
+    }
+
+    /// Refuses a journal that another program removed, replaced or changed since it was read. This is reported, and that the pack isn't
+    /// saved in a file.
+    fn test_as_read(&self, rt: &HostRuntime, save: Option<&str>) -> Result<(), JournalRefusal<'a>> {
+        match leads_to(rt, Path::new(self.name), &self.file) {
+            Ok(true) => {}
+            Ok(false) => {
+                report_gone(rt, self.name);
+                report_left(rt, save);
+                return Err(JournalRefusal::Unwritten(self.name));
+            }
+            Err(error) => return Err(self.unwritten(rt, &error, save)),
+        }
+        match journal_text(rt, self.name) {
+            Ok(text) if text == self.read.text => Ok(()),
+            Ok(_) => {
+                report_changed(rt, self.name);
+                report_left(rt, save);
+                Err(JournalRefusal::Unwritten(self.name))
+            }
+            Err(error) => Err(self.unwritten(rt, &error, save)),
         }
     }
 
@@ -228,9 +243,12 @@ impl<'a> JournalFile<'a> {
         }
     }
 
-    /// Removes the line that was appended last.
+    /// Removes the line that was appended last. A journal that another program has cut isn't made longer.
     fn take_back(&self, rt: &HostRuntime) {
-        if self.file.set_len(self.read.bytes).is_ok() {
+        if let Ok(found) = retried::metadata_of(&self.file)
+            && found.len() > self.read.bytes
+            && self.file.set_len(self.read.bytes).is_ok()
+        {
             let _ = self.file.sync_all();
         }
         self.remove_if_unused(rt);

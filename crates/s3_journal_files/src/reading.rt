@@ -5,6 +5,7 @@ use crate::refusal::JournalRefusal;
 use s3_host_files::{read_within, shown_name};
 use s3_journal::{JournalFault, PostedDay, read_lines};
 use s3_refusals::Shown;
+use std::io;
 use std::io::Write;
 
 /// The most bytes of a journal that is read.
@@ -22,7 +23,7 @@ struct Cures {
 /// For commands with the option --journal.
 const BY_OPTION: Cures = Cures {
     no_journal: "give the file that --journal wrote, or a new name",
-    damaged: "restore the journal from a copy, or give --journal a new name",
+    damaged: "restore the journal from a copy, for a new one has no posted decks",
 };
 
 /// For commands that have the journal as an argument.
@@ -46,6 +47,8 @@ pub struct Journal {
     pub has_lost_lines: bool,
     /// Whether a further line was begun, by a command that was killed.
     pub is_cut: bool,
+    /// What the file has, lines and the rest.
+    pub(crate) text: Vec<u8>,
 }
 
 /// The lines of the journal that --journal names, or of standard input if its name is `-`. What is wrong with them is reported.
@@ -61,13 +64,18 @@ pub fn read_listed_journal<'a>(
     read_by(rt, name, BY_ARGUMENT)
 }
 
+/// What the file of a journal has.
+pub(crate) fn journal_text(rt: &HostRuntime, name: &str) -> io::Result<Vec<u8>> {
+    read_within(rt, name, JOURNAL_LIMIT)
+}
+
 /// The lines of a journal. What is wrong with them is reported, with what helps.
 fn read_by<'a>(
     rt: &HostRuntime,
     name: &'a str,
     cures: Cures,
 ) -> Result<Journal, JournalRefusal<'a>> {
-    let bytes = match read_within(rt, name, JOURNAL_LIMIT) {
+    let bytes = match journal_text(rt, name) {
         Ok(bytes) => bytes,
         Err(error) => return Err(JournalRefusal::of(&error, shown_name(name))),
     };
@@ -90,6 +98,7 @@ fn read_by<'a>(
                 begun,
                 has_lost_lines: lines.bytes == 0 && text != BEGINNING,
                 is_cut: lines.bytes < bytes.len(),
+                text: bytes,
             })
         }
         Err(JournalFault::NoMemory) => Err(JournalRefusal::NoMemory),

@@ -156,6 +156,15 @@ pub(crate) fn report_gone(rt: &HostRuntime, journal: &str) {
     );
 }
 
+/// Reports that another program has changed a journal.
+pub(crate) fn report_changed(rt: &HostRuntime, journal: &str) {
+    let (quoted, journal) = (Quoted(journal), Shown(journal));
+    let _ = writeln!(
+        rt.stderr(),
+        "{journal} was changed by another program while this command worked, so it gets no line; see by `bureau journal {quoted}` whether it is whole, restore it from a copy if it isn't, and repeat the command"
+    );
+}
+
 /// Reports why a journal didn't get its line.
 pub(crate) fn report_unwritten(rt: &HostRuntime, journal: &str, error: &io::Error) {
     let (journal, reason) = (Shown(journal), Reason(*error));

@@ -3,7 +3,7 @@
 use crate::book::{Outcome, write_index};
 use crate::holding::Holding;
 use crate::pages::{Making, report_paper, write_paper};
-use crate::saving::{Place, end_day, end_unwritten};
+use crate::saving::{DayEnd, Place};
 use crate::status::status_of;
 use s3_cli::{CliFault, SessionFault};
 use s3_command_line::{FILE, OUT_OF_MEMORY};
@@ -45,6 +45,15 @@ pub struct Prepared<'a> {
     pub logged: Option<&'a DayLog>,
     /// Level 1's deck can be read.
     pub is_one_read: bool,
+}
+
+/// A pack that can be mounted, and the outputs, each of which can be written.
+#[derive(Drop)]
+pub struct Mounted<'n> {
+    /// The bytes of the pack.
+    pub bytes: Vec<u8>,
+    /// The outputs.
+    pub outputs: Outputs<'n>,
 }
 
 /// Printed before a list of replies is typed.
@@ -93,9 +102,10 @@ impl Over {
     }
 }
 
-/// What the end of a day needs: the outputs that the desk doesn't have, and where the pack is saved.
+/// What the end of a day needs: the texts of both decks, the outputs that the desk doesn't have, and where the pack is saved.
 #[derive(Drop)]
-struct Ending<'n> {
+struct Ending<'t, 'n> {
+    texts: Texts<'t>,
     deck1: Option<Output>,
     deck2: Option<Output>,
     kept: KeptOutputs,
@@ -106,12 +116,12 @@ struct Ending<'n> {
 pub fn operate_prepared<'n, 'a>(
     rt: &'a HostRuntime,
     order: &Order<'n>,
-    pack: Vec<u8>,
+    mounted: Mounted<'n>,
     day: Prepared<'a>,
     read: ReadDecks,
-    outputs: Outputs<'n>,
     journal: Option<DayJournal<'n>>,
 ) -> Result<u8, DayFault<'n>> {
+    let Mounted { bytes, outputs } = mounted;
     let Outputs {
         script,
         log,
@@ -121,19 +131,21 @@ pub fn operate_prepared<'n, 'a>(
         kept,
         made,
     } = outputs;
-    let texts = Texts {
-        one: day.one.text(),
-        two: day.two.text(),
-    };
     let ending = Ending {
+        texts: Texts {
+            one: day.one.text(),
+            two: day.two.text(),
+        },
         deck1,
         deck2,
         kept,
         place: Place { locked, journal },
     };
-    match printing_of(rt, order, day, script, log) {
-        Ok(printing) => operate_printed(rt, order, pack, texts, read, printing, ending, &made),
-        Err(error) => Err(DayFault::from(error)),
+    let mut printing = printing_of(rt, order, day, script, log)?;
+    tell_replies_typed(rt, order, &mut printing.operator.operator);
+    match operated(rt.alloc(), order, bytes, read, &mut printing) {
+        Ok(over) => hand_out(rt, order, printing, over, ending),
+        Err(fault) => Err(end_refused(rt, order, &printing, &made, fault)),
     }
 }
 
@@ -159,29 +171,19 @@ fn printing_of<'a>(
     }
 }
 
-/// Operates a day, and hands out what it leaves. If a deck is refused, nothing is written, so what was made by trying goes again.
-fn operate_printed<'n>(
+/// Ends a day that gives no result. If a deck is refused, nothing is written, so what was made by trying goes again.
+fn end_refused<'n>(
     rt: &HostRuntime,
     order: &Order<'n>,
-    pack: Vec<u8>,
-    texts: Texts<'_>,
-    read: ReadDecks,
-    printing: PrintingDesk<'_>,
-    ending: Ending<'n>,
+    printing: &PrintingDesk<'_>,
     made: &[&'n str],
-) -> Result<u8, DayFault<'n>> {
-    let mut printing = printing;
-    tell_replies_typed(rt, order, &mut printing.operator.operator);
-    match operated(rt.alloc(), order, pack, read, &mut printing) {
-        Ok(over) => hand_out(rt, order, texts, printing, over, ending),
-        Err(fault) => {
-            if printing.operator.operator.refused().is_some() {
-                remove_made(rt, made);
-                return Err(log_refusal(rt, order, fault));
-            }
-            Err(fault)
-        }
+    fault: DayFault<'n>,
+) -> DayFault<'n> {
+    if printing.operator.operator.refused().is_none() {
+        return fault;
     }
+    remove_made(rt, made);
+    log_refusal(rt, order, fault)
 }
 
 /// Reports what a terminal is read for if a list of replies is typed there.
@@ -195,12 +197,12 @@ fn tell_replies_typed(rt: &HostRuntime, order: &Order<'_>, desk: &mut OwnDesk<'_
 fn hand_out<'n>(
     rt: &HostRuntime,
     order: &Order<'n>,
-    texts: Texts<'_>,
     printing: PrintingDesk<'_>,
     over: Over,
-    ending: Ending<'n>,
+    ending: Ending<'_, 'n>,
 ) -> Result<u8, DayFault<'n>> {
     let Ending {
+        texts,
         deck1,
         deck2,
         kept,
@@ -213,7 +215,15 @@ fn hand_out<'n>(
         Err(fault) => Err(fault),
     };
     let desk = &mut printing.operator.operator;
-    let done = end_written(rt, order, desk, &kept, &mut over, place, written);
+    let end = DayEnd {
+        rt,
+        order,
+        kept: &kept,
+    };
+    let done = match written {
+        Ok(()) => end.end(desk, &mut over, place),
+        Err(fault) => Err(end.end_unwritten(desk, fault)),
+    };
     end_book(rt, order, desk, &kept, &over, done)
 }
 
@@ -259,22 +269,6 @@ fn tell_saved(rt: &HostRuntime, order: &Order<'_>, is_saved: bool) {
     {
         let path = Shown(path);
         let _ = writeln!(rt.stderr(), "the pack is saved in {path} all the same");
-    }
-}
-
-/// Saves the pack, if all outputs are written, and gives the exit status.
-fn end_written<'n>(
-    rt: &HostRuntime,
-    order: &Order<'n>,
-    desk: &mut OwnDesk<'_>,
-    kept: &KeptOutputs,
-    over: &mut Over,
-    place: Place<'n>,
-    written: Result<(), DayFault<'n>>,
-) -> Result<u8, DayFault<'n>> {
-    match written {
-        Ok(()) => end_day(rt, order, desk, kept, over, place),
-        Err(fault) => Err(end_unwritten(rt, order, desk, kept, fault)),
     }
 }
 

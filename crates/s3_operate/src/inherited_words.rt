@@ -4,7 +4,7 @@ use clap::ArgMatches;
 use s3_command_line::command;
 use s3_day_files::{push_word, replies_of};
 use s3_day_log::DayLog;
-use s3_host_files::shown_name;
+use s3_host_files::{retried, shown_name};
 use s3_refusals::Shown;
 use std::alloc::{AllocError, Global};
 use std::io::Write;
@@ -32,6 +32,24 @@ pub fn report_limits(rt: &HostRuntime, path: &str, given: &ArgMatches<'_>, all: 
                 "{word} {value} holds again, as in {path}; give {word} to set another limit"
             );
         }
+    }
+}
+
+/// Reports that the rules which a day takes from its log aren't there, given the options that were given and all that it has.
+pub fn report_lost_rules(
+    rt: &HostRuntime,
+    path: &str,
+    given: &ArgMatches<'_>,
+    all: &ArgMatches<'_>,
+) {
+    if let (None, Some(rules)) = (rules_of(given), rules_of(all))
+        && matches!(retried::exists(rt, rules), Ok(false))
+    {
+        let (path, rules) = (Shown(shown_name(path)), Shown(rules));
+        let _ = writeln!(
+            rt.stderr(),
+            "{path} names the rules {rules}, which aren't there; give their file by --replies"
+        );
     }
 }
 

@@ -21,8 +21,8 @@ mod status;
 
 use clap::ArgMatches;
 use damage::report_damage;
-use day::{Prepared, operate_prepared};
-use inherited_words::{report_limits, words_again};
+use day::{Mounted, Prepared, operate_prepared};
+use inherited_words::{report_limits, report_lost_rules, words_again};
 use s3_cards::LevelId;
 use s3_cli::{CliFault, RunFault, SessionFault};
 use s3_command_line::{OUT_OF_MEMORY, command, names_standard_error};
@@ -110,13 +110,15 @@ fn operate_logged(
     }
 }
 
-/// Reports the limits that the day takes from its log, unless it is quiet or the report would get into one of its files.
+/// Reports the limits that the day takes from its log, and rules that aren't there, unless it is quiet or the report would get into one
+/// of its files.
 fn tell_limits(rt: &HostRuntime, path: &str, given: &ArgMatches<'_>, parsed: &ArgMatches<'_>) {
     if let Some((_operate, all)) = parsed.subcommand()
         && !all.get_flag("quiet")
         && !names_standard_error(rt, "operate", all)
     {
         report_limits(rt, path, given, all);
+        report_lost_rules(rt, path, given, all);
     }
 }
 
@@ -520,24 +522,9 @@ fn operate_mounted<'n, 'a>(
     read: ReadDecks,
 ) -> Result<u8, DayFault<'n>> {
     match mount(rt, order, pack) {
-        Ok(mounted) => operate_prepared(
-            rt,
-            order,
-            mounted.bytes,
-            day,
-            read,
-            mounted.outputs,
-            journal,
-        ),
+        Ok(mounted) => operate_prepared(rt, order, mounted, day, read, journal),
         Err(fault) => Err(log_refusal(rt, order, fault)),
     }
-}
-
-/// A pack that can be mounted, and the outputs, each of which can be written.
-#[derive(Drop)]
-struct Mounted<'n> {
-    bytes: Vec<u8>,
-    outputs: Outputs<'n>,
 }
 
 /// Tries the pack, and then the outputs.

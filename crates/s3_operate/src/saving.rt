@@ -56,94 +56,266 @@ pub struct Place<'n> {
     pub journal: Option<DayJournal<'n>>,
 }
 
-/// Saves the pack if the day's end allows it, notes and reports whether it is saved, logs the end of the day, and gives the exit status.
-pub fn end_day<'n>(
-    rt: &HostRuntime,
-    order: &Order<'n>,
-    desk: &mut OwnDesk<'_>,
-    kept: &KeptOutputs,
-    over: &mut Over,
-    place: Place<'n>,
-) -> Result<u8, DayFault<'n>> {
-    if let Err(fault) = sync_script(rt, order, desk, kept) {
-        return Err(end_unwritten(rt, order, desk, kept, fault));
-    }
-    let verdict = over.closing.verdict;
-    let end = desk.pack_end(verdict, order.save.is_some(), order.saves_unfinished)?;
-    match (end, order.save) {
-        (PackEnd::Saved, Some(path)) => {
-            let sum = checksum(rt.alloc(), &over.day.run.pack)?;
-            let saving = Saving {
-                path,
-                sum: sum.as_str(),
-            };
-            save(rt, order, desk, kept, over, place, saving)
+/// What the end of a day needs at each step: its order, and the outputs that are kept to their end.
+#[derive(Clone, Copy)]
+pub struct DayEnd<'a, 'n> {
+    /// The host.
+    pub rt: &'a HostRuntime,
+    /// What was asked for.
+    pub order: &'a Order<'n>,
+    /// The outputs.
+    pub kept: &'a KeptOutputs,
+}
+
+impl<'a, 'n> DayEnd<'a, 'n> {
+    /// Saves the pack if the day's end allows it, notes and reports whether it is saved, logs the end of the day, and gives the exit status.
+    pub fn end(
+        self,
+        desk: &mut OwnDesk<'_>,
+        over: &mut Over,
+        place: Place<'n>,
+    ) -> Result<u8, DayFault<'n>> {
+        if let Err(fault) = self.sync_script(desk) {
+            return Err(self.end_unwritten(desk, fault));
         }
-        _ => end_unsaved(rt, order, desk, kept, over, end),
+        let verdict = over.closing.verdict;
+        let end = desk.pack_end(
+            verdict,
+            self.order.save.is_some(),
+            self.order.saves_unfinished,
+        )?;
+        match (end, self.order.save) {
+            (PackEnd::Saved, Some(path)) => {
+                let sum = checksum(self.rt.alloc(), &over.day.run.pack)?;
+                let saving = Saving {
+                    path,
+                    sum: sum.as_str(),
+                };
+                self.save(desk, over, place, saving)
+            }
+            _ => self.end_unsaved(desk, over, end),
+        }
     }
-}
 
-/// Saves the pack, after the log has that it will be saved, and ends the day.
-fn save<'n>(
-    rt: &HostRuntime,
-    order: &Order<'n>,
-    desk: &mut OwnDesk<'_>,
-    kept: &KeptOutputs,
-    over: &mut Over,
-    place: Place<'n>,
-    saving: Saving<'n, '_>,
-) -> Result<u8, DayFault<'n>> {
-    if let Err(fault) = note_saving(rt, order, desk, kept, saving) {
-        return Err(end_unwritten(rt, order, desk, kept, fault));
+    /// Saves the pack, after the log has that it will be saved, and ends the day.
+    fn save(
+        self,
+        desk: &mut OwnDesk<'_>,
+        over: &mut Over,
+        place: Place<'n>,
+        saving: Saving<'n, '_>,
+    ) -> Result<u8, DayFault<'n>> {
+        if let Err(fault) = self.note_saving(desk, saving) {
+            return Err(self.end_unwritten(desk, fault));
+        }
+        let Place {
+            locked,
+            mut journal,
+        } = place;
+        over.replaces_other = has_other_pack(self.rt, self.order, saving.path);
+        let aside = match SetAside::of(self.rt, self.order, &locked) {
+            Ok(aside) => aside,
+            Err(fault) => return Err(self.end_unwritten(desk, fault)),
+        };
+        if let Err(fault) = note_day(self.rt, self.order, desk, over, &mut journal, saving.sum) {
+            take_back(self.rt, &aside);
+            return Err(self.end_unwritten(desk, fault));
+        }
+        // what comes after the save must not need memory for the name of the pack
+        let pack = saved_file(self.rt.alloc(), saving)?;
+        let path = saving.path;
+        let done = saved(
+            self.rt,
+            self.order,
+            path,
+            locked,
+            self.kept.limit,
+            &over.day.run.pack,
+        );
+        over.is_saved = is_saved(&done);
+        end_aside(self.rt, &aside, &done);
+        if let Some(journal) = &journal {
+            journal.end_save(self.rt, &done);
+        }
+        match done {
+            Ok(()) => self.end_saved(desk, over, path, pack),
+            Err(FileFault::Unsynced(error)) => self.end_unsynced(desk, path, pack, &error),
+            Err(fault) => self.end_failed(desk, path, &fault),
+        }
     }
-    let Place {
-        locked,
-        mut journal,
-    } = place;
-    over.replaces_other = has_other_pack(rt, order, saving.path);
-    let aside = match SetAside::of(rt, order, &locked) {
-        Ok(aside) => aside,
-        Err(fault) => return Err(end_unwritten(rt, order, desk, kept, fault)),
-    };
-    if let Err(fault) = note_day(rt, order, desk, over, &mut journal, saving.sum) {
-        take_back(rt, &aside);
-        return Err(end_unwritten(rt, order, desk, kept, fault));
-    }
-    // what comes after the save must not need memory for the name of the pack
-    let pack = saved_file(rt.alloc(), saving)?;
-    let path = saving.path;
-    let done = saved(rt, order, path, locked, kept.limit, &over.day.run.pack);
-    over.is_saved = is_saved(&done);
-    end_aside(rt, &aside, &done);
-    if let Some(journal) = &journal {
-        journal.end_save(rt, &done);
-    }
-    match done {
-        Ok(()) => end_saved(rt, order, desk, kept, over, path, pack),
-        Err(FileFault::Unsynced(error)) => end_unsynced(rt, order, desk, kept, path, pack, &error),
-        Err(fault) => end_failed(rt, order, desk, kept, path, &fault),
-    }
-}
 
-/// Ends a day of which an output isn't written, so that its pack isn't saved. This is reported, unless the desk has done so, and logged.
-/// It returns the fault.
-pub fn end_unwritten<'n>(
-    rt: &HostRuntime,
-    order: &Order<'n>,
-    desk: &mut OwnDesk<'_>,
-    kept: &KeptOutputs,
-    fault: DayFault<'n>,
-) -> DayFault<'n> {
-    if let Some(path) = order.save
-        && !desk.has_given_up()
-    {
-        report_unsaved(rt, order, path, "");
+    /// Ends a day of which an output isn't written, so that its pack isn't saved. This is reported, unless the desk has done so, and logged.
+    /// It returns the fault.
+    pub fn end_unwritten(self, desk: &mut OwnDesk<'_>, fault: DayFault<'n>) -> DayFault<'n> {
+        if let Some(path) = self.order.save
+            && !desk.has_given_up()
+        {
+            report_unsaved(self.rt, self.order, path, "");
+        }
+        if !desk.has_log_failed() {
+            // the fault is the one that came first
+            let _ = self.log_end(desk, fault.status(), None);
+        }
+        fault
     }
-    if !desk.has_log_failed() {
+
+    /// Brings the script to the disk, if one is written.
+    fn sync_script(self, desk: &OwnDesk<'_>) -> Result<(), DayFault<'n>> {
+        if desk.has_script() {
+            sync(
+                self.rt,
+                &self.kept.script,
+                self.order.script,
+                desk.script_len(),
+            )
+        } else {
+            Ok(())
+        }
+    }
+
+    /// Logs that the pack is going to be saved, and brings the log to the disk. If the desk is killed, a log without an end and the pack
+    /// show whether the pack is saved.
+    fn note_saving(
+        self,
+        desk: &mut OwnDesk<'_>,
+        saving: Saving<'n, '_>,
+    ) -> Result<(), DayFault<'n>> {
+        if desk.has_log() {
+            let pack = saved_file(self.rt.alloc(), saving)?;
+            desk.note(Event::Saving { pack })?;
+        }
+        test_outputs(self.order, desk)?;
+        self.sync_log(desk)
+    }
+
+    /// Brings the log to the disk, unless the operator continued without it.
+    fn sync_log(self, desk: &OwnDesk<'_>) -> Result<(), DayFault<'n>> {
+        if desk.has_log() {
+            sync(self.rt, &self.kept.log, self.order.log, 0)
+        } else {
+            Ok(())
+        }
+    }
+
+    /// Brings what the log has so far to the disk, unless the operator continued without it.
+    fn sync_lines(self, desk: &OwnDesk<'_>) -> Result<(), DayFault<'n>> {
+        match (&self.kept.log, self.order.log) {
+            (Some(output), Some(name)) if desk.has_log() => bring(self.rt, output, name),
+            _ => Ok(()),
+        }
+    }
+
+    /// Ends a day whose pack is saved.
+    fn end_saved(
+        self,
+        desk: &mut OwnDesk<'_>,
+        over: &Over,
+        path: &'n str,
+        pack: NamedFile,
+    ) -> Result<u8, DayFault<'n>> {
+        if over.is_reported(self.order) {
+            report_saved(self.rt, path, over);
+        }
+        let status = status_of(over.closing.verdict, PackEnd::Saved);
+        self.end_over_saved(desk, status, path, pack)?;
+        Ok(status)
+    }
+
+    /// Ends a day whose pack is saved, though its folder couldn't be brought to the disk.
+    fn end_unsynced(
+        self,
+        desk: &mut OwnDesk<'_>,
+        path: &'n str,
+        pack: NamedFile,
+        error: &io::Error,
+    ) -> Result<u8, DayFault<'n>> {
+        let (shown, reason) = (Shown(path), Reason(*error));
+        let _ = writeln!(
+            self.rt.stderr(),
+            "the pack is saved in {shown}, but may not survive a power cut, because its folder can't be brought to the disk: {reason}"
+        );
+        self.end_over_saved(desk, FILE_FAILED, path, pack)?;
+        Err(DayFault::Unsynced(path))
+    }
+
+    /// Logs the end of a day whose pack is saved. If the log fails by now, the pack stays saved, which is reported.
+    fn end_over_saved(
+        self,
+        desk: &mut OwnDesk<'_>,
+        status: u8,
+        path: &'n str,
+        pack: NamedFile,
+    ) -> Result<(), DayFault<'n>> {
+        if self.log_end(desk, status, Some(pack)).is_ok() {
+            return Ok(());
+        }
+        let log = self.order.log.unwrap_or(path);
+        let (shown, path) = (Shown(log), Shown(path));
+        let _ = writeln!(
+            self.rt.stderr(),
+            "{shown} may lack the end of the day; the pack is saved in {path} all the same"
+        );
+        Err(DayFault::File(log))
+    }
+
+    /// Ends a day whose pack couldn't be saved.
+    fn end_failed(
+        self,
+        desk: &mut OwnDesk<'_>,
+        path: &'n str,
+        fault: &FileFault,
+    ) -> Result<u8, DayFault<'n>> {
+        report_failed(self.rt, path, fault);
+        report_whole_day(self.rt, self.order);
+        let fault = DayFault::of_pack(fault, path);
         // the fault is the one that came first
-        let _ = log_end(rt, order, desk, kept, fault.status(), None);
+        let _ = self.log_end(desk, fault.status(), None);
+        Err(fault)
     }
-    fault
+
+    /// Ends a day whose pack isn't to be saved.
+    fn end_unsaved(
+        self,
+        desk: &mut OwnDesk<'_>,
+        over: &Over,
+        end: PackEnd,
+    ) -> Result<u8, DayFault<'n>> {
+        match self.order.save {
+            Some(path) => {
+                report_unsaved(self.rt, self.order, path, reason_of(end));
+                report_redo(self.rt, self.order, desk, end);
+            }
+            None if over.is_reported(self.order) => desk.tell(
+                "nothing is saved: there is no --save\n",
+            ),
+            None => {}
+        }
+        if let PackEnd::AnsweredNo | PackEnd::LoggedNo = end {
+            desk.note(Event::Declined)?;
+        }
+        let status = status_of(over.closing.verdict, end);
+        self.log_end(desk, status, None)?;
+        Ok(status)
+    }
+
+    /// Logs the end of the day, and brings the log to the disk: all lines before the last one first, so that the last line has the status of a
+    /// log that can't be brought there. Only if the last line alone can't be, the day's status is another one.
+    fn log_end(
+        self,
+        desk: &mut OwnDesk<'_>,
+        status: u8,
+        saved: Option<NamedFile>,
+    ) -> Result<(), DayFault<'n>> {
+        let synced = self.sync_lines(desk);
+        let status = logged_status(status, &synced);
+        if desk.has_log() {
+            desk.note(Event::End(DayOver { status, saved }))?;
+        }
+        desk.tell_log_failure()?;
+        test_written(self.order, desk)?;
+        synced?;
+        self.sync_log(desk)
+    }
 }
 
 /// Reports that the pack isn't saved, and why, unless another line has the reason.
@@ -161,37 +333,6 @@ fn report_whole_day(rt: &HostRuntime, order: &Order<'_>) {
     if order.saves_unfinished {
         let _ = writeln!(rt.stderr(), "{WHOLE_DAY}");
     }
-}
-
-/// Brings the script to the disk, if one is written.
-fn sync_script<'n>(
-    rt: &HostRuntime,
-    order: &Order<'n>,
-    desk: &OwnDesk<'_>,
-    kept: &KeptOutputs,
-) -> Result<(), DayFault<'n>> {
-    if desk.has_script() {
-        sync(rt, &kept.script, order.script, desk.script_len())
-    } else {
-        Ok(())
-    }
-}
-
-/// Logs that the pack is going to be saved, and brings the log to the disk. If the desk is killed, a log without an end and the pack
-/// show whether the pack is saved.
-fn note_saving<'n>(
-    rt: &HostRuntime,
-    order: &Order<'n>,
-    desk: &mut OwnDesk<'_>,
-    kept: &KeptOutputs,
-    saving: Saving<'n, '_>,
-) -> Result<(), DayFault<'n>> {
-    if desk.has_log() {
-        let pack = saved_file(rt.alloc(), saving)?;
-        desk.note(Event::Saving { pack })?;
-    }
-    test_outputs(order, desk)?;
-    sync_log(rt, order, desk, kept)
 }
 
 /// Appends the line of the day to the journal, if there is one, and brings it to the disk. If the desk is killed, the last line and the
@@ -224,33 +365,6 @@ fn count_of(desk: &OwnDesk<'_>, level: LevelId) -> Result<LevelCount, AllocError
         jobs: jobs.len() as u64,
         lines,
     })
-}
-
-/// Brings the log to the disk, unless the operator continued without it.
-fn sync_log<'n>(
-    rt: &HostRuntime,
-    order: &Order<'n>,
-    desk: &OwnDesk<'_>,
-    kept: &KeptOutputs,
-) -> Result<(), DayFault<'n>> {
-    if desk.has_log() {
-        sync(rt, &kept.log, order.log, 0)
-    } else {
-        Ok(())
-    }
-}
-
-/// Brings what the log has so far to the disk, unless the operator continued without it.
-fn sync_lines<'n>(
-    rt: &HostRuntime,
-    order: &Order<'n>,
-    desk: &OwnDesk<'_>,
-    kept: &KeptOutputs,
-) -> Result<(), DayFault<'n>> {
-    match (&kept.log, order.log) {
-        (Some(output), Some(name)) if desk.has_log() => bring(rt, output, name),
-        _ => Ok(()),
-    }
 }
 
 /// Brings an output to the disk.
@@ -313,24 +427,6 @@ fn saved(
     }
 }
 
-/// Ends a day whose pack is saved.
-fn end_saved<'n>(
-    rt: &HostRuntime,
-    order: &Order<'n>,
-    desk: &mut OwnDesk<'_>,
-    kept: &KeptOutputs,
-    over: &Over,
-    path: &'n str,
-    pack: NamedFile,
-) -> Result<u8, DayFault<'n>> {
-    if over.is_reported(order) {
-        report_saved(rt, path, over);
-    }
-    let status = status_of(over.closing.verdict, PackEnd::Saved);
-    end_over_saved(rt, order, desk, kept, status, path, pack)?;
-    Ok(status)
-}
-
 /// Whether the file at a path has another pack than the one that the day began with. If it can't be read, the save fails with the reason.
 fn has_other_pack(rt: &HostRuntime, order: &Order<'_>, path: &str) -> bool {
     match order.pack {
@@ -360,64 +456,6 @@ fn report_saved(rt: &HostRuntime, path: &str, over: &Over) {
     };
 }
 
-/// Ends a day whose pack is saved, though its folder couldn't be brought to the disk.
-fn end_unsynced<'n>(
-    rt: &HostRuntime,
-    order: &Order<'n>,
-    desk: &mut OwnDesk<'_>,
-    kept: &KeptOutputs,
-    path: &'n str,
-    pack: NamedFile,
-    error: &io::Error,
-) -> Result<u8, DayFault<'n>> {
-    let (shown, reason) = (Shown(path), Reason(*error));
-    let _ = writeln!(
-        rt.stderr(),
-        "the pack is saved in {shown}, but may not survive a power cut, because its folder can't be brought to the disk: {reason}"
-    );
-    end_over_saved(rt, order, desk, kept, FILE_FAILED, path, pack)?;
-    Err(DayFault::Unsynced(path))
-}
-
-/// Logs the end of a day whose pack is saved. If the log fails by now, the pack stays saved, which is reported.
-fn end_over_saved<'n>(
-    rt: &HostRuntime,
-    order: &Order<'n>,
-    desk: &mut OwnDesk<'_>,
-    kept: &KeptOutputs,
-    status: u8,
-    path: &'n str,
-    pack: NamedFile,
-) -> Result<(), DayFault<'n>> {
-    if log_end(rt, order, desk, kept, status, Some(pack)).is_ok() {
-        return Ok(());
-    }
-    let log = order.log.unwrap_or(path);
-    let (shown, path) = (Shown(log), Shown(path));
-    let _ = writeln!(
-        rt.stderr(),
-        "{shown} may lack the end of the day; the pack is saved in {path} all the same"
-    );
-    Err(DayFault::File(log))
-}
-
-/// Ends a day whose pack couldn't be saved.
-fn end_failed<'n>(
-    rt: &HostRuntime,
-    order: &Order<'n>,
-    desk: &mut OwnDesk<'_>,
-    kept: &KeptOutputs,
-    path: &'n str,
-    fault: &FileFault,
-) -> Result<u8, DayFault<'n>> {
-    report_failed(rt, path, fault);
-    report_whole_day(rt, order);
-    let fault = DayFault::of_pack(fault, path);
-    // the fault is the one that came first
-    let _ = log_end(rt, order, desk, kept, fault.status(), None);
-    Err(fault)
-}
-
 /// Reports why a pack isn't saved.
 fn report_failed(rt: &HostRuntime, path: &str, fault: &FileFault) {
     let path = Shown(path);
@@ -443,31 +481,6 @@ fn report_failed(rt: &HostRuntime, path: &str, fault: &FileFault) {
     };
 }
 
-/// Ends a day whose pack isn't to be saved.
-fn end_unsaved<'n>(
-    rt: &HostRuntime,
-    order: &Order<'n>,
-    desk: &mut OwnDesk<'_>,
-    kept: &KeptOutputs,
-    over: &Over,
-    end: PackEnd,
-) -> Result<u8, DayFault<'n>> {
-    match order.save {
-        Some(path) => {
-            report_unsaved(rt, order, path, reason_of(end));
-            report_redo(rt, order, desk, end);
-        }
-        None if over.is_reported(order) => desk.tell("nothing is saved: there is no --save\n"),
-        None => {}
-    }
-    if let PackEnd::AnsweredNo | PackEnd::LoggedNo = end {
-        desk.note(Event::Declined)?;
-    }
-    let status = status_of(over.closing.verdict, end);
-    log_end(rt, order, desk, kept, status, None)?;
-    Ok(status)
-}
-
 /// Reports how the replies of an unfinished day can be given again, if it has a log.
 fn report_redo(rt: &HostRuntime, order: &Order<'_>, desk: &OwnDesk<'_>, end: PackEnd) {
     if let (PackEnd::Unfinished, Some(log), true) = (end, order.log, desk.has_log()) {
@@ -488,27 +501,6 @@ fn reason_of(end: PackEnd) -> &'static str {
         PackEnd::AnsweredNo => ANSWERED_NO,
         PackEnd::Saved | PackEnd::Unnamed => "",
     }
-}
-
-/// Logs the end of the day, and brings the log to the disk: all lines before the last one first, so that the last line has the status of a
-/// log that can't be brought there. Only if the last line alone can't be, the day's status is another one.
-fn log_end<'n>(
-    rt: &HostRuntime,
-    order: &Order<'n>,
-    desk: &mut OwnDesk<'_>,
-    kept: &KeptOutputs,
-    status: u8,
-    saved: Option<NamedFile>,
-) -> Result<(), DayFault<'n>> {
-    let synced = sync_lines(rt, order, desk, kept);
-    let status = logged_status(status, &synced);
-    if desk.has_log() {
-        desk.note(Event::End(DayOver { status, saved }))?;
-    }
-    desk.tell_log_failure()?;
-    test_written(order, desk)?;
-    synced?;
-    sync_log(rt, order, desk, kept)
 }
 
 /// The status of a day that ends with this one, or with a fault if its log can't be brought to the disk. The first fault counts.

@@ -80,7 +80,10 @@ pub const AMEND: CommandWords = CommandWords {
             takes: Takes::Number("N", 1, MOST_RECORDS),
             help: "The number of the record in the file, from 1; instead of --key",
         },
-        DECIMAL,
+        Word {
+            help: "The mark before the decimals of a number; a point by default",
+            ..DECIMAL
+        },
         Word {
             name: "thousands",
             takes: Takes::OneOf("C", THOUSANDS),

@@ -7,13 +7,13 @@ use clap::ArgMatches;
 use s3_data_commands::fault::{Fault, Use, of_call, of_pack};
 use s3_data_commands::filled::{Words, push_name};
 use s3_data_commands::pack_words::{
-    Save, output_beside, pack_of, refuse_file_there, refused, saved, tell, tell_done,
+    Save, limit_of, output_beside, pack_of, refuse_file_there, refused, saved, tell, tell_done,
 };
 use s3_data_commands::sentences::{output_sentence, unread_sentence};
 use s3_data_commands::standard_input::{InputFault, read_input};
 use s3_data_commands::words::{LAYOUT_PLAIN, OVERWRITE, PACK, SAVE};
 use s3_dump::{RestoreFault, Unlaid};
-use s3_host_files::{StandardOutput, keep_save_apart, retried, save_new_pack};
+use s3_host_files::{Limit, StandardOutput, keep_save_apart, retried, save_new_pack};
 use s3_journal::Work;
 use s3_labels::{AreaSlots, MountFault};
 use s3_listing::{ListFault, mount_slots};
@@ -175,7 +175,11 @@ fn save_restored(rt: &HostRuntime, matches: &ArgMatches<'_>, save: &str) -> Resu
             refuse_long_record(rt, &text, &areas)?;
             save_good(rt, matches, save, &pack)
         }
-        Err(ListFault::Mount(fault)) => save_damaged(rt, save, line_ends(&text), fault, &pack),
+        Err(ListFault::Mount(fault)) => {
+            let limit = limit_of(rt, matches)?;
+            let words = Words::of_path(save).with_number(line_ends(&text));
+            save_damaged(rt, save, words, fault, limit, &pack)
+        }
         Err(_) => Err(Fault::NoMemory),
     }
 }
@@ -277,17 +281,17 @@ fn second_dump(text: &[u8]) -> Option<u64> {
 fn save_damaged(
     rt: &HostRuntime,
     save: &str,
-    line: u64,
+    words: Words<'_>,
     fault: MountFault,
+    limit: Option<Limit>,
     pack: &[u8],
 ) -> Result<(), Fault> {
-    let words = Words::of_path(save).with_number(line);
     match retried::exists(rt, save) {
         Ok(false) => {}
         Ok(true) => return Err(refused(words.fill(rt.alloc(), kept_words(fault)))),
         Err(error) => return Err(of_call(rt, Use::Saves, &error, save)),
     }
-    match save_new_pack(rt, save, None, &[None], pack) {
+    match save_new_pack(rt, save, limit, &[None], pack) {
         Ok(()) => Err(Fault::Waits(words.fill(rt.alloc(), damaged_words(fault))?)),
         Err(fault) => Err(of_pack(rt, Use::Saves, &fault, save)),
     }

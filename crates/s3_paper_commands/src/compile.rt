@@ -71,7 +71,7 @@ pub const COMPILE: CommandWords = CommandWords {
         Word {
             name: "messages",
             takes: Takes::Nothing,
-            help: "Prints instead a line for each error and warning, FILE:LINE:COLUMN: TEXT, as editors read them",
+            help: "Prints instead a line for each error of a source, or for each warning if it has none: FILE:LINE:COLUMN: TEXT, as editors read them",
         },
         Word {
             name: "json",

@@ -25,6 +25,8 @@ pub fn call_words(kind: ErrorKind) -> &'static str
             "a file may not be so large here; raise the shell's limit (ulimit -f), and try again",
         ErrorKind::FilesystemLoop =>
             "its links lead in a circle, or there are too many; give the file's own name",
+        ErrorKind::InvalidFilename =>
+            "the name is too long, or has a byte that no name may have; give a name of at most 240 bytes",
         _ => "",
     }
 }

@@ -29,7 +29,7 @@ is_leftover Free begins = begins
 -- why the file isn't replaced: the end of a sentence that begins with its name
 abbrev pub words_of_hindrance : Hindrance → List ℕ
 words_of_hindrance Moved = codes "is another file by now, which another program has put there, and stays as it is; repeat the command over that file, or give another name"
-words_of_hindrance Protected = codes "is protected by its mode; its owner can allow reading and writing by `chmod`, or give another name"
+words_of_hindrance Protected = codes "is protected by its mode or by an attribute; its owner can allow reading and writing by `chmod` or `chattr`, or give another name"
 words_of_hindrance Changed = codes "was changed by another program while this command worked, and stays as it is; repeat the command over the changed file, or give another name"
 
 -- the bytes begin with a mark, or are the beginning of it
