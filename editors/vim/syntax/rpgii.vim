@@ -21,7 +21,8 @@ syntax match rpgiiHCardWrong "\%7v\S" contained
 syntax match rpgiiBlank "\%7v \{1,1}\%(\%8v\|$\)" contained
 syntax match rpgiiHComment "\%7v\%(\*\)" contained
 syntax match rpgiiHProgramIdentification "\%75v[^\t]\{1,6}" contained
-syntax match rpgiiHCard "^\%(\t\| \{1,4}\t\|[ 0-9]\{5}\)H\*\@!.*$" contains=rpgiiHComment,rpgiiHProgramIdentification,rpgiiHCardWrong,rpgiiBlank,rpgiiSheet,rpgiiNumber
+syntax match rpgiiHCard "^\%(\t\| \{1,4}\t\|[ 0-9]\{5}\)H\*\@!.*$" contains=rpgiiHComment,rpgiiHProgramIdentification,rpgiiSheet,rpgiiNumber
+syntax match rpgiiHCard "^[ 0-9]\{5}H\*\@![^\t]*$" contains=rpgiiHComment,rpgiiHProgramIdentification,rpgiiSheet,rpgiiNumber,rpgiiHCardWrong,rpgiiBlank
 
 " F card
 syntax match rpgiiFFilename "\%7v[^\t]\{1,8}" contained
@@ -65,7 +66,8 @@ syntax match rpgiiFFileAddition "\%66v\%(A\)" contained
 syntax match rpgiiFCardWrong "\%71v[^\t][^\t]\{0,1}" contained
 syntax match rpgiiBlank "\%71v \{1,2}\%(\%73v\|$\)" contained
 syntax match rpgiiFFileCondition "\%71v\%(U1\|U2\|U3\|U4\|U5\|U6\|U7\|U8\)" contained
-syntax match rpgiiFCard "^\%(\t\| \{1,4}\t\|[ 0-9]\{5}\)F\*\@!.*$" contains=rpgiiFFilename,rpgiiFFileType,rpgiiFFileDesignation,rpgiiFEndOfFile,rpgiiFSequence,rpgiiFFileFormat,rpgiiFBlockLength,rpgiiFRecordLength,rpgiiFModeOfProcessing,rpgiiFLengthOfKeyField,rpgiiFRecordAddressType,rpgiiFTypeOfFileOrganization,rpgiiFOverflowIndicator,rpgiiFKeyFieldStartingLocation,rpgiiFDevice,rpgiiFFileAddition,rpgiiFFileCondition,rpgiiFCardWrong,rpgiiBlank,rpgiiSheet,rpgiiNumber
+syntax match rpgiiFCard "^\%(\t\| \{1,4}\t\|[ 0-9]\{5}\)F\*\@!.*$" contains=rpgiiFFilename,rpgiiFFileType,rpgiiFFileDesignation,rpgiiFEndOfFile,rpgiiFSequence,rpgiiFFileFormat,rpgiiFBlockLength,rpgiiFRecordLength,rpgiiFModeOfProcessing,rpgiiFLengthOfKeyField,rpgiiFRecordAddressType,rpgiiFTypeOfFileOrganization,rpgiiFOverflowIndicator,rpgiiFKeyFieldStartingLocation,rpgiiFDevice,rpgiiFFileAddition,rpgiiFFileCondition,rpgiiSheet,rpgiiNumber
+syntax match rpgiiFCard "^[ 0-9]\{5}F\*\@![^\t]*$" contains=rpgiiFFilename,rpgiiFFileType,rpgiiFFileDesignation,rpgiiFEndOfFile,rpgiiFSequence,rpgiiFFileFormat,rpgiiFBlockLength,rpgiiFRecordLength,rpgiiFModeOfProcessing,rpgiiFLengthOfKeyField,rpgiiFRecordAddressType,rpgiiFTypeOfFileOrganization,rpgiiFOverflowIndicator,rpgiiFKeyFieldStartingLocation,rpgiiFDevice,rpgiiFFileAddition,rpgiiFFileCondition,rpgiiSheet,rpgiiNumber,rpgiiFCardWrong,rpgiiBlank
 
 " C card
 syntax match rpgiiCCardWrong "\%7v[^\t][^\t]\{0,1}" contained
@@ -91,7 +93,8 @@ syntax match rpgiiCResultingIndicatorPlusOrHigh "\%54v[^\t]\{1,2}" contained
 syntax match rpgiiCResultingIndicatorMinusOrLow "\%56v[^\t]\{1,2}" contained
 syntax match rpgiiCResultingIndicatorZeroOrEqual "\%58v[^\t]\{1,2}" contained
 syntax match rpgiiCComments "\%60v[^\t]\{1,15}" contained
-syntax match rpgiiCCard "^\%(\t\| \{1,4}\t\|[ 0-9]\{5}\)C\*\@!.*$" contains=rpgiiCControlLevel,rpgiiCFirstIndicator,rpgiiCSecondIndicator,rpgiiCThirdIndicator,rpgiiCFactor1,rpgiiCOperation,rpgiiCFactor2,rpgiiCResultField,rpgiiCFieldLength,rpgiiCDecimalPositions,rpgiiCHalfAdjust,rpgiiCResultingIndicatorPlusOrHigh,rpgiiCResultingIndicatorMinusOrLow,rpgiiCResultingIndicatorZeroOrEqual,rpgiiCComments,rpgiiCCardWrong,rpgiiBlank,rpgiiSheet,rpgiiNumber
+syntax match rpgiiCCard "^\%(\t\| \{1,4}\t\|[ 0-9]\{5}\)C\*\@!.*$" contains=rpgiiCControlLevel,rpgiiCFirstIndicator,rpgiiCSecondIndicator,rpgiiCThirdIndicator,rpgiiCFactor1,rpgiiCOperation,rpgiiCFactor2,rpgiiCResultField,rpgiiCFieldLength,rpgiiCDecimalPositions,rpgiiCHalfAdjust,rpgiiCResultingIndicatorPlusOrHigh,rpgiiCResultingIndicatorMinusOrLow,rpgiiCResultingIndicatorZeroOrEqual,rpgiiCComments,rpgiiSheet,rpgiiNumber
+syntax match rpgiiCCard "^[ 0-9]\{5}C\*\@![^\t]*$" contains=rpgiiCControlLevel,rpgiiCFirstIndicator,rpgiiCSecondIndicator,rpgiiCThirdIndicator,rpgiiCFactor1,rpgiiCOperation,rpgiiCFactor2,rpgiiCResultField,rpgiiCFieldLength,rpgiiCDecimalPositions,rpgiiCHalfAdjust,rpgiiCResultingIndicatorPlusOrHigh,rpgiiCResultingIndicatorMinusOrLow,rpgiiCResultingIndicatorZeroOrEqual,rpgiiCComments,rpgiiSheet,rpgiiNumber,rpgiiCCardWrong,rpgiiBlank
 
 " I field
 syntax match rpgiiIFieldWrong "\%43v\S" contained
@@ -113,7 +116,8 @@ syntax match rpgiiIFieldFieldRecordRelation "\%63v[^\t]\{1,2}" contained
 syntax match rpgiiIFieldFieldIndicatorPlus "\%65v[^\t]\{1,2}" contained
 syntax match rpgiiIFieldFieldIndicatorMinus "\%67v[^\t]\{1,2}" contained
 syntax match rpgiiIFieldFieldIndicatorZeroOrBlank "\%69v[^\t]\{1,2}" contained
-syntax match rpgiiIField "^\%(\t\| \{1,4}\t\|[ 0-9]\{5}\)I\*\@!.*$" contains=rpgiiIFieldPacked,rpgiiIFieldFieldLocationFrom,rpgiiIFieldFieldLocationTo,rpgiiIFieldDecimalPositions,rpgiiIFieldFieldName,rpgiiIFieldControlLevel,rpgiiIFieldMatchingFields,rpgiiIFieldFieldRecordRelation,rpgiiIFieldFieldIndicatorPlus,rpgiiIFieldFieldIndicatorMinus,rpgiiIFieldFieldIndicatorZeroOrBlank,rpgiiIFieldWrong,rpgiiBlank,rpgiiSheet,rpgiiNumber
+syntax match rpgiiIField "^\%(\t\| \{1,4}\t\|[ 0-9]\{5}\)I\*\@!.*$" contains=rpgiiIFieldPacked,rpgiiIFieldFieldLocationFrom,rpgiiIFieldFieldLocationTo,rpgiiIFieldDecimalPositions,rpgiiIFieldFieldName,rpgiiIFieldControlLevel,rpgiiIFieldMatchingFields,rpgiiIFieldFieldRecordRelation,rpgiiIFieldFieldIndicatorPlus,rpgiiIFieldFieldIndicatorMinus,rpgiiIFieldFieldIndicatorZeroOrBlank,rpgiiSheet,rpgiiNumber
+syntax match rpgiiIField "^[ 0-9]\{5}I\*\@![^\t]*$" contains=rpgiiIFieldPacked,rpgiiIFieldFieldLocationFrom,rpgiiIFieldFieldLocationTo,rpgiiIFieldDecimalPositions,rpgiiIFieldFieldName,rpgiiIFieldControlLevel,rpgiiIFieldMatchingFields,rpgiiIFieldFieldRecordRelation,rpgiiIFieldFieldIndicatorPlus,rpgiiIFieldFieldIndicatorMinus,rpgiiIFieldFieldIndicatorZeroOrBlank,rpgiiSheet,rpgiiNumber,rpgiiIFieldWrong,rpgiiBlank
 
 " O field
 syntax match rpgiiOFieldFirstOutputIndicator "\%23v[^\t]\{1,3}" contained
@@ -131,7 +135,8 @@ syntax match rpgiiOFieldWrong "\%44v\S" contained
 syntax match rpgiiBlank "\%44v \{1,1}\%(\%45v\|$\)" contained
 syntax match rpgiiOFieldPacked "\%44v\%(P\)" contained
 syntax match rpgiiOFieldConstantOrEditWord "\%45v[^\t]\{1,26}" contained
-syntax match rpgiiOField "^\%(\t\| \{1,4}\t\|[ 0-9]\{5}\)O\*\@!.*$" contains=rpgiiOFieldFirstOutputIndicator,rpgiiOFieldSecondOutputIndicator,rpgiiOFieldThirdOutputIndicator,rpgiiOFieldFieldName,rpgiiOFieldEditCodes,rpgiiOFieldBlankAfter,rpgiiOFieldEndPositionInOutputRecord,rpgiiOFieldPacked,rpgiiOFieldConstantOrEditWord,rpgiiOFieldWrong,rpgiiBlank,rpgiiSheet,rpgiiNumber
+syntax match rpgiiOField "^\%(\t\| \{1,4}\t\|[ 0-9]\{5}\)O\*\@!.*$" contains=rpgiiOFieldFirstOutputIndicator,rpgiiOFieldSecondOutputIndicator,rpgiiOFieldThirdOutputIndicator,rpgiiOFieldFieldName,rpgiiOFieldEditCodes,rpgiiOFieldBlankAfter,rpgiiOFieldEndPositionInOutputRecord,rpgiiOFieldPacked,rpgiiOFieldConstantOrEditWord,rpgiiSheet,rpgiiNumber
+syntax match rpgiiOField "^[ 0-9]\{5}O\*\@![^\t]*$" contains=rpgiiOFieldFirstOutputIndicator,rpgiiOFieldSecondOutputIndicator,rpgiiOFieldThirdOutputIndicator,rpgiiOFieldFieldName,rpgiiOFieldEditCodes,rpgiiOFieldBlankAfter,rpgiiOFieldEndPositionInOutputRecord,rpgiiOFieldPacked,rpgiiOFieldConstantOrEditWord,rpgiiSheet,rpgiiNumber,rpgiiOFieldWrong,rpgiiBlank
 
 " I record
 syntax match rpgiiIRecordFilename "\%7v[^\t]\{1,8}" contained
@@ -161,7 +166,8 @@ syntax match rpgiiIRecordWrong "\%40v\S" contained
 syntax match rpgiiBlank "\%40v \{1,1}\%(\%41v\|$\)" contained
 syntax match rpgiiIRecordCZD "\%40v\%(C\|Z\|D\)" contained
 syntax match rpgiiIRecordCharacter "\%41v[^\t]\{1,1}" contained
-syntax match rpgiiIRecord "^\%(\t\| \{1,4}\t\|[ 0-9]\{5}\)I\*\@!\%>6v.\{-}\S\%<16v.*$" contains=rpgiiIRecordFilename,rpgiiIRecordSequence,rpgiiIRecordRecordIdentifyingIndicator,rpgiiIRecordPosition,rpgiiIRecordNot,rpgiiIRecordCZD,rpgiiIRecordCharacter,rpgiiIRecordPosition,rpgiiIRecordNot,rpgiiIRecordCZD,rpgiiIRecordCharacter,rpgiiIRecordPosition,rpgiiIRecordNot,rpgiiIRecordCZD,rpgiiIRecordCharacter,rpgiiIRecordWrong,rpgiiBlank,rpgiiSheet,rpgiiNumber
+syntax match rpgiiIRecord "^\%(\t\| \{1,4}\t\|[ 0-9]\{5}\)I\*\@!\%>6v.\{-}\S\%<16v.*$" contains=rpgiiIRecordFilename,rpgiiIRecordSequence,rpgiiIRecordRecordIdentifyingIndicator,rpgiiIRecordPosition,rpgiiIRecordNot,rpgiiIRecordCZD,rpgiiIRecordCharacter,rpgiiIRecordPosition,rpgiiIRecordNot,rpgiiIRecordCZD,rpgiiIRecordCharacter,rpgiiIRecordPosition,rpgiiIRecordNot,rpgiiIRecordCZD,rpgiiIRecordCharacter,rpgiiSheet,rpgiiNumber
+syntax match rpgiiIRecord "^[ 0-9]\{5}I\*\@!\%>6v[^\t]\{-}\S\%<16v[^\t]*$" contains=rpgiiIRecordFilename,rpgiiIRecordSequence,rpgiiIRecordRecordIdentifyingIndicator,rpgiiIRecordPosition,rpgiiIRecordNot,rpgiiIRecordCZD,rpgiiIRecordCharacter,rpgiiIRecordPosition,rpgiiIRecordNot,rpgiiIRecordCZD,rpgiiIRecordCharacter,rpgiiIRecordPosition,rpgiiIRecordNot,rpgiiIRecordCZD,rpgiiIRecordCharacter,rpgiiSheet,rpgiiNumber,rpgiiIRecordWrong,rpgiiBlank
 
 " O record
 syntax match rpgiiORecordFilename "\%7v[^\t]\{1,8}" contained
@@ -182,7 +188,8 @@ syntax match rpgiiORecordSkipAfter "\%21v[^\t]\{1,2}" contained
 syntax match rpgiiORecordFirstOutputIndicator "\%23v[^\t]\{1,3}" contained
 syntax match rpgiiORecordSecondOutputIndicator "\%26v[^\t]\{1,3}" contained
 syntax match rpgiiORecordThirdOutputIndicator "\%29v[^\t]\{1,3}" contained
-syntax match rpgiiORecord "^\%(\t\| \{1,4}\t\|[ 0-9]\{5}\)O\*\@!\%>6v.\{-}\S\%<17v.*$" contains=rpgiiORecordFilename,rpgiiORecordType,rpgiiORecordRecordAddition,rpgiiORecordSpaceBefore,rpgiiORecordSpaceAfter,rpgiiORecordSkipBefore,rpgiiORecordSkipAfter,rpgiiORecordFirstOutputIndicator,rpgiiORecordSecondOutputIndicator,rpgiiORecordThirdOutputIndicator,rpgiiORecordWrong,rpgiiBlank,rpgiiSheet,rpgiiNumber
+syntax match rpgiiORecord "^\%(\t\| \{1,4}\t\|[ 0-9]\{5}\)O\*\@!\%>6v.\{-}\S\%<17v.*$" contains=rpgiiORecordFilename,rpgiiORecordType,rpgiiORecordRecordAddition,rpgiiORecordSpaceBefore,rpgiiORecordSpaceAfter,rpgiiORecordSkipBefore,rpgiiORecordSkipAfter,rpgiiORecordFirstOutputIndicator,rpgiiORecordSecondOutputIndicator,rpgiiORecordThirdOutputIndicator,rpgiiSheet,rpgiiNumber
+syntax match rpgiiORecord "^[ 0-9]\{5}O\*\@!\%>6v[^\t]\{-}\S\%<17v[^\t]*$" contains=rpgiiORecordFilename,rpgiiORecordType,rpgiiORecordRecordAddition,rpgiiORecordSpaceBefore,rpgiiORecordSpaceAfter,rpgiiORecordSkipBefore,rpgiiORecordSkipAfter,rpgiiORecordFirstOutputIndicator,rpgiiORecordSecondOutputIndicator,rpgiiORecordThirdOutputIndicator,rpgiiSheet,rpgiiNumber,rpgiiORecordWrong,rpgiiBlank
 
 " I group
 syntax match rpgiiIGroupWrong "\%14v[^\t][^\t]\{0,2}" contained
@@ -213,7 +220,8 @@ syntax match rpgiiIGroupWrong "\%40v\S" contained
 syntax match rpgiiBlank "\%40v \{1,1}\%(\%41v\|$\)" contained
 syntax match rpgiiIGroupCZD "\%40v\%(C\|Z\|D\)" contained
 syntax match rpgiiIGroupCharacter "\%41v[^\t]\{1,1}" contained
-syntax match rpgiiIGroup "^\%(\t\| \{1,4}\t\|[ 0-9]\{5}\)I\*\@! \{7}\%(AND\|OR\).*$" contains=rpgiiIGroupAndOrOr,rpgiiIGroupRecordIdentifyingIndicator,rpgiiIGroupPosition,rpgiiIGroupNot,rpgiiIGroupCZD,rpgiiIGroupCharacter,rpgiiIGroupPosition,rpgiiIGroupNot,rpgiiIGroupCZD,rpgiiIGroupCharacter,rpgiiIGroupPosition,rpgiiIGroupNot,rpgiiIGroupCZD,rpgiiIGroupCharacter,rpgiiIGroupWrong,rpgiiBlank,rpgiiSheet,rpgiiNumber
+syntax match rpgiiIGroup "^\%(\t\| \{1,4}\t\|[ 0-9]\{5}\)I\*\@! \{7}\%(AND\|OR\).*$" contains=rpgiiIGroupAndOrOr,rpgiiIGroupRecordIdentifyingIndicator,rpgiiIGroupPosition,rpgiiIGroupNot,rpgiiIGroupCZD,rpgiiIGroupCharacter,rpgiiIGroupPosition,rpgiiIGroupNot,rpgiiIGroupCZD,rpgiiIGroupCharacter,rpgiiIGroupPosition,rpgiiIGroupNot,rpgiiIGroupCZD,rpgiiIGroupCharacter,rpgiiSheet,rpgiiNumber
+syntax match rpgiiIGroup "^[ 0-9]\{5}I\*\@! \{7}\%(AND\|OR\)[^\t]*$" contains=rpgiiIGroupAndOrOr,rpgiiIGroupRecordIdentifyingIndicator,rpgiiIGroupPosition,rpgiiIGroupNot,rpgiiIGroupCZD,rpgiiIGroupCharacter,rpgiiIGroupPosition,rpgiiIGroupNot,rpgiiIGroupCZD,rpgiiIGroupCharacter,rpgiiIGroupPosition,rpgiiIGroupNot,rpgiiIGroupCZD,rpgiiIGroupCharacter,rpgiiSheet,rpgiiNumber,rpgiiIGroupWrong,rpgiiBlank
 
 " O group
 syntax match rpgiiOGroupWrong "\%14v[^\t][^\t]\{0,2}" contained
@@ -222,7 +230,8 @@ syntax match rpgiiOGroupAndOrOr "\%14v\%(AND\|OR \|OR\s*$\)" contained
 syntax match rpgiiOGroupFirstOutputIndicator "\%23v[^\t]\{1,3}" contained
 syntax match rpgiiOGroupSecondOutputIndicator "\%26v[^\t]\{1,3}" contained
 syntax match rpgiiOGroupThirdOutputIndicator "\%29v[^\t]\{1,3}" contained
-syntax match rpgiiOGroup "^\%(\t\| \{1,4}\t\|[ 0-9]\{5}\)O\*\@! \{7}\%(AND\|OR\).*$" contains=rpgiiOGroupAndOrOr,rpgiiOGroupFirstOutputIndicator,rpgiiOGroupSecondOutputIndicator,rpgiiOGroupThirdOutputIndicator,rpgiiOGroupWrong,rpgiiBlank,rpgiiSheet,rpgiiNumber
+syntax match rpgiiOGroup "^\%(\t\| \{1,4}\t\|[ 0-9]\{5}\)O\*\@! \{7}\%(AND\|OR\).*$" contains=rpgiiOGroupAndOrOr,rpgiiOGroupFirstOutputIndicator,rpgiiOGroupSecondOutputIndicator,rpgiiOGroupThirdOutputIndicator,rpgiiSheet,rpgiiNumber
+syntax match rpgiiOGroup "^[ 0-9]\{5}O\*\@! \{7}\%(AND\|OR\)[^\t]*$" contains=rpgiiOGroupAndOrOr,rpgiiOGroupFirstOutputIndicator,rpgiiOGroupSecondOutputIndicator,rpgiiOGroupThirdOutputIndicator,rpgiiSheet,rpgiiNumber,rpgiiOGroupWrong,rpgiiBlank
 
 syntax match rpgiiNumber "^\d\{1,5}" contained
 syntax match rpgiiSheet "\%6v[HFICO]" contained
