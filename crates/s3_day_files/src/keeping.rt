@@ -268,7 +268,10 @@ impl SetAside {
             retried::remove_file(rt, kept.as_str())?;
             if !self.is_quiet || before > self.count {
                 let (kept, count) = (Shown(kept.as_str()), self.count);
-                let _ = writeln!(rt.stderr(), "{kept}, by its new number, is removed, as --keep {count} asks");
+                let _ = writeln!(
+                    rt.stderr(),
+                    "{kept}, by its new number, is removed, as --keep {count} asks"
+                );
             }
         }
         Ok(())

@@ -40,7 +40,9 @@ fn is_word(words: &[String], place: usize, wanted: &str) -> bool {
 /// The parser of such a command line.
 pub fn manual_parser<'a>(alloc: Global) -> Result<Command<'a>, AllocError> {
     let help = Command::new(alloc, "help")
-        .about("Prints the help of a command (bureau help COMMAND), a page of the manual, or completions")
+        .about(
+            "Prints the help of a command (bureau help COMMAND), a page of the manual, or completions",
+        )
         .subcommand_required(true)
         .subcommand(man_parser(alloc)?)?
         .subcommand(completions_parser(alloc)?)?;
