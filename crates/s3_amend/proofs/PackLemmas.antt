@@ -7,6 +7,7 @@ use Rattle.s3_slots.specs.Slots.{standing}
 use Rattle.s3_slots.specs.declared.label.FileLabel.{FileLabel}
 use Rattle.s3_slots.specs.declared.slot.Standing.TheVariants.{Present}
 use Rattle.s3_labels.specs.Contents.{contents_of}
+use Rattle.s3_labels.specs.Inner.AreaNumbers.{area_number}
 use Rattle.s3_labels.specs.Inner.Areas.{Areas, slots_in}
 use Rattle.s3_pack_care.specs.Inner.Frames.{ChangesBytes, ChangesRecords, IsInFile}
 use Rattle.s3_pack_care.specs.Inner.Kept.{IsMounted}
@@ -18,12 +19,12 @@ use Rattle.s3_amend.specs.declared.amendment.Amendment.{Amendment}
 
 -- the sectors of a mounted pack
 pub store_amended : (amendment : Amendment) (amended : AmendedRecord) (label : FileLabel) (areas : Areas) (begun old new : List (List ℕ)) → IsMounted areas begun → old ≡ begun
-    → standing amendment.name (slots_in amendment.area areas) ≡ Present label → AmendsFile amendment label amended old new → IsAmended amendment amended begun new
+    → standing amendment.name (slots_in (area_number amendment.area) areas) ≡ Present label → AmendsFile amendment label amended old new → IsAmended amendment amended begun new
 store_amended amendment amended label areas begun old new is same stands file = record {
   header = areas.header;
   mounts = is.mounts;
   label = label;
-  stands = stands_on amendment.area areas begun amendment.name label is stands areas.header is.mounts;
+  stands = stands_on (area_number amendment.area) areas begun amendment.name label is stands areas.header is.mounts;
   file = subst (λ (s : List (List ℕ)). AmendsFile amendment label amended s new) same file;
 }
 

@@ -3,6 +3,7 @@ ghost use Rattle.std.specs.Prelude.{◌≡◌, ◌<◌, true, [], length, slice_
 ghost use Rattle.std.specs.List.{All};
 ghost use Rattle.s3_slots.specs.Inner.Kept.{IsOfPack};
 ghost use Rattle.s3_slots.specs.Labels.{sectors_of};
+ghost use Rattle.s3_labels.specs.Inner.AreaNumbers.{area_number};
 ghost use Rattle.s3_labels.specs.Contents.{contents_of};
 ghost use Rattle.s3_pack_care.specs.Inner.Frames.{ChangesBytes, ChangesRecords, IsInFile};
 ghost use Rattle.s3_pack_care.specs.Inner.Rows.{ChangesSectors};
@@ -22,7 +23,6 @@ use s3_cards::ebcdic::BLANK;
 use s3_cells::Field;
 use s3_labels::{FileLabel, LabelFault, Standing};
 use s3_pack_care::{MountedPack, bytes_after, mount, saved};
-use s3_pack_check::slots_of;
 use s3_record_types::{ChosenRecords, TypeFault};
 use s3_slots::standing_of;
 use s3_store::MemoryStore;
@@ -65,9 +65,8 @@ struct Plan {
 /// The pack of these bytes with one record of a file amended. Only the fields that the amendment names change. Refused as `AmendFault`
 /// says.
 pub fn amend(alloc: Global, pack: Vec<u8>, amendment: &Amendment<'_>) -> Result<Amended, AmendFault>
-    requires { amendment.now.area < 3 }
     ensures amended { IfOk result (λ amended. IsAmended amendment.now amended.changed (contents_of pack.items) (contents_of amended.pack.items)) }
-    ensures only { IfOk result (λ amended. ChangesBytes (IsInFile amendment.now.area amendment.now.name (contents_of pack.items)) pack.items amended.pack.items) }
+    ensures only { IfOk result (λ amended. ChangesBytes (IsInFile (area_number amendment.now.area) amendment.now.name (contents_of pack.items)) pack.items amended.pack.items) }
 {
     let after = Vec::from_slice(alloc, bytes_after(&pack))?;
     let amended = amended_store(alloc, MemoryStore::from_bytes(pack), amendment)?;
@@ -82,12 +81,11 @@ fn amended_store(
     store: MemoryStore,
     amendment: &Amendment<'_>,
 ) -> Result<AmendedStore, AmendFault>
-    requires { amendment.now.area < 3 }
     ensures amended { IfOk result (λ amended. IsAmended amendment.now amended.changed store amended.store) }
-    ensures only { IfOk result (λ amended. ChangesRecords amendment.now.area amendment.now.name store amended.store) }
+    ensures only { IfOk result (λ amended. ChangesRecords (area_number amendment.now.area) amendment.now.name store amended.store) }
 {
     let MountedPack { mut store, areas } = mount(alloc, store)?;
-    match standing_of(amendment.name, slots_of(&areas, amendment.area)) {
+    match standing_of(amendment.name, areas.slots_of(amendment.area)) {
         Standing::Absent => Err(AmendFault::Label(LabelFault::NotFound)),
         Standing::Blocked => Err(AmendFault::Label(LabelFault::DamagedLabel)),
         Standing::Present(label) => {

@@ -2,6 +2,7 @@
 
 use s3_cards::Name;
 use s3_cells::Layout;
+use s3_labels::Area;
 use s3_record_types::ChosenRecords;
 
 /// A field, and the value that it is to get.
@@ -25,8 +26,8 @@ pub enum Which<'a> {
 /// What an amendment is to do.
 #[derive(Clone, Copy)]
 pub struct Amendment<'a> {
-    /// The area of the file: 0 for the masters, 1 or 2 for a level.
-    pub area: u16,
+    /// The area of the file.
+    pub area: Area,
     /// The label of the file.
     pub name: Name,
     /// The fields of its records.

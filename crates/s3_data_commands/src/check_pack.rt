@@ -114,7 +114,7 @@ fn text_of(alloc: Global, wrongs: &[Wrong]) -> Result<String, AllocError> {
 }
 
 fn push_line(text: &mut String, wrong: &Wrong) -> Result<(), AllocError> {
-    let area = wrong.area;
+    let area = wrong.area.number();
     let slot = wrong.slot;
     write!(text, "area {area}, slot {slot}, ")?;
     push_name(text, wrong.name)?;

@@ -1,17 +1,17 @@
 //! `bureau copy`: a file copied into an area.
-ghost use Rattle.std.specs.Prelude.{◌≤◌, ◌<◌, IfOk};
+ghost use Rattle.std.specs.Prelude.{◌≤◌};
 
 use crate::fault::Fault;
 use crate::journaling::{journal_for, unmade_if_refused};
 use crate::pack_words::{
-    Save, area_number, care_sentence, keep_input, label_of, no_room_for_copy, pack_of,
-    pack_to_change, refused, saved, tell_done,
+    Save, area_of, care_sentence, keep_input, label_of, no_room_for_copy, pack_of, pack_to_change,
+    refused, saved, tell_done,
 };
 use crate::words::{AGAIN, AREA, AREAS, JOURNAL, LABEL, LEVEL_ALIAS, OVERWRITE};
 use clap::ArgMatches;
 use s3_cards::Name;
 use s3_journal::{Posting, Work};
-use s3_labels::LabelFault;
+use s3_labels::{Area, LabelFault};
 use s3_pack_care::CareFault;
 use s3_paper_commands::status::{DONE, FILE_WRONG, NOTHING_SAVED, OPTIONS_WRONG, PACK_SAVED};
 use s3_paper_commands::words::{CommandWords, Example, Takes, Word, value_of};
@@ -84,12 +84,12 @@ pub fn copy(rt: &HostRuntime, matches: &ArgMatches<'_>) -> u8
 struct Order<'a> {
     /// The pack that has the file.
     path: &'a str,
-    area: u16,
+    area: Area,
     label: &'a str,
     name: Name,
     /// The pack that gets the copy.
     into: &'a str,
-    to_area: u16,
+    to_area: Area,
     new_label: &'a str,
     new_name: Name,
     /// Where the pack with the copy is written.
@@ -98,12 +98,9 @@ struct Order<'a> {
 
 impl<'a> Order<'a> {
     /// What the options ask for.
-    fn read(rt: &HostRuntime, matches: &ArgMatches<'a>) -> Result<Order<'a>, Fault>
-        ensures area { IfOk result (λ order. order.area < 3) }
-        ensures to_area { IfOk result (λ order. order.to_area < 3) }
-    {
-        let area = area_number(rt, value_of(matches, "area"))?;
-        let to_area = area_number(rt, value_of(matches, "to-area"))?;
+    fn read(rt: &HostRuntime, matches: &ArgMatches<'a>) -> Result<Order<'a>, Fault> {
+        let area = area_of(rt, value_of(matches, "area"))?;
+        let to_area = area_of(rt, value_of(matches, "to-area"))?;
         let label = value_of(matches, "label");
         let name = label_of(rt, label)?;
         let new_label = matches.get_str("as").unwrap_or(label);
@@ -141,10 +138,7 @@ fn copy_file(rt: &HostRuntime, matches: &ArgMatches<'_>) -> Result<(), Fault> {
 }
 
 /// The pack that gets the copy, with it.
-fn with_copy(rt: &HostRuntime, order: Order<'_>, into: Vec<u8>) -> Result<Vec<u8>, Fault>
-    requires area { order.area < 3 }
-    requires to_area { order.to_area < 3 }
-{
+fn with_copy(rt: &HostRuntime, order: Order<'_>, into: Vec<u8>) -> Result<Vec<u8>, Fault> {
     let from = pack_of(rt, order.path)?;
     let Order {
         area,
@@ -193,6 +187,8 @@ fn copied_sentence(alloc: Global, order: Order<'_>) -> Result<String, AllocError
         ..
     } = order;
     let save = Shown(save);
+    let area = area.number();
+    let to_area = to_area.number();
     format!(in alloc;
         "{label} of area {area} is copied into area {to_area} of {save} as {new_label}"
     )

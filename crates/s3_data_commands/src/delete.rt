@@ -1,16 +1,16 @@
 //! `bureau delete`: a file deleted from a pack.
-ghost use Rattle.std.specs.Prelude.{◌≤◌, ◌<◌};
+ghost use Rattle.std.specs.Prelude.{◌≤◌};
 
 use crate::fault::Fault;
 use crate::filled::push_name;
 use crate::journaling::{journal_for, unmade_if_refused};
 use crate::pack_words::{
-    Save, area_number, care_sentence, label_of, pack_to_change, refused, saved, tell_done,
-    wrong_words,
+    Save, area_of, care_sentence, label_of, pack_to_change, refused, saved, tell_done, wrong_words,
 };
 use crate::words::{AGAIN, AREA, JOURNAL, LABEL, LEVEL_ALIAS, OVERWRITE, PACK, SAVE};
 use clap::ArgMatches;
 use s3_journal::{Posting, Work};
+use s3_labels::Area;
 use s3_listing::{SlotFile, file_in_slot};
 use s3_pack_care::{CareFault, Chosen};
 use s3_paper_commands::status::{DONE, FILE_WRONG, NOTHING_SAVED, OPTIONS_WRONG, PACK_SAVED};
@@ -70,7 +70,7 @@ pub fn delete(rt: &HostRuntime, matches: &ArgMatches<'_>) -> u8
 }
 
 fn delete_file(rt: &HostRuntime, matches: &ArgMatches<'_>) -> Result<(), Fault> {
-    let area = area_number(rt, value_of(matches, "area"))?;
+    let area = area_of(rt, value_of(matches, "area"))?;
     let chosen = chosen_file(rt, matches)?;
     let save = value_of(matches, "save");
     let path = value_of(matches, "pack");
@@ -94,7 +94,7 @@ fn delete_file(rt: &HostRuntime, matches: &ArgMatches<'_>) -> Result<(), Fault> 
 }
 
 /// The file of the slot that is to be freed, if its label is valid.
-fn freed_file(alloc: Global, area: u16, chosen: Chosen, pack: &[u8]) -> Option<SlotFile> {
+fn freed_file(alloc: Global, area: Area, chosen: Chosen, pack: &[u8]) -> Option<SlotFile> {
     let Chosen::Slot(slot) = chosen else {
         return None;
     };
@@ -108,12 +108,10 @@ fn freed_file(alloc: Global, area: u16, chosen: Chosen, pack: &[u8]) -> Option<S
 fn without(
     alloc: Global,
     matches: &ArgMatches<'_>,
-    area: u16,
+    area: Area,
     chosen: Chosen,
     pack: Vec<u8>,
-) -> Result<Vec<u8>, Fault>
-    requires { area < 3 }
-{
+) -> Result<Vec<u8>, Fault> {
     match s3_pack_care::delete(alloc, pack, area, chosen, matches.get_flag("permanent")) {
         Ok(pack) => Ok(pack),
         Err(fault) => Err(refused(refusal_sentence(alloc, matches, area, fault))),
@@ -136,7 +134,7 @@ fn chosen_file(rt: &HostRuntime, matches: &ArgMatches<'_>) -> Result<Chosen, Fau
 fn refusal_sentence(
     alloc: Global,
     matches: &ArgMatches<'_>,
-    area: u16,
+    area: Area,
     fault: CareFault,
 ) -> Result<String, AllocError> {
     let file = file_meant(alloc, matches, fault)?;
@@ -161,11 +159,12 @@ fn file_meant(
 fn deleted_sentence(
     alloc: Global,
     matches: &ArgMatches<'_>,
-    area: u16,
+    area: Area,
     save: &str,
     freed: Option<SlotFile>,
 ) -> Result<String, AllocError> {
     let save = Shown(save);
+    let area = area.number();
     if let Some(label) = matches.get_str("label") {
         return format!(in alloc; "{label} is deleted from area {area} of {save}");
     }

@@ -3,6 +3,7 @@
 
 use s3_cards::{Name, host_byte, word_len};
 use s3_host_files::shown_name;
+use s3_labels::Area;
 use s3_refusals::{Quoted, Shown};
 use std::alloc::{AllocError, Global};
 
@@ -11,8 +12,8 @@ use std::alloc::{AllocError, Global};
 pub struct Words<'a> {
     /// `{path}`: the file of a pack, or of the deck that has a layout; `-` is standard input. `{given}`: the same as a shell takes it.
     path: &'a str,
-    /// `{area}`: 0 for the masters, 1 or 2 for a level.
-    area: u16,
+    /// `{area}`: its number.
+    area: Area,
     /// `{label}`: a file of the area, by its label, or in words by its slot.
     label: &'a str,
     /// `{number}`: a slot, or how many there are.
@@ -25,7 +26,7 @@ pub struct Words<'a> {
 
 impl<'a> Words<'a> {
     /// For a file of a pack.
-    pub fn of_file(path: &'a str, area: u16, label: &'a str) -> Words<'a> {
+    pub fn of_file(path: &'a str, area: Area, label: &'a str) -> Words<'a> {
         Words {
             path,
             area,
@@ -36,9 +37,9 @@ impl<'a> Words<'a> {
         }
     }
 
-    /// For a file of the host, as a pack or a deck.
+    /// For a file of the host, as a pack or a deck; the sentence must not have `{area}`.
     pub fn of_path(path: &'a str) -> Words<'a> {
-        Words::of_file(path, 0, "")
+        Words::of_file(path, Area::Masters, "")
     }
 
     /// The same values, with a number.
@@ -81,7 +82,7 @@ impl<'a> Words<'a> {
         match name {
             "path" => push_shown_name(text, shown_name(self.path)),
             "given" => push_quoted(text, self.path),
-            "area" => push_number(text, u64::from(self.area)),
+            "area" => push_number(text, u64::from(self.area.number())),
             "label" => push_shown_name(text, self.label),
             "number" => push_number(text, self.number),
             "field" => push_name(text, self.field),

@@ -5,7 +5,9 @@ use crate::filled::Words;
 use crate::load_sentences::{is_pack, load_sentence, push_key};
 use crate::pack_words::wrong_words;
 use clap::ArgMatches;
+use s3_cards::LevelId;
 use s3_cells::Layout;
+use s3_labels::Area;
 use s3_layout::SourceLayout;
 use s3_load::{LoadFault, Reason, ValueFault};
 use s3_paper_commands::words::{Choice, Takes, Word};
@@ -224,7 +226,7 @@ pub fn hidden_place(fault: &UnloadFault) -> Option<(u32, u16)> {
 pub fn fixed_load_sentence(
     alloc: Global,
     path: &str,
-    level: u16,
+    level: LevelId,
     label: &str,
     appends: bool,
     fault: &LoadFault,
@@ -238,7 +240,7 @@ pub fn fixed_load_sentence(
             "a file has space for 1 to 999999 records or takes 1 to 999 tracks; give such a number, or load the records in parts",
         _ => return load_sentence(alloc, path, level, label, appends, fault),
     };
-    Words::of_file(path, level, label)
+    Words::of_file(path, Area::Level(level), label)
         .with_number(count_of(fault))
         .fill(alloc, sentence)
 }

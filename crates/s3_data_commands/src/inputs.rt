@@ -11,6 +11,7 @@ use s3_cards::ebcdic::{AMPERSAND, ASTERISK, SLASH};
 use s3_cards::{Card, CardFault, Deck, DeckFault, Name};
 use s3_decks::{CardRange, DeckText, Statements, jobs_of};
 use s3_host_files::{keep_apart, path_of, read_within, shown_name};
+use s3_labels::Area;
 use s3_layout::{Choice, LayoutFault, SourceLayout, read_layout, read_types, read_whole};
 use s3_lines::indicator::Indicator;
 use s3_paper_commands::{PLAIN_INPUT, deck_encoding_words, is_plain_text, tell_punched};
@@ -165,7 +166,11 @@ pub fn layouts_of(
     let source = source_in(rt, path, &deck)?;
     match layouts_in(rt, &deck, source, name) {
         Ok(layouts) => Ok(layouts),
-        Err(LayoutFault::SeveralFiles) => Err(refused(Words::of_file(path, 0, label).fill(
+        Err(LayoutFault::SeveralFiles) => Err(refused(Words::of_file(
+            path,
+            Area::Masters,
+            label,
+        ).fill(
             rt.alloc(),
             "the first source in {path} has several files on DISK, and none is {label}; give a source whose F sheet has that name, or one file alone",
         ))),

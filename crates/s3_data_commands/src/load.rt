@@ -39,7 +39,6 @@ use crate::pack_words::keep_input;
 use crate::pack_words::label_of;
 use crate::pack_words::level_of;
 use crate::pack_words::no_room_sentence;
-use crate::pack_words::number_of;
 use crate::pack_words::pack_to_change;
 use crate::pack_words::refused;
 use crate::pack_words::room_in;
@@ -76,6 +75,7 @@ use s3_journal::Appended;
 use s3_journal::Posting;
 use s3_journal::Work;
 use s3_journal::checksum_of;
+use s3_labels::Area;
 use s3_labels::LabelFault;
 use s3_layout::SourceLayout;
 use s3_load::HeadingFault;
@@ -97,7 +97,6 @@ use s3_paper_commands::words::Word;
 use s3_paper_commands::words::value_of;
 use s3_record_types::ChosenRecords;
 use s3_refusals::Shown;
-use s3_unload::Area;
 use s3_unload::FixedForm;
 use s3_unload::UnloadFault;
 use s3_unload::find_file;
@@ -440,7 +439,7 @@ fn input_sentence(
 
 /// What the line of a table has that is added to a file.
 fn appended(alloc: Global, words: &LoadWords<'_>, table: &[u8]) -> Result<Appended, AllocError> {
-    let level = number_of(words.level);
+    let level = words.level.number();
     let label = words.label;
     Ok(Appended {
         table: checksum_of(alloc, table)?,
@@ -710,7 +709,7 @@ fn push_replaced(
     if old.date != words.date {
         push_date(text, words.date)?;
     }
-    let level = number_of(words.level);
+    let level = words.level.number();
     write!(text, " in level {level} of ")?;
     push_shown_name(text, words.save)
 }
@@ -788,7 +787,7 @@ fn push_codes(text: &mut String, tens: u8, ones: u8) -> Result<(), AllocError> {
 
 /// Into which file the table was loaded, and how many records that has now.
 fn loaded_sentence(alloc: Global, words: &LoadWords<'_>, count: u32) -> Result<String, AllocError> {
-    let level = number_of(words.level);
+    let level = words.level.number();
     let records = if count == 1 { "record" } else { "records" };
     let label = words.label;
     let save = Shown(words.save);
@@ -923,7 +922,7 @@ fn sentence_of(
     words: &LoadWords<'_>,
     fault: &LoadFault,
 ) -> Result<String, AllocError> {
-    let level = number_of(words.level);
+    let level = words.level;
     if words.form.is_some() {
         return fixed_load_sentence(alloc, words.path, level, words.label, words.appends, fault);
     }
@@ -932,7 +931,7 @@ fn sentence_of(
 
 /// The refusal of a file for which a level has no space.
 fn no_room(rt: &HostRuntime, words: &LoadWords<'_>) -> Fault {
-    let area = number_of(words.level);
+    let area = Area::Level(words.level);
     match room_in(rt, words.path, area) {
         Ok(Some(room)) => refused(no_room_sentence(
             rt.alloc(),

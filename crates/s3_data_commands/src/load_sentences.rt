@@ -3,9 +3,9 @@
 use crate::cell_sentences::push_cell_fault;
 use crate::filled::{Words, push_name};
 use crate::pack_words::{DAMAGED, NO_LABEL, label_words, mount_words};
-use s3_cards::{Name, host_byte};
+use s3_cards::{LevelId, Name, host_byte};
 use s3_cells::{Field, place_without_character};
-use s3_labels::{LabelFault, Organization};
+use s3_labels::{Area, LabelFault, Organization};
 use s3_lines::indicator::Indicator;
 use s3_lines::sheet::{CodePart, RecordCode};
 use s3_load::{HeadingFault, LoadFault, Reason, Shape, ValueFault};
@@ -150,7 +150,7 @@ fn push_shape(text: &mut String, shape: Shape) -> Result<(), AllocError> {
 pub fn load_sentence<'a>(
     alloc: Global,
     path: &'a str,
-    level: u16,
+    level: LevelId,
     label: &'a str,
     appends: bool,
     fault: &LoadFault,
@@ -165,7 +165,7 @@ pub fn load_sentence<'a>(
         LoadFault::DamagedSlot(slot) => u64::from(*slot),
         _ => 0,
     };
-    Words::of_file(path, level, label)
+    Words::of_file(path, Area::Level(level), label)
         .with_number(number)
         .fill(alloc, load_words(fault))
 }

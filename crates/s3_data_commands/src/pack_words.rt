@@ -1,6 +1,4 @@
 //! The values of the options for the care of a pack, and the sentences of its refusals.
-ghost use Rattle.std.specs.Prelude.{◌≤◌, ◌<◌, IfOk};
-
 use crate::fault::{Fault, Use, of_call, of_pack};
 use crate::filled::Words;
 use crate::journaling::OpenJournal;
@@ -12,7 +10,7 @@ use s3_host_files::{
     shown_name,
 };
 use s3_journal::Work;
-use s3_labels::{LabelFault, MountFault};
+use s3_labels::{Area, LabelFault, MountFault};
 use s3_listing::{FreeRoom, file_size, free_room};
 use s3_pack_care::CareFault;
 use s3_refusals::{Shown, beginning_words, is_closed};
@@ -29,18 +27,24 @@ pub const NO_LABEL: &str =
 pub const DAMAGED: &str =
     "slot {number} of area {area} of {path} is damaged, and it isn't known what it has: delete it by `bureau delete --slot {number}` first, or correct it";
 
-/// The area that a word names: 0 for the masters, 1 or 2 for a level.
-pub fn area_number(rt: &HostRuntime, text: &str) -> Result<u16, Fault>
-    ensures { IfOk result (λ area. area < 3) }
-{
-    match text {
-        "0" => Ok(0),
-        "1" => Ok(1),
-        "2" => Ok(2),
-        _ => Err(wrong_words(
+/// The area that a word names.
+pub fn area_of(rt: &HostRuntime, text: &str) -> Result<Area, Fault> {
+    match area_named(text) {
+        Some(area) => Ok(area),
+        None => Err(wrong_words(
             rt.alloc(),
             "an area is 0, for the masters, or 1 or 2, for a level",
         )),
+    }
+}
+
+/// The area of this number, if it is one: 0 for the masters, 1 or 2 for a level.
+pub fn area_named(text: &str) -> Option<Area> {
+    match text {
+        "0" => Some(Area::Masters),
+        "1" => Some(Area::Level(LevelId::One)),
+        "2" => Some(Area::Level(LevelId::Two)),
+        _ => None,
     }
 }
 
@@ -50,17 +54,6 @@ pub fn level_of(rt: &HostRuntime, text: &str) -> Result<LevelId, Fault> {
         "1" => Ok(LevelId::One),
         "2" => Ok(LevelId::Two),
         _ => Err(wrong_words(rt.alloc(), "a level is 1 or 2")),
-    }
-}
-
-/// The number of a level, which its area has too.
-pub fn number_of(level: LevelId) -> u16
-    ensures least { 1 ≤ result }
-    ensures area { result < 3 }
-{
-    match level {
-        LevelId::One => 1,
-        LevelId::Two => 2,
     }
 }
 
@@ -93,7 +86,7 @@ fn no_label(rt: &HostRuntime, text: &str) -> Fault {
 
 /// Why a text is no label, and what one has.
 pub fn no_label_sentence(alloc: Global, text: &str) -> Result<String, AllocError> {
-    Words::of_file("", 0, text).fill(alloc, NO_LABEL)
+    Words::of_file("", Area::Masters, text).fill(alloc, NO_LABEL)
 }
 
 /// A refusal of words by this sentence.
@@ -275,7 +268,7 @@ pub fn tell_done(rt: &HostRuntime, sentence: Result<String, AllocError>, saved: 
 pub fn care_sentence<'a>(
     alloc: Global,
     path: &'a str,
-    area: u16,
+    area: Area,
     label: &'a str,
     fault: CareFault,
 ) -> Result<String, AllocError> {
@@ -460,10 +453,10 @@ fn push_no_room(
 pub fn no_room_for_copy<'a>(
     rt: &HostRuntime,
     from: &str,
-    from_area: u16,
+    from_area: Area,
     name: Name,
     into: &'a str,
-    area: u16,
+    area: Area,
     label: &'a str,
 ) -> Fault {
     let words = Words::of_file(into, area, label);
@@ -485,7 +478,7 @@ pub fn no_room_for_copy<'a>(
 }
 
 /// How many tracks a file of the pack at a path takes, if it has the file. Standard input is read once, so it isn't known there.
-fn tracks_of(rt: &HostRuntime, path: &str, area: u16, name: Name) -> Result<Option<u16>, Fault> {
+fn tracks_of(rt: &HostRuntime, path: &str, area: Area, name: Name) -> Result<Option<u16>, Fault> {
     if is_input(path) {
         return Ok(None);
     }
@@ -497,7 +490,7 @@ fn tracks_of(rt: &HostRuntime, path: &str, area: u16, name: Name) -> Result<Opti
 }
 
 /// The free space of an area of the pack at a path; none if it isn't known, as that of standard input, which is read once.
-pub fn room_in(rt: &HostRuntime, path: &str, area: u16) -> Result<Option<FreeRoom>, Fault> {
+pub fn room_in(rt: &HostRuntime, path: &str, area: Area) -> Result<Option<FreeRoom>, Fault> {
     if is_input(path) {
         return Ok(None);
     }

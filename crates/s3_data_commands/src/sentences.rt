@@ -3,7 +3,7 @@
 use crate::filled::{Words, push_name};
 use crate::pack_words::{label_words, mount_words};
 use s3_cells::{Field, ShowFault};
-use s3_labels::LabelFault;
+use s3_labels::{Area, LabelFault};
 use s3_layout::LayoutFault;
 use s3_paper_commands::OutputReason;
 use s3_refusals::call_words;
@@ -56,7 +56,7 @@ fn layout_words(fault: &LayoutFault) -> &'static str {
 pub fn unload_sentence<'a>(
     alloc: Global,
     path: &'a str,
-    area: u16,
+    area: Area,
     label: &'a str,
     fault: &UnloadFault,
 ) -> Result<String, AllocError> {
@@ -90,7 +90,7 @@ pub fn unload_sentence<'a>(
 pub fn others_sentence<'a>(
     alloc: Global,
     path: &'a str,
-    area: u16,
+    area: Area,
     label: &'a str,
     others: u32,
 ) -> Result<String, AllocError> {
@@ -108,7 +108,7 @@ pub fn others_sentence<'a>(
 pub fn other_records_sentence<'a>(
     alloc: Global,
     path: &'a str,
-    area: u16,
+    area: Area,
     label: &'a str,
     others: u32,
 ) -> Result<String, AllocError> {
@@ -194,7 +194,7 @@ pub fn value_sentence(
 pub fn hidden_values_sentence<'a>(
     alloc: Global,
     path: &'a str,
-    area: u16,
+    area: Area,
     label: &'a str,
     count: u64,
     first: u32,

@@ -1,18 +1,18 @@
 //! `bureau sort`: the records of a file sorted.
-ghost use Rattle.std.specs.Prelude.{◌≤◌, ◌<◌, IfOk};
+ghost use Rattle.std.specs.Prelude.{◌≤◌};
 
 use crate::fault::Fault;
 use crate::filled::Words;
 use crate::journaling::{journal_for, unmade_if_refused};
 use crate::pack_words::{
-    Save, care_sentence, label_of, label_words, level_of, mount_words, no_room_for_copy, number_of,
+    Save, care_sentence, label_of, label_words, level_of, mount_words, no_room_for_copy,
     pack_to_change, refused, saved, tell_done,
 };
 use crate::words::{AGAIN, JOURNAL, LABEL, LEVEL_ALIAS, LEVEL_AREA, OVERWRITE, PACK, SAVE};
 use clap::ArgMatches;
-use s3_cards::Name;
+use s3_cards::{LevelId, Name};
 use s3_journal::{Posting, Work};
-use s3_labels::LabelFault;
+use s3_labels::{Area, LabelFault};
 use s3_pack_care::{CareFault, Form, SortFault, SortField};
 use s3_paper_commands::status::{DONE, FILE_WRONG, NOTHING_SAVED, OPTIONS_WRONG, PACK_SAVED};
 use s3_paper_commands::words::{CommandWords, Example, Takes, Word, value_of};
@@ -67,7 +67,7 @@ pub fn sort(rt: &HostRuntime, matches: &ArgMatches<'_>) -> u8
 struct Order<'a> {
     path: &'a str,
     save: &'a str,
-    level: u16,
+    level: LevelId,
     label: &'a str,
     name: Name,
     /// The text that names the fields.
@@ -82,10 +82,8 @@ struct Order<'a> {
 
 impl<'a> Order<'a> {
     /// What the options ask for.
-    fn read(rt: &HostRuntime, matches: &ArgMatches<'a>) -> Result<Order<'a>, Fault>
-        ensures { IfOk result (λ order. order.level < 3) }
-    {
-        let level = number_of(level_of(rt, value_of(matches, "area"))?);
+    fn read(rt: &HostRuntime, matches: &ArgMatches<'a>) -> Result<Order<'a>, Fault> {
+        let level = level_of(rt, value_of(matches, "area"))?;
         let label = value_of(matches, "label");
         let name = label_of(rt, label)?;
         let by = value_of(matches, "by");
@@ -128,9 +126,7 @@ fn sort_file(rt: &HostRuntime, matches: &ArgMatches<'_>) -> Result<(), Fault> {
 }
 
 /// A pack with a copy of a file of a level in addition to it.
-fn with_copy(rt: &HostRuntime, order: &Order<'_>, pack: Vec<u8>) -> Result<Vec<u8>, Fault>
-    requires { order.now.level < 3 }
-{
+fn with_copy(rt: &HostRuntime, order: &Order<'_>, pack: Vec<u8>) -> Result<Vec<u8>, Fault> {
     let alloc = rt.alloc();
     let Order {
         path,
@@ -141,25 +137,25 @@ fn with_copy(rt: &HostRuntime, order: &Order<'_>, pack: Vec<u8>) -> Result<Vec<u
         new_name,
         ..
     } = *order;
+    let area = Area::Level(level);
     let from = Vec::from_slice(alloc, &pack)?;
-    match s3_pack_care::copy(alloc, from, level, name, pack, level, new_name) {
+    match s3_pack_care::copy(alloc, from, area, name, pack, area, new_name) {
         Ok(pack) => Ok(pack),
-        Err(CareFault::SourceLabel(fault)) => Err(refused(Words::of_file(path, level, label).fill(
+        Err(CareFault::SourceLabel(fault)) => Err(refused(Words::of_file(path, area, label).fill(
             alloc,
             label_words(fault),
         ))),
         Err(CareFault::Label(LabelFault::NoSpace)) => Err(no_room_for_copy(
-            rt, path, level, name, path, level, new_label,
+            rt, path, area, name, path, area, new_label,
         )),
-        Err(fault) => Err(refused(care_sentence(alloc, path, level, new_label, fault))),
+        Err(fault) => Err(refused(care_sentence(alloc, path, area, new_label, fault))),
     }
 }
 
 /// A pack with the records of a file sorted.
-fn sorted(alloc: Global, order: &Order<'_>, pack: Vec<u8>) -> Result<Vec<u8>, Fault>
-    requires { order.now.level < 3 }
-{
-    match s3_pack_care::sort(alloc, pack, order.level, order.new_name, &order.fields) {
+fn sorted(alloc: Global, order: &Order<'_>, pack: Vec<u8>) -> Result<Vec<u8>, Fault> {
+    let area = Area::Level(order.level);
+    match s3_pack_care::sort(alloc, pack, area, order.new_name, &order.fields) {
         Ok(pack) => Ok(pack),
         Err(fault) => Err(refused(sort_sentence(alloc, order, fault))),
     }
@@ -175,6 +171,7 @@ fn sorted_sentence(alloc: Global, order: &Order<'_>) -> Result<String, AllocErro
         ..
     } = *order;
     let save = Shown(save);
+    let level = level.number();
     format!(in alloc; "{new_label} of level {level} of {save} is sorted by {by}")
 }
 
@@ -298,7 +295,7 @@ fn sort_sentence(alloc: Global, order: &Order<'_>, fault: SortFault) -> Result<S
         label,
         ..
     } = *order;
-    let words = Words::of_file(path, level, label);
+    let words = Words::of_file(path, Area::Level(level), label);
     match fault {
         SortFault::Mount(fault) => words.fill(alloc, mount_words(fault)),
         SortFault::Label(fault) => words.fill(alloc, label_words(fault)),

@@ -8,7 +8,7 @@ use crate::fixed::{
 };
 use crate::inputs::{delimiter_of, layout_of, test_plain_text, whole_records_of};
 use crate::load::{MOST_TOLD, tell_others};
-use crate::pack_words::{area_number, label_of, output_beside, pack_of, tell, wrong_words};
+use crate::pack_words::{area_of, label_of, output_beside, pack_of, tell, wrong_words};
 use crate::sentences::{
     hidden_values_sentence, other_records_sentence, others_sentence, output_sentence,
     unload_sentence, value_sentence,
@@ -18,13 +18,14 @@ use crate::words::{
     LEVEL_ALIAS, PACK, SAFE_CELLS,
 };
 use clap::ArgMatches;
-use s3_cards::{LevelId, Name};
+use s3_cards::Name;
 use s3_host_files::{StandardOutput, is_input};
+use s3_labels::Area;
 use s3_layout::SourceLayout;
 use s3_paper_commands::status::{DONE, FILE_WRONG, OPTIONS_WRONG, PERSON_NEEDED, REFUSED};
 use s3_paper_commands::words::{Choice, CommandWords, Example, Status, Takes, Word, value_of};
 use s3_record_types::ChosenRecords;
-use s3_unload::{Area, FixedForm, LineForm, UnloadFault, find_file, hidden_values};
+use s3_unload::{FixedForm, LineForm, UnloadFault, find_file, hidden_values};
 use std::alloc::Global;
 use std::io::Write;
 
@@ -114,8 +115,7 @@ pub fn unload(rt: &HostRuntime, matches: &ArgMatches<'_>) -> u8
 }
 
 fn unload_file(rt: &HostRuntime, matches: &ArgMatches<'_>) -> Result<(), Fault> {
-    let number = area_number(rt, value_of(matches, "area"))?;
-    let area = area_of(number);
+    let area = area_of(rt, value_of(matches, "area"))?;
     let label = value_of(matches, "label");
     let name = label_of(rt, label)?;
     let path = value_of(matches, "pack");
@@ -128,7 +128,7 @@ fn unload_file(rt: &HostRuntime, matches: &ArgMatches<'_>) -> Result<(), Fault> 
         test_choice(rt, matches)?;
         let file = PackFile {
             path,
-            area: number,
+            area,
             label,
             name,
         };
@@ -141,7 +141,7 @@ fn unload_file(rt: &HostRuntime, matches: &ArgMatches<'_>) -> Result<(), Fault> 
         (None, Some(layout)) => {
             let file = PackFile {
                 path,
-                area: number,
+                area,
                 label,
                 name,
             };
@@ -156,8 +156,8 @@ fn unload_file(rt: &HostRuntime, matches: &ArgMatches<'_>) -> Result<(), Fault> 
     };
     match done {
         Ok(0) => Ok(()),
-        Ok(others) => tell(rt, others_sentence(rt.alloc(), path, number, label, others)),
-        Err(fault) => Err(fault_of(rt.alloc(), path, number, label, &fault)),
+        Ok(others) => tell(rt, others_sentence(rt.alloc(), path, area, label, others)),
+        Err(fault) => Err(fault_of(rt.alloc(), path, area, label, &fault)),
     }
 }
 
@@ -166,8 +166,8 @@ fn unload_file(rt: &HostRuntime, matches: &ArgMatches<'_>) -> Result<(), Fault> 
 struct PackFile<'a> {
     /// The file of the pack.
     path: &'a str,
-    /// 0 for the masters, 1 or 2 for a level.
-    area: u16,
+    /// The area of the file.
+    area: Area,
     /// The label.
     label: &'a str,
     /// The label as a name.
@@ -229,15 +229,7 @@ fn unload_chosen(
         }
         None => &all,
     };
-    s3_unload::unload_fixed(
-        alloc,
-        pack,
-        area_of(file.area),
-        file.name,
-        form,
-        chosen,
-        output,
-    )
+    s3_unload::unload_fixed(alloc, pack, file.area, file.name, form, chosen, output)
 }
 
 /// Refuses a file whose records have another length than those of the layout.
@@ -247,7 +239,7 @@ fn test_length(
     file: PackFile<'_>,
     record_length: u16,
 ) -> Result<(), UnloadFault> {
-    let (_store, label) = find_file(alloc, pack, area_of(file.area), file.name)?;
+    let (_store, label) = find_file(alloc, pack, file.area, file.name)?;
     if label.record_length == record_length {
         Ok(())
     } else {
@@ -256,7 +248,7 @@ fn test_length(
 }
 
 /// What a refusal is to the command, if records of a fixed length were to be written.
-fn fixed_fault(alloc: Global, path: &str, area: u16, label: &str, fault: &UnloadFault) -> Fault {
+fn fixed_fault(alloc: Global, path: &str, area: Area, label: &str, fault: &UnloadFault) -> Fault {
     let Some((record, position)) = hidden_place(fault) else {
         return fault_of(alloc, path, area, label, fault);
     };
@@ -307,7 +299,7 @@ fn unload_table(
     let done = s3_unload::unload(
         rt.alloc(),
         &pack,
-        area_of(file.area),
+        file.area,
         file.name,
         &layout.layout,
         &layout.records,
@@ -342,7 +334,7 @@ fn tell_hidden(
     let found = match hidden_values(
         rt.alloc(),
         pack,
-        area_of(file.area),
+        file.area,
         file.name,
         &layout.layout,
         &layout.records,
@@ -367,15 +359,6 @@ fn tell_hidden(
         ..
     } = file;
     Err(Fault::Waits(hidden_values_sentence(rt.alloc(), path, area, label, found.count, first)?))
-}
-
-/// The area of a number.
-fn area_of(number: u16) -> Area {
-    match number {
-        0 => Area::Masters,
-        1 => Area::Level(LevelId::One),
-        _ => Area::Level(LevelId::Two),
-    }
 }
 
 /// The form of lines that the options ask for; none for a table.
@@ -437,7 +420,7 @@ fn test_words(
 }
 
 /// What a refusal is to the command.
-fn fault_of(alloc: Global, path: &str, area: u16, label: &str, fault: &UnloadFault) -> Fault {
+fn fault_of(alloc: Global, path: &str, area: Area, label: &str, fault: &UnloadFault) -> Fault {
     match (fault, unload_sentence(alloc, path, area, label, fault)) {
         (_, Err(_)) => Fault::NoMemory,
         (UnloadFault::File, Ok(sentence)) => Fault::File(sentence),

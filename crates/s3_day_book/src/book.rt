@@ -1,22 +1,15 @@
 //! The page of a day.
 
-use crate::changed::{Area, push_changes};
+use crate::changed::{AreaBytes, push_changes};
 use crate::map::{TRACK, places_of};
 use crate::owned::{BookHalt, BookJob, Change, DayBook, Place};
 use s3_book::{ChangedFile, Day, Extent, Halt, Job, Region, day_page};
 use s3_cards::LevelId;
-use s3_labels::{AreaSlots, Header, Slot};
-use s3_listing::{ListFault, free_room, mount_slots};
-use s3_store::Stretch;
+use s3_labels::{Area, AreaSlots, Slot};
+use s3_listing::{ListFault, area_title, mount_slots, room_of};
+use s3_pack_check::region_of;
 use std::alloc::{AllocError, Global};
 use std::io::Write;
-
-/// The names of the regions.
-const MASTERS: &str = "Masters";
-
-const LEVEL_ONE: &str = "Level 1";
-
-const LEVEL_TWO: &str = "Level 2";
 
 /// The page of a day, given its pack before and after. What the book says first also names the damaged labels of the pack after the
 /// day. Refused if a pack can't be mounted, or memory runs out.
@@ -40,20 +33,16 @@ pub fn page_of_day(
             slots: &new,
         },
     )?;
-    let free = [
-        u64::from(free_room(alloc, after, 0)?.tracks),
-        u64::from(free_room(alloc, after, 1)?.tracks),
-        u64::from(free_room(alloc, after, 2)?.tracks),
-    ];
-    let page = page_with(alloc, book, &changes, &new, free)?;
+    let page = page_with(alloc, book, &changes, &new)?;
     Ok(page)
 }
 
 /// Appends a line for each damaged label of a pack.
 fn push_damaged(text: &mut String, slots: &AreaSlots) -> Result<(), AllocError> {
-    push_damaged_of(text, MASTERS, slots.masters())?;
-    push_damaged_of(text, LEVEL_ONE, slots.slots(LevelId::One))?;
-    push_damaged_of(text, LEVEL_TWO, slots.slots(LevelId::Two))
+    for area in Area::ALL {
+        push_damaged_of(text, area_title(area), slots.slots_of(area))?;
+    }
+    Ok(())
 }
 
 /// Appends a line for each damaged label of a region.
@@ -76,12 +65,10 @@ fn changes_of(
     new: PackSlots<'_>,
 ) -> Result<Vec<Change>, AllocError> {
     let mut changes = Vec::new(alloc);
-    let (before, after) = (old.masters(), new.masters());
-    push_changes(alloc, &mut changes, MASTERS, before, after)?;
-    let (before, after) = (old.level(LevelId::One), new.level(LevelId::One));
-    push_changes(alloc, &mut changes, LEVEL_ONE, before, after)?;
-    let (before, after) = (old.level(LevelId::Two), new.level(LevelId::Two));
-    push_changes(alloc, &mut changes, LEVEL_TWO, before, after)?;
+    for area in Area::ALL {
+        let (before, after) = (old.of_area(area), new.of_area(area));
+        push_changes(alloc, &mut changes, area_title(area), before, after)?;
+    }
     Ok(changes)
 }
 
@@ -93,39 +80,29 @@ struct PackSlots<'a> {
 }
 
 impl<'a> PackSlots<'a> {
-    /// The masters.
-    fn masters(&self) -> Area<'a> {
-        Area {
-            slots: self.slots.masters(),
-            pack: self.pack,
-        }
-    }
-
-    /// The area of a level.
-    fn level(&self, level: LevelId) -> Area<'a> {
-        Area {
-            slots: self.slots.slots(level),
+    /// The slots of an area, and the bytes of the pack.
+    fn of_area(&self, area: Area) -> AreaBytes<'a> {
+        AreaBytes {
+            slots: self.slots.slots_of(area),
             pack: self.pack,
         }
     }
 }
 
-/// The page, given what changed, the slots of the pack, and the free tracks of each region.
+/// The page, given what changed and the slots of the pack.
 fn page_with(
     alloc: Global,
     book: &DayBook,
     changes: &[Change],
     slots: &AreaSlots,
-    free: [u64; 3],
 ) -> Result<Vec<u8>, AllocError> {
-    let header = slots.header();
-    let places0 = places_of(alloc, header.masters, slots.masters())?;
-    let places1 = places_of(alloc, header.level_one, slots.slots(LevelId::One))?;
-    let places2 = places_of(alloc, header.level_two, slots.slots(LevelId::Two))?;
+    let places0 = places_of(alloc, slots, Area::Masters)?;
+    let places1 = places_of(alloc, slots, Area::Level(LevelId::One))?;
+    let places2 = places_of(alloc, slots, Area::Level(LevelId::Two))?;
     let masters = extents_of(alloc, &places0)?;
     let one = extents_of(alloc, &places1)?;
     let two = extents_of(alloc, &places2)?;
-    page_lent(alloc, book, changes, &header, free, &masters, &one, &two)
+    page_lent(alloc, book, changes, slots, &masters, &one, &two)
 }
 
 /// The page, given the files of each region one by one.
@@ -133,14 +110,13 @@ fn page_lent<'x>(
     alloc: Global,
     book: &DayBook,
     changes: &[Change],
-    header: &Header,
-    free: [u64; 3],
+    slots: &AreaSlots,
     masters: &'x [Extent<'x>],
     one: &'x [Extent<'x>],
     two: &'x [Extent<'x>],
 ) -> Result<Vec<u8>, AllocError> {
     let files = Files { masters, one, two };
-    page_of_files(alloc, book, changes, header, free, files)
+    page_of_files(alloc, book, changes, slots, files)
 }
 
 /// The files of each region.
@@ -151,31 +127,18 @@ struct Files<'a> {
     two: &'a [Extent<'a>],
 }
 
-/// The page, given what changed, and the files and the free tracks of each region.
+/// The page, given what changed, the slots of the pack, and the files of each region.
 fn page_of_files(
     alloc: Global,
     book: &DayBook,
     changes: &[Change],
-    header: &Header,
-    free: [u64; 3],
+    slots: &AreaSlots,
     files: Files<'_>,
 ) -> Result<Vec<u8>, AllocError> {
     let regions = [
-        region(MASTERS, None, header.masters, free[0], files.masters),
-        region(
-            LEVEL_ONE,
-            Some(LevelId::One),
-            header.level_one,
-            free[1],
-            files.one,
-        ),
-        region(
-            LEVEL_TWO,
-            Some(LevelId::Two),
-            header.level_two,
-            free[2],
-            files.two,
-        ),
+        region(slots, Area::Masters, files.masters),
+        region(slots, Area::Level(LevelId::One), files.one),
+        region(slots, Area::Level(LevelId::Two), files.two),
     ];
     page_over(alloc, book, changes, &regions)
 }
@@ -216,18 +179,16 @@ fn page_of<'x>(
     day_page(alloc, &day)
 }
 
-fn region<'a>(
-    name: &'a str,
-    level: Option<LevelId>,
-    place: Stretch,
-    free: u64,
-    files: &'a [Extent<'a>],
-) -> Region<'a> {
+/// The region of an area, with these files.
+fn region<'a>(slots: &AreaSlots, area: Area, files: &'a [Extent<'a>]) -> Region<'a> {
     Region {
-        name: name.as_bytes(),
-        level,
-        tracks: u64::from(place.sectors / TRACK),
-        free,
+        name: area_title(area).as_bytes(),
+        level: match area {
+            Area::Masters => None,
+            Area::Level(level) => Some(level),
+        },
+        tracks: u64::from(region_of(slots, area).sectors / TRACK),
+        free: u64::from(room_of(slots, area).tracks),
         files,
     }
 }

@@ -12,7 +12,7 @@ const SECTOR: usize = 256;
 
 /// The slots of an area of a pack, and the bytes of the pack.
 #[derive(Clone, Copy)]
-pub(crate) struct Area<'a> {
+pub(crate) struct AreaBytes<'a> {
     pub(crate) slots: &'a [Slot],
     pub(crate) pack: &'a [u8],
 }
@@ -22,8 +22,8 @@ pub(crate) fn push_changes(
     alloc: Global,
     changes: &mut Vec<Change>,
     region: &'static str,
-    before: Area<'_>,
-    after: Area<'_>,
+    before: AreaBytes<'_>,
+    after: AreaBytes<'_>,
 ) -> Result<(), AllocError> {
     for slot in before.slots {
         if let Slot::Sound(old) = slot {
@@ -47,7 +47,7 @@ fn push_old(
     region: &'static str,
     pack: &[u8],
     old: &FileLabel,
-    after: Area<'_>,
+    after: AreaBytes<'_>,
 ) -> Result<(), AllocError> {
     match file_of(after.slots, old.name) {
         Some(new) if is_same(pack, old, after.pack, new) => Ok(()),

@@ -2,21 +2,23 @@
 
 use crate::changed::text_of;
 use crate::owned::Place;
-use s3_labels::{FileLabel, Slot};
+use s3_labels::{Area, AreaSlots, FileLabel, Slot};
+use s3_pack_check::region_of;
 use s3_store::Stretch;
 use std::alloc::{AllocError, Global};
 
 /// The sectors of a track.
 pub(crate) const TRACK: u16 = 24;
 
-/// The files of a region, extent by extent.
+/// The files of an area, extent by extent.
 pub(crate) fn places_of(
     alloc: Global,
-    region: Stretch,
-    slots: &[Slot],
+    areas: &AreaSlots,
+    area: Area,
 ) -> Result<Vec<Place>, AllocError> {
+    let region = region_of(areas, area);
     let mut places = Vec::new(alloc);
-    for slot in slots {
+    for slot in areas.slots_of(area) {
         if let Slot::Sound(label) = slot {
             push_places(alloc, &mut places, region, label)?;
         }

@@ -4,14 +4,15 @@ ghost use Rattle.s3_dump.specs.Inner.Notes.{is_layout_of as is_layout_of_spec, l
 
 use s3_cards::Name;
 use s3_cells::Layout;
+use s3_labels::Area;
 use s3_record_types::ChosenRecords;
 use std::alloc::AllocError;
 
 /// The layout of the records of a type in a file.
 #[derive(Clone, Copy)]
 pub struct FileLayout<'a> {
-    /// The area of the file: 0 for the masters, 1 or 2 for a level.
-    pub area: u16,
+    /// The area of the file.
+    pub area: Area,
     /// Its label.
     pub name: Name,
     /// The fields of the records.
@@ -23,8 +24,8 @@ pub struct FileLayout<'a> {
 /// How many records of a file with layouts are of a type that none of them has.
 #[derive(Clone, Copy)]
 pub struct Unlaid {
-    /// The area of the file: 0 for the masters, 1 or 2 for a level.
-    pub area: u16,
+    /// The area of the file.
+    pub area: Area,
     /// Its label.
     pub name: Name,
     /// How many records.
@@ -40,7 +41,7 @@ pub struct Laid<'a> {
 
 impl<'a> Laid<'a> {
     /// Whether a file has a layout.
-    pub fn has_file(&self, area: u16, name: Name) -> bool {
+    pub fn has_file(&self, area: Area, name: Name) -> bool {
         self.layouts
             .iter()
             .any(|file| file.area == area && file.name == name)
@@ -49,7 +50,7 @@ impl<'a> Laid<'a> {
     /// The layout of a record of a file that has one. If the record has none, it is counted.
     pub fn layout_of(
         &mut self,
-        area: u16,
+        area: Area,
         name: Name,
         bytes: &[u8],
     ) -> Result<Option<&'a Layout>, AllocError>
@@ -64,7 +65,7 @@ impl<'a> Laid<'a> {
     }
 
     /// Counts one record more of a file.
-    fn count(&mut self, area: u16, name: Name) -> Result<(), AllocError> {
+    fn count(&mut self, area: Area, name: Name) -> Result<(), AllocError> {
         let counted = self
             .unlaid
             .iter()
@@ -89,7 +90,7 @@ impl<'a> Laid<'a> {
 /// The first layout of a file with the length and the type of a record.
 fn layout_among<'a>(
     layouts: &[FileLayout<'a>],
-    area: u16,
+    area: Area,
     name: Name,
     bytes: &[u8],
 ) -> Option<&'a Layout>
@@ -105,11 +106,11 @@ fn layout_among<'a>(
 }
 
 /// Whether a layout is the one for this record of a file.
-fn is_layout_of(file: &FileLayout<'_>, area: u16, name: Name, bytes: &[u8]) -> bool
+fn is_layout_of(file: &FileLayout<'_>, area: Area, name: Name, bytes: &[u8]) -> bool
     ensures value { result ≡ is_layout_of_spec area name bytes.now file.now }
     ensures long { result ≡ true → file.now.layout.now.record_length ≡ length bytes.now }
 {
-    file.area == area
+    file.area.number() == area.number()
         && file.name == name
         && usize::from(file.layout.record_length) == bytes.len()
         && file.records.has(bytes)

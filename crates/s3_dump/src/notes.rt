@@ -1,7 +1,7 @@
 //! The notes of a dump: what the bytes after them are.
 
 use s3_cards::{Name, Retention, host_byte, word_len};
-use s3_labels::{FileLabel, Format, Header, Organization, Slot};
+use s3_labels::{Area, FileLabel, Format, Header, Organization, Slot};
 use std::alloc::{AllocError, Global};
 
 /// The note about a header.
@@ -19,7 +19,7 @@ pub fn header_note(alloc: Global, header: &Header) -> Result<String, AllocError>
 /// The note about a slot of an area; none about a free one.
 pub fn slot_note(
     alloc: Global,
-    area: u16,
+    area: Area,
     place: usize,
     slot: &Slot,
 ) -> Result<String, AllocError> {
@@ -38,7 +38,8 @@ pub fn slot_note(
     Ok(text)
 }
 
-fn push_slot(text: &mut String, area: u16, place: usize) -> Result<(), AllocError> {
+fn push_slot(text: &mut String, area: Area, place: usize) -> Result<(), AllocError> {
+    let area = area.number();
     write!(text, "area {area}, slot {place}: ")
 }
 
@@ -105,10 +106,11 @@ fn byte_at(bytes: &[u8], place: usize) -> u8 {
 /// The note about the records of a file, from one on, by its number.
 pub fn records_note(
     alloc: Global,
-    area: u16,
+    area: Area,
     name: Name,
     number: usize,
 ) -> Result<String, AllocError> {
+    let area = area.number();
     let mut text = String::new(alloc);
     push_name(&mut text, name)?;
     write!(text, " in area {area}, records from {number} on")?;
@@ -116,7 +118,8 @@ pub fn records_note(
 }
 
 /// The note about the index of a file.
-pub fn index_note(alloc: Global, area: u16, name: Name) -> Result<String, AllocError> {
+pub fn index_note(alloc: Global, area: Area, name: Name) -> Result<String, AllocError> {
+    let area = area.number();
     let mut text = String::new(alloc);
     push_name(&mut text, name)?;
     write!(
@@ -127,7 +130,8 @@ pub fn index_note(alloc: Global, area: u16, name: Name) -> Result<String, AllocE
 }
 
 /// The note about what a file has after its records.
-pub fn after_note(alloc: Global, area: u16, name: Name) -> Result<String, AllocError> {
+pub fn after_note(alloc: Global, area: Area, name: Name) -> Result<String, AllocError> {
+    let area = area.number();
     let mut text = String::new(alloc);
     push_name(&mut text, name)?;
     write!(text, " in area {area}, after its records")?;

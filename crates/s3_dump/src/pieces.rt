@@ -11,7 +11,7 @@ use crate::notes::{
 };
 use crate::writing::Writer;
 use s3_cards::{LevelId, Name};
-use s3_labels::{AreaSlots, FileLabel, Organization, Pack, Refused, Slot};
+use s3_labels::{Area, AreaSlots, FileLabel, Organization, Pack, Refused, Slot};
 use s3_store::MemoryStore;
 use std::alloc::{AllocError, Global};
 
@@ -39,7 +39,7 @@ struct Run {
     /// How many bytes of the file are before it.
     before: usize,
     /// The area and the label of the file.
-    area: u16,
+    area: Area,
     name: Name,
     /// The length of a record, and how many bytes all records have.
     record_length: usize,
@@ -117,9 +117,23 @@ fn write_areas(
     let note = header_note(alloc, &areas.header())?;
     writer.write_part(SLOTS * SECTOR, note.as_str())?;
     let mut runs = Vec::new(alloc);
-    write_slots(alloc, 0, areas.masters(), writer, &mut runs)?;
-    write_slots(alloc, 1, areas.slots(LevelId::One), writer, &mut runs)?;
-    write_slots(alloc, 2, areas.slots(LevelId::Two), writer, &mut runs)?;
+    write_slots(alloc, Area::Masters, areas.masters(), writer, &mut runs)?;
+    let level_one = Area::Level(LevelId::One);
+    write_slots(
+        alloc,
+        level_one,
+        areas.slots(LevelId::One),
+        writer,
+        &mut runs,
+    )?;
+    let level_two = Area::Level(LevelId::Two);
+    write_slots(
+        alloc,
+        level_two,
+        areas.slots(LevelId::Two),
+        writer,
+        &mut runs,
+    )?;
     write_spool(alloc, writer)?;
     write_sectors(alloc, writer, REGIONS * SECTOR)?;
     sort_runs(&mut runs)?;
@@ -139,14 +153,14 @@ fn sort_runs(runs: &mut Vec<Run>) -> Result<(), AllocError> {
 #[tactic(auto, using(crate::proofs::WriterLemmas::keeps_all, crate::proofs::WriterLemmas::keeps_then))]
 fn write_slots(
     alloc: Global,
-    area: u16,
+    area: Area,
     slots: &[Slot],
     writer: &mut Writer<'_>,
     runs: &mut Vec<Run>,
 ) -> Result<(), AllocError>
     ensures { OnOk result (Keeps writer.old writer.new) }
 {
-    let first = SLOTS * SECTOR + usize::from(area) * 8 * SECTOR;
+    let first = usize::from(area.label_sector(0)) * SECTOR;
     for (place, slot) in slots.iter().enumerate() {
         let note = slot_note(alloc, area, place, slot)?;
         writer.write_part(first + (place.min(31) + 1) * SLOT, note.as_str())?;
@@ -158,7 +172,7 @@ fn write_slots(
 }
 
 /// Adds the runs of a file.
-fn add_runs(area: u16, label: &FileLabel, runs: &mut Vec<Run>) -> Result<(), AllocError> {
+fn add_runs(area: Area, label: &FileLabel, runs: &mut Vec<Run>) -> Result<(), AllocError> {
     let record_length = usize::from(label.record_length);
     let mut before = 0usize;
     for extent in label.extents.as_slice() {

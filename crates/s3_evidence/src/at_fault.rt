@@ -1,7 +1,7 @@
 //! The file for which a job doesn't start. The halt is known, so each file is asked for that alone.
 
 use s3_cards::{LevelId, Name, Retention};
-use s3_labels::{AreaSlots, FileLabel, Organization, Slot, Standing, area_of};
+use s3_labels::{Area, AreaSlots, FileLabel, Organization, Slot, Standing};
 use s3_lines::indicator::Indicator;
 use s3_lines::sheet::{FileLine, Line, SheetLine};
 use s3_ocl::FileStatement;
@@ -9,9 +9,6 @@ use s3_opening::is_new;
 use s3_operator::HaltCode;
 use s3_slots::standing_of;
 use std::alloc::{AllocError, Global};
-
-/// The area of the masters.
-pub(crate) const MASTERS: u16 = 0;
 
 /// A file of a job that doesn't start.
 #[derive(Drop)]
@@ -42,10 +39,10 @@ pub struct Asked<'a> {
 pub enum Found {
     /// There is no file of this label.
     Nothing,
-    /// Damage in an area, 0 for the masters, 1 and 2 for the levels, blocks the label.
-    Damage(u16),
+    /// Damage in an area blocks the label.
+    Damage(Area),
     /// The label of a file of an area.
-    File(FileLabel, u16),
+    File(FileLabel, Area),
 }
 
 impl<'a> Asked<'a> {
@@ -133,7 +130,7 @@ impl<'a> Asked<'a> {
             Found::Nothing => matches!(code, HaltCode::NoLabel),
             Found::Damage(_) => matches!(code, HaltCode::DamagedLabel),
             Found::File(label, area) => match code {
-                HaltCode::MasterForUpdate => area == MASTERS && !line.is_only_read(),
+                HaltCode::MasterForUpdate => area == Area::Masters && !line.is_only_read(),
                 HaltCode::LabelMismatch => !is_of_layout(line, &label),
                 HaltCode::BadIndex => label.organization == Organization::Indexed,
                 _ => false,
@@ -146,22 +143,13 @@ impl<'a> Asked<'a> {
         ensures { IsFound self.now.level self.now.areas.now label result }
     {
         match standing_of(label, self.areas.slots(self.level)) {
-            Standing::Present(file) => Found::File(file, area_of(self.level)),
-            Standing::Blocked => Found::Damage(area_of(self.level)),
+            Standing::Present(file) => Found::File(file, Area::Level(self.level)),
+            Standing::Blocked => Found::Damage(Area::Level(self.level)),
             Standing::Absent => match standing_of(label, self.areas.masters()) {
-                Standing::Present(file) => Found::File(file, MASTERS),
-                Standing::Blocked => Found::Damage(MASTERS),
+                Standing::Present(file) => Found::File(file, Area::Masters),
+                Standing::Blocked => Found::Damage(Area::Masters),
                 Standing::Absent => Found::Nothing,
             },
-        }
-    }
-
-    /// The slots of an area: 0 for the masters, else those of the level.
-    pub fn slots(&self, area: u16) -> &'a [Slot] {
-        if area == MASTERS {
-            self.areas.masters()
-        } else {
-            self.areas.slots(self.level)
         }
     }
 }

@@ -1,6 +1,7 @@
 //! What the pack has about a halt.
 
 use s3_cards::Name;
+use s3_labels::Area;
 
 /// What is wrong with the index of a file. Entries and records are counted from 1.
 #[derive(Clone, Copy)]
@@ -67,8 +68,8 @@ pub struct RecordRead {
 pub struct BlockingSlot {
     /// The label.
     pub label: Name,
-    /// The area: 0 for the masters, 1 and 2 for the levels.
-    pub area: u16,
+    /// The area.
+    pub area: Area,
     /// The number of the slot in its area, 0 to 31.
     pub slot: usize,
     /// The 64 bytes of the slot.

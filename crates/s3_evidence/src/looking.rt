@@ -17,15 +17,12 @@ use crate::reading::{Sectors, read_bytes, read_sectors};
 use crate::wanted::{RecordPlace, SlotPlace, Wanted, WantedRecord, find_wanted};
 use s3_bureau::{Bureau, Stop};
 use s3_cards::{LevelId, Name};
-use s3_labels::FileLabel;
+use s3_labels::{Area, FileLabel};
 use s3_store::{PackStore, Stretch};
 use std::alloc::{AllocError, Global};
 
 /// The sectors of an area's labels.
 const AREA_SECTORS: u16 = 8;
-
-/// The slots of a sector.
-const SLOTS: u16 = 4;
 
 /// The bytes of a slot.
 const SLOT_BYTES: u16 = 64;
@@ -193,23 +190,21 @@ fn read_slots<S: PackStore>(
     Ok(slots)
 }
 
-/// The bytes of a slot of an area, 0 to 2, by its number there, 0 to 31.
+/// The bytes of a slot of an area, by its number there, 0 to 31.
 #[tactic(auto, using(crate::proofs::Looks::looks_none, crate::proofs::Looks::looks_refused, crate::proofs::Looks::looks_then))]
 fn read_slot<S: PackStore>(
     alloc: Global,
     bureau: &mut Bureau<S>,
-    area: u16,
+    area: Area,
     slot: usize,
 ) -> Result<Option<Vec<u8>>, Stop>
     ensures { Looks (stop_in result) bureau.old bureau.new }
 {
     let runs = [Stretch {
-        start: 1,
-        sectors: 3 * AREA_SECTORS,
+        start: area.label_sector(0),
+        sectors: AREA_SECTORS,
     }];
-    let before = u64::from(area).saturating_mul(u64::from(AREA_SECTORS * SLOTS));
-    let place = before.saturating_add(slot as u64);
-    let at = place.saturating_mul(u64::from(SLOT_BYTES));
+    let at = (slot as u64).saturating_mul(u64::from(SLOT_BYTES));
     read_bytes(alloc, bureau, &runs, at, SLOT_BYTES)
 }
 

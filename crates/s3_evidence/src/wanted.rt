@@ -10,14 +10,14 @@ ghost use Rattle.s3_level.specs.Inner.Queries.{files_of};
 ghost use Rattle.s3_evidence.specs.declared.wanted.Wanted.TheVariants.{Nothing};
 ghost use Rattle.s3_evidence.specs.Inner.About.{HasIndex, IsInUse, IsOwnArea, IsWanted, has_in_use};
 
-use crate::at_fault::{Asked, Found, MASTERS};
+use crate::at_fault::{Asked, Found};
 use crate::begun::Source;
 use s3_bureau::Bureau;
 use s3_cards::{LevelId, Name};
 use s3_cycle::{Cycle, Stand, Totals};
 use s3_decks::job_before;
 use s3_job_files::OpenFile;
-use s3_labels::{AreaSlots, FileLabel, Organization, Slot, Standing, area_of};
+use s3_labels::{Area, AreaSlots, FileLabel, Organization, Slot, Standing};
 use s3_level::Level;
 use s3_lines::sheet::{
     CalculationTime, FileLine, Line, Operation, OutputKind, OutputLine, SheetLine,
@@ -79,8 +79,8 @@ pub(crate) struct WantedRecord {
 pub(crate) struct SlotPlace {
     /// The label.
     pub(crate) label: Name,
-    /// The area, 0 to 2.
-    pub(crate) area: u16,
+    /// The area.
+    pub(crate) area: Area,
     /// The number of the slot, 0 to 31.
     pub(crate) slot: usize,
 }
@@ -439,8 +439,8 @@ fn blocking_slots(alloc: Global, asked: &Asked<'_>) -> Result<Vec<SlotPlace>, Al
 {
     let mut slots = Vec::new(alloc);
     for statement in asked.statements {
-        push_slot(&mut slots, asked, statement.label, area_of(asked.level))?;
-        push_slot(&mut slots, asked, statement.label, MASTERS)?;
+        push_slot(&mut slots, asked, statement.label, Area::Level(asked.level))?;
+        push_slot(&mut slots, asked, statement.label, Area::Masters)?;
     }
     Ok(slots)
 }
@@ -450,12 +450,13 @@ fn push_slot(
     slots: &mut Vec<SlotPlace>,
     asked: &Asked<'_>,
     label: Name,
-    area: u16,
+    area: Area,
 ) -> Result<(), AllocError>
     ensures { OnOk result (IsOwnArea asked.now.level area → All (λ place. IsOwnArea asked.now.level place.area) slots.old.items → All (λ place. IsOwnArea asked.now.level place.area) slots.new.items) }
 {
     let found = asked
-        .slots(area)
+        .areas
+        .slots_of(area)
         .iter()
         .position(|slot| is_damaged_under(label, slot));
     let is_known = slots

@@ -8,7 +8,7 @@ use s3_cards::ebcdic::DIGIT_0;
 use s3_cards::{LevelId, Name};
 use s3_decks::{push_characters, push_name};
 use s3_evidence::{Asked, Begun, Evidence, Found, IndexFlaw, JobFile};
-use s3_labels::{AreaSlots, area_of};
+use s3_labels::{Area, AreaSlots};
 use s3_level::Level;
 use s3_opening::is_new;
 use s3_operator::HaltCode;
@@ -132,10 +132,10 @@ fn push_file(
 }
 
 /// The area in which damage blocks a label: the level's area for a file that is made.
-fn area_at_fault(asked: &Asked<'_>, file: &JobFile, label: Name) -> u16 {
+fn area_at_fault(asked: &Asked<'_>, file: &JobFile, label: Name) -> Area {
     match asked.found(label) {
         Found::Damage(area) if !is_new(&file.line) => area,
-        _ => area_of(asked.level),
+        _ => Area::Level(asked.level),
     }
 }
 

@@ -1,10 +1,10 @@
 //! What is wrong with the slot that blocks a label.
 
 use crate::at_start::AtStart;
-use s3_cards::Name;
+use s3_cards::{LevelId, Name};
 use s3_evidence::{BlockingSlot, Evidence};
-use s3_labels::{AreaSlots, Slot};
-use s3_pack_check::{Damage, damage_of, region_of, slots_of};
+use s3_labels::{Area, AreaSlots, Slot};
+use s3_pack_check::{Damage, damage_of, region_of};
 use s3_slots::judge;
 use std::alloc::AllocError;
 
@@ -17,18 +17,18 @@ pub(crate) fn push_slot_at_fault(
     text: &mut String,
     at: AtStart<'_>,
     label: Name,
-    area: u16,
+    area: Area,
 ) -> Result<(), AllocError> {
     let Some(slot) = slot_of(at.evidence, label, area) else {
         return Ok(());
     };
     let number = slot.slot;
     write!(text, "  slot {number} of ")?;
-    if area == 0 {
-        text.push_str("the masters")?;
-    } else {
-        write!(text, "level {area}")?;
-    }
+    text.push_str(match area {
+        Area::Masters => "the masters",
+        Area::Level(LevelId::One) => "level 1",
+        Area::Level(LevelId::Two) => "level 2",
+    })?;
     text.push_str(" is damaged: ")?;
     match damage_now(at.areas, area, number, &slot.bytes) {
         Some(damage) => writeln!(text, "{damage}"),
@@ -37,7 +37,7 @@ pub(crate) fn push_slot_at_fault(
 }
 
 /// The slot that blocks a label in an area, if the pack was asked for it.
-fn slot_of(evidence: &Evidence, label: Name, area: u16) -> Option<&BlockingSlot> {
+fn slot_of(evidence: &Evidence, label: Name, area: Area) -> Option<&BlockingSlot> {
     let Evidence::Slots(slots) = evidence else {
         return None;
     };
@@ -46,14 +46,10 @@ fn slot_of(evidence: &Evidence, label: Name, area: u16) -> Option<&BlockingSlot>
         .find(|slot| slot.label == label && slot.area == area)
 }
 
-/// Why a mount would find a slot damaged now, by its bytes; none if it wouldn't. An area is 0 for the masters, 1 and 2 for the
-/// levels.
-fn damage_now(areas: &AreaSlots, area: u16, slot: usize, bytes: &[u8]) -> Option<Damage> {
-    if area >= 3 {
-        return None;
-    }
+/// Why a mount would find a slot damaged now, by its bytes; none if it wouldn't.
+fn damage_now(areas: &AreaSlots, area: Area, slot: usize, bytes: &[u8]) -> Option<Damage> {
     let bytes = bytes.first_chunk::<64>()?;
-    let earlier = slots_of(areas, area).get(..slot)?;
+    let earlier = areas.slots_of(area).get(..slot)?;
     let format = areas.header().format;
     let region = region_of(areas, area);
     match judge(format, region, earlier, bytes) {

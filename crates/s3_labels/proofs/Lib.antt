@@ -1,3 +1,4 @@
+pub mod AreaNumbers
 pub mod Blanks
 pub mod Changes
 pub mod Copies

@@ -10,6 +10,7 @@ ghost use Rattle.s3_slots.specs.Placement.{free_slot};
 ghost use Rattle.s3_store.specs.Stretches.{end_of};
 ghost use Rattle.s3_slots.specs.declared.slot.Slot.TheVariants.{Free, Sound};
 
+use crate::area::Area;
 use s3_cards::{LevelId, Name};
 use s3_slots::{Header, LabelFault, Made, NewFile, Slot, free, make_in, place_in, recount};
 use s3_store::Stretch;
@@ -37,6 +38,7 @@ impl Model for AreaSlots {
 }
 
 impl AreaSlots {
+    ghost use Rattle.s3_labels.specs.Inner.AreaNumbers.{area_number};
     ghost use Rattle.s3_labels.specs.Inner.Areas.{Areas, slots_at, slots_in, region_at, with_slots};
 
     /// The areas with this header and these slots, 32 of each area.
@@ -88,17 +90,24 @@ impl AreaSlots {
         }
     }
 
-    /// Slot `i`, 0 to 31, of an area: 0 for the masters, 1 and 2 for the levels.
-    pub fn slot(&self, area: u16, i: usize) -> &Slot
-        requires area { area < 3 }
-        requires slot { i < 32 }
-        ensures { slice_get (slots_in area self.now) i ≡ Some result.now }
+    /// The 32 slots of an area.
+    pub fn slots_of(&self, area: Area) -> &[Slot]
+        ensures slots { result.now ≡ slots_in (area_number area) self.now }
+        ensures count { length result.now ≡ 32 }
     {
         match area {
-            0 => &self.masters[i],
-            1 => &self.level_one[i],
-            _ => &self.level_two[i],
+            Area::Masters => self.masters(),
+            Area::Level(LevelId::One) => &self.level_one,
+            Area::Level(LevelId::Two) => &self.level_two,
         }
+    }
+
+    /// Slot `i`, 0 to 31, of an area.
+    pub fn slot(&self, area: Area, i: usize) -> &Slot
+        requires { i < 32 }
+        ensures { slice_get (slots_in (area_number area) self.now) i ≡ Some result.now }
+    {
+        &self.slots_of(area)[i]
     }
 
     /// The region of a level.

@@ -8,10 +8,12 @@ ghost use Rattle.s3_slots.specs.Header.{mounted};
 ghost use Rattle.s3_labels.specs.Contents.{contents_of};
 ghost use Rattle.s3_labels.specs.Inner.Images.{new_header as new_header_spec, region_bytes, header_bytes, padded, image_of, moved as moved_spec, moved_label as moved_label_spec, master_bytes as master_bytes_spec, no_masters, masters_from, image_from, image_bytes, IsImageFault};
 
+use crate::area::Area;
 use crate::fault::{ImageFault, Refusal};
 use crate::pack::read_header;
 use crate::reading::{read_at, read_slots};
 use byteorder::{BigEndian, ByteOrder};
+use s3_cards::LevelId;
 use s3_slots::{FileLabel, Format, Header, Slot, are_quotas, bytes_of};
 use s3_store::{Extents, MemoryStore, Stretch};
 use std::alloc::{AllocError, Global};
@@ -185,7 +187,13 @@ fn pack_with_masters(
     ensures err { IfErr result (λ fault. fault ≡ ImageFault.NoMemory) }
 {
     let region = old_header.level_one;
-    let slots = match read_slots(alloc, old, old_header.format, region, 1) {
+    let slots = match read_slots(
+        alloc,
+        old,
+        old_header.format,
+        region,
+        Area::Level(LevelId::One),
+    ) {
         Ok(slots) => slots,
         // A store in memory never fails.
         Err(_) => return Err(ImageFault::NoMemory),

@@ -10,10 +10,12 @@ ghost use Rattle.s3_slots.specs.Placement.{free_slot};
 ghost use Rattle.s3_slots.specs.Inner.Making.{found, planned, with_count, without_label, IsNewFile};
 ghost use Rattle.s3_slots.specs.Making.{made, new_label, dropped};
 ghost use Rattle.s3_labels.specs.Inner.Areas.{slots_at, slots_in, region_at, with_slots, areas_on, IsReady, IsRefusal, failed_by, failed_mount, IsChangeRefusal, IsOfSectors, failed_change, IsOfMake, AreFilled, IsPlanRefusal, MayHave, with_count_bytes};
-ghost use Rattle.s3_labels.specs.Areas.{area_of as area_of_spec, IsLabelSector};
+ghost use Rattle.s3_labels.specs.Areas.{area_of, IsLabelSector};
+ghost use Rattle.s3_labels.specs.Inner.AreaNumbers.{area_number};
 ghost use Rattle.s3_labels.specs.Inner.Labelled.{KeepsSaid};
 ghost use Rattle.s3_labels.specs.Inner.Written.{IsWritten, WritesSlot};
 
+use crate::area::Area;
 use crate::areas::{AreaSlots, copy_of};
 use crate::fault::{ChangeFault, PlanFault, Refusal};
 use crate::reading::{read_at, read_slots};
@@ -82,9 +84,21 @@ fn read_areas<P: Sectors>(alloc: Global, pool: &mut P) -> Result<AreaSlots, Refu
     ensures failures { (P.state pool.new).failures ≡ (P.state pool.old).failures + failed_mount result }
 {
     let header = read_header(pool)?;
-    let masters = read_slots(alloc, pool, header.format, header.masters, 0)?;
-    let level_one = read_slots(alloc, pool, header.format, header.level_one, 1)?;
-    let level_two = read_slots(alloc, pool, header.format, header.level_two, 2)?;
+    let masters = read_slots(alloc, pool, header.format, header.masters, Area::Masters)?;
+    let level_one = read_slots(
+        alloc,
+        pool,
+        header.format,
+        header.level_one,
+        Area::Level(LevelId::One),
+    )?;
+    let level_two = read_slots(
+        alloc,
+        pool,
+        header.format,
+        header.level_two,
+        Area::Level(LevelId::Two),
+    )?;
     Ok(AreaSlots::of(header, masters, level_one, level_two))
 }
 
@@ -142,11 +156,10 @@ impl<P: Sectors> Pack<P> {
         }
     }
 
-    /// What slot `i`, 0 to 31, of an area has: 0 for the masters, 1 and 2 for the levels.
-    pub fn slot(&self, area: u16, i: usize) -> &Slot
-        requires area { area < 3 }
-        requires slot { i < 32 }
-        ensures { slice_get (slots_in area self.now.areas) i ≡ Some result.now }
+    /// What slot `i`, 0 to 31, of an area has.
+    pub fn slot(&self, area: Area, i: usize) -> &Slot
+        requires { i < 32 }
+        ensures { slice_get (slots_in (area_number area) self.now.areas) i ≡ Some result.now }
     {
         self.areas.slot(area, i)
     }
@@ -201,21 +214,21 @@ impl<P: Sectors> Pack<P> {
         ensures named { IfOk result (λ label. label.name ≡ new.now.name) }
         ensures on_pack { IfOk result (IsOfPack (length (P.state self.new.pool).contents)) }
         ensures placed { IfOk result (λ label. are_extents (region_at level self.old.areas) label.extents ≡ true) }
-        ensures written { IfOk result (IsWritten (area_of_spec level) (slots_at level self.new.areas) (P.state self.new.pool).contents) }
+        ensures written { IfOk result (IsWritten (area_of level) (slots_at level self.new.areas) (P.state self.new.pool).contents) }
         ensures says { OnOk result (KeepsSaid level self.old.areas (P.state self.old.pool).contents self.new.areas (P.state self.new.pool).contents) }
         ensures blank { IfOk result (λ label. is_direct label.organization ≡ true → AreFilled BLANK (sectors_of label) (P.state self.new.pool).contents) }
         ensures err { IfErr result (IsChangeRefusal (made self.old.areas.header.format (region_at level self.old.areas) self.old.areas.masters new.now (slots_at level self.old.areas))) }
         ensures same { IfErr result (λ fault. IsOfSectors fault ⊎ (self.new ≡ self.old)) }
         ensures alone { self.new.areas ≡ with_slots level (slots_at level self.new.areas) self.old.areas }
-        ensures others { (j : ℕ) → j < 32 → position_from (bears new.now.name) 0 (slots_at level self.old.areas) ≢ Some j → free_slot (dropped new.now.name (slots_at level self.old.areas)) ≢ Some j → slot_bytes (area_of_spec level) (P.state self.new.pool).contents j ≡ slot_bytes (area_of_spec level) (P.state self.old.pool).contents j }
-        ensures within { ChangesWithin (IsOfMake (area_of_spec level) new.now.name (made self.old.areas.header.format (region_at level self.old.areas) self.old.areas.masters new.now (slots_at level self.old.areas))) (P.state self.old.pool) (P.state self.new.pool) }
+        ensures others { (j : ℕ) → j < 32 → position_from (bears new.now.name) 0 (slots_at level self.old.areas) ≢ Some j → free_slot (dropped new.now.name (slots_at level self.old.areas)) ≢ Some j → slot_bytes (area_of level) (P.state self.new.pool).contents j ≡ slot_bytes (area_of level) (P.state self.old.pool).contents j }
+        ensures within { ChangesWithin (IsOfMake (area_of level) new.now.name (made self.old.areas.header.format (region_at level self.old.areas) self.old.areas.masters new.now (slots_at level self.old.areas))) (P.state self.old.pool) (P.state self.new.pool) }
         ensures failures { (P.state self.new.pool).failures ≡ (P.state self.old.pool).failures + failed_change result }
         ensures ready { IsReady self.new.areas (P.state self.new.pool).contents }
     {
         know_widths(new);
         let made = self.areas.make(level, new)?;
         write_records(&mut self.pool, &made.label)?;
-        write_made(&mut self.pool, area_of(level), &made)?;
+        write_made(&mut self.pool, Area::Level(level), &made)?;
         Ok(made.label)
     }
 
@@ -225,18 +238,18 @@ impl<P: Sectors> Pack<P> {
         requires ready { IsReady self.old.areas (P.state self.old.pool).contents }
         requires room { MayHave count (standing name (slots_at level self.old.areas)) }
         ensures ok { OnOk result (with_count name count (slots_at level self.old.areas) ≡ Ok (slots_at level self.new.areas)) }
-        ensures written { OnOk result (WritesSlot name (slots_at level self.old.areas) (area_of_spec level) (with_count_bytes count) (P.state self.old.pool).contents (P.state self.new.pool).contents) }
+        ensures written { OnOk result (WritesSlot name (slots_at level self.old.areas) (area_of level) (with_count_bytes count) (P.state self.old.pool).contents (P.state self.new.pool).contents) }
         ensures says { OnOk result (KeepsSaid level self.old.areas (P.state self.old.pool).contents self.new.areas (P.state self.new.pool).contents) }
         ensures err { IfErr result (IsChangeRefusal (with_count name count (slots_at level self.old.areas))) }
         ensures same { IfErr result (λ fault. IsOfSectors fault ⊎ (self.new ≡ self.old)) }
         ensures alone { self.new.areas ≡ with_slots level (slots_at level self.new.areas) self.old.areas }
-        ensures others { (j : ℕ) → position_from (bears name) 0 (slots_at level self.old.areas) ≢ Some j → slot_bytes (area_of_spec level) (P.state self.new.pool).contents j ≡ slot_bytes (area_of_spec level) (P.state self.old.pool).contents j }
-        ensures within { ChangesWithin (IsLabelSector (area_of_spec level)) (P.state self.old.pool) (P.state self.new.pool) }
+        ensures others { (j : ℕ) → position_from (bears name) 0 (slots_at level self.old.areas) ≢ Some j → slot_bytes (area_of level) (P.state self.new.pool).contents j ≡ slot_bytes (area_of level) (P.state self.old.pool).contents j }
+        ensures within { ChangesWithin (IsLabelSector (area_of level)) (P.state self.old.pool) (P.state self.new.pool) }
         ensures failures { (P.state self.new.pool).failures ≡ (P.state self.old.pool).failures + failed_change result }
         ensures ready { IsReady self.new.areas (P.state self.new.pool).contents }
     {
         let place = self.areas.place(level, name)?;
-        write_count(&mut self.pool, area_of(level), place as u16, count)?;
+        write_count(&mut self.pool, Area::Level(level), place as u16, count)?;
         self.areas.recount(level, place, count);
         Ok(())
     }
@@ -246,18 +259,18 @@ impl<P: Sectors> Pack<P> {
     pub fn drop_label(&mut self, level: LevelId, name: Name) -> Result<(), ChangeFault>
         requires ready { IsReady self.old.areas (P.state self.old.pool).contents }
         ensures ok { OnOk result (without_label name (slots_at level self.old.areas) ≡ Ok (slots_at level self.new.areas)) }
-        ensures written { OnOk result (WritesSlot name (slots_at level self.old.areas) (area_of_spec level) (λ _. replicate 64 0) (P.state self.old.pool).contents (P.state self.new.pool).contents) }
+        ensures written { OnOk result (WritesSlot name (slots_at level self.old.areas) (area_of level) (λ _. replicate 64 0) (P.state self.old.pool).contents (P.state self.new.pool).contents) }
         ensures says { OnOk result (KeepsSaid level self.old.areas (P.state self.old.pool).contents self.new.areas (P.state self.new.pool).contents) }
         ensures err { IfErr result (IsChangeRefusal (without_label name (slots_at level self.old.areas))) }
         ensures same { IfErr result (λ fault. IsOfSectors fault ⊎ (self.new ≡ self.old)) }
         ensures alone { self.new.areas ≡ with_slots level (slots_at level self.new.areas) self.old.areas }
-        ensures others { (j : ℕ) → position_from (bears name) 0 (slots_at level self.old.areas) ≢ Some j → slot_bytes (area_of_spec level) (P.state self.new.pool).contents j ≡ slot_bytes (area_of_spec level) (P.state self.old.pool).contents j }
-        ensures within { ChangesWithin (IsLabelSector (area_of_spec level)) (P.state self.old.pool) (P.state self.new.pool) }
+        ensures others { (j : ℕ) → position_from (bears name) 0 (slots_at level self.old.areas) ≢ Some j → slot_bytes (area_of level) (P.state self.new.pool).contents j ≡ slot_bytes (area_of level) (P.state self.old.pool).contents j }
+        ensures within { ChangesWithin (IsLabelSector (area_of level)) (P.state self.old.pool) (P.state self.new.pool) }
         ensures failures { (P.state self.new.pool).failures ≡ (P.state self.old.pool).failures + failed_change result }
         ensures ready { IsReady self.new.areas (P.state self.new.pool).contents }
     {
         let place = self.areas.place(level, name)?;
-        clear_slot(&mut self.pool, area_of(level), place as u16)?;
+        clear_slot(&mut self.pool, Area::Level(level), place as u16)?;
         self.areas.free(level, place);
         Ok(())
     }
@@ -270,15 +283,4 @@ fn know_widths(new: &NewFile)
     ensures date { length new.now.date ≡ 6 }
 {
     let _first = new.name.codes[0];
-}
-
-/// The number of a level's area, 1 or 2.
-pub fn area_of(level: LevelId) -> u16
-    ensures value { result ≡ area_of_spec level }
-    ensures few { result < 3 }
-{
-    match level {
-        LevelId::One => 1,
-        LevelId::Two => 2,
-    }
 }

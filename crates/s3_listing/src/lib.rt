@@ -17,6 +17,6 @@ mod written;
 
 pub use fault::ListFault;
 pub use laws::slots_are_shown;
-pub use room::{FileSize, FreeRoom, SlotFile, file_in_slot, file_size, free_room};
-pub use table::write_table;
+pub use room::{FileSize, FreeRoom, SlotFile, file_in_slot, file_size, free_room, room_of};
+pub use table::{area_title, write_table};
 pub use written::{list, mount_slots};

@@ -1,16 +1,16 @@
 //! The line of each used slot.
-ghost use Rattle.std.specs.Prelude.{◌≡◌, ◌<◌, ◌++◌, OnOk};
+ghost use Rattle.std.specs.Prelude.{◌≡◌, ◌++◌, OnOk};
+ghost use Rattle.s3_labels.specs.Inner.AreaNumbers.{area_number};
 ghost use Rattle.s3_listing.specs.Inner.Lines.{name_text, label_text, organization_letter, retention_letter, fields_text, slot_line};
 ghost use Rattle.s3_listing.specs.Inner.Listing.{area_text};
 
 use s3_cards::{Name, Retention, push_characters, push_number};
-use s3_labels::{FileLabel, Organization, Slot};
+use s3_labels::{Area, FileLabel, Organization, Slot};
 use std::alloc::AllocError;
 
 /// Appends the lines of an area's used slots.
-pub fn push_area(text: &mut Vec<u8>, area: u8, slots: &[Slot]) -> Result<(), AllocError>
-    requires { area < 3 }
-    ensures { OnOk result (text.new.items ≡ text.old.items ++ area_text area slots.now) }
+pub fn push_area(text: &mut Vec<u8>, area: Area, slots: &[Slot]) -> Result<(), AllocError>
+    ensures { OnOk result (text.new.items ≡ text.old.items ++ area_text (area_number area) slots.now) }
 {
     for slot in slots {
         push_slot(text, area, slot)?;
@@ -20,9 +20,8 @@ pub fn push_area(text: &mut Vec<u8>, area: u8, slots: &[Slot]) -> Result<(), All
 
 /// Appends the line of a slot; a free one has none.
 #[tactic(auto, unfolding(crate::specs::Inner::Lines::slot_line))]
-fn push_slot(text: &mut Vec<u8>, area: u8, slot: &Slot) -> Result<(), AllocError>
-    requires { area < 3 }
-    ensures { OnOk result (text.new.items ≡ text.old.items ++ slot_line area slot.now) }
+fn push_slot(text: &mut Vec<u8>, area: Area, slot: &Slot) -> Result<(), AllocError>
+    ensures { OnOk result (text.new.items ≡ text.old.items ++ slot_line (area_number area) slot.now) }
 {
     match slot {
         Slot::Free => Ok(()),
@@ -33,11 +32,10 @@ fn push_slot(text: &mut Vec<u8>, area: u8, slot: &Slot) -> Result<(), AllocError
 
 /// Appends the line of a file.
 #[tactic(auto, unfolding(crate::specs::Inner::Lines::slot_line))]
-fn push_file(text: &mut Vec<u8>, area: u8, label: &FileLabel) -> Result<(), AllocError>
-    requires { area < 3 }
-    ensures { OnOk result (text.new.items ≡ text.old.items ++ slot_line area (Slot.Sound label.now)) }
+fn push_file(text: &mut Vec<u8>, area: Area, label: &FileLabel) -> Result<(), AllocError>
+    ensures { OnOk result (text.new.items ≡ text.old.items ++ slot_line (area_number area) (Slot.Sound label.now)) }
 {
-    text.extend_from_slice(&[b'0' + area, b' '])?;
+    text.extend_from_slice(&[b'0' + area.number() as u8, b' '])?;
     push_name(text, label.name)?;
     text.push(b' ')?;
     push_fields(text, label)?;
@@ -47,11 +45,10 @@ fn push_file(text: &mut Vec<u8>, area: u8, label: &FileLabel) -> Result<(), Allo
 
 /// Appends the line of a damaged slot.
 #[tactic(auto, unfolding(crate::specs::Inner::Lines::slot_line))]
-fn push_damage(text: &mut Vec<u8>, area: u8, name: Option<Name>) -> Result<(), AllocError>
-    requires { area < 3 }
-    ensures { OnOk result (text.new.items ≡ text.old.items ++ slot_line area (Slot.Damaged name)) }
+fn push_damage(text: &mut Vec<u8>, area: Area, name: Option<Name>) -> Result<(), AllocError>
+    ensures { OnOk result (text.new.items ≡ text.old.items ++ slot_line (area_number area) (Slot.Damaged name)) }
 {
-    text.extend_from_slice(&[b'0' + area, b' '])?;
+    text.extend_from_slice(&[b'0' + area.number() as u8, b' '])?;
     push_label(text, name)?;
     text.push(b' ')?;
     text.extend_from_slice(b"DAMAGED")?;

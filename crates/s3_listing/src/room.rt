@@ -2,8 +2,9 @@
 
 use crate::fault::ListFault;
 use crate::written::mount_slots;
-use s3_cards::{LevelId, Name};
-use s3_labels::{AreaSlots, Slot};
+use s3_cards::Name;
+use s3_labels::{Area, AreaSlots, Slot};
+use s3_pack_check::region_of;
 use s3_store::Stretch;
 use std::alloc::Global;
 
@@ -19,16 +20,15 @@ pub struct FreeRoom {
     pub in_a_row: u16,
 }
 
-/// The free tracks of an area of a pack: 0 for the masters, 1 and 2 for the levels. Refused with `Mount` or `NoMemory`.
-pub fn free_room(alloc: Global, pack: &[u8], area: u16) -> Result<FreeRoom, ListFault> {
+/// The free tracks of an area of a pack. Refused with `Mount` or `NoMemory`.
+pub fn free_room(alloc: Global, pack: &[u8], area: Area) -> Result<FreeRoom, ListFault> {
     let areas = mount_slots(alloc, pack)?;
-    let header = areas.header();
-    let region = match area {
-        0 => header.masters,
-        1 => header.level_one,
-        _ => header.level_two,
-    };
-    Ok(room_in(region, slots_of(&areas, area)))
+    Ok(room_of(&areas, area))
+}
+
+/// The free tracks of an area.
+pub fn room_of(areas: &AreaSlots, area: Area) -> FreeRoom {
+    room_in(region_of(areas, area), areas.slots_of(area))
 }
 
 /// How large a file is.
@@ -44,11 +44,11 @@ pub struct FileSize {
 pub fn file_size(
     alloc: Global,
     pack: &[u8],
-    area: u16,
+    area: Area,
     name: Name,
 ) -> Result<Option<FileSize>, ListFault> {
     let areas = mount_slots(alloc, pack)?;
-    for slot in slots_of(&areas, area) {
+    for slot in areas.slots_of(area) {
         if let Slot::Sound(label) = slot {
             if label.name == name {
                 return Ok(Some(FileSize {
@@ -74,25 +74,16 @@ pub struct SlotFile {
 pub fn file_in_slot(
     alloc: Global,
     pack: &[u8],
-    area: u16,
+    area: Area,
     slot: u16,
 ) -> Result<Option<SlotFile>, ListFault> {
     let areas = mount_slots(alloc, pack)?;
-    match slots_of(&areas, area).get(usize::from(slot)) {
+    match areas.slots_of(area).get(usize::from(slot)) {
         Some(Slot::Sound(label)) => Ok(Some(SlotFile {
             name: label.name,
             records: label.count,
         })),
         _ => Ok(None),
-    }
-}
-
-/// The slots of an area.
-fn slots_of(areas: &AreaSlots, area: u16) -> &[Slot] {
-    match area {
-        0 => areas.masters(),
-        1 => areas.slots(LevelId::One),
-        _ => areas.slots(LevelId::Two),
     }
 }
 

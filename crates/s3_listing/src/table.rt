@@ -4,9 +4,8 @@ use crate::fault::ListFault;
 use crate::lines::{letter_of_organization, letter_of_retention};
 use crate::written::mount_slots;
 use s3_cards::{LevelId, Name, host_byte};
-use s3_labels::{AreaSlots, FileLabel, Format, Organization, Slot};
-use s3_pack_check::{Cause, CheckFault, Wrong, check_pack, push_cause};
-use s3_store::Stretch;
+use s3_labels::{Area, AreaSlots, FileLabel, Format, Organization, Slot};
+use s3_pack_check::{Cause, CheckFault, Wrong, check_pack, push_cause, region_of};
 use std::alloc::{AllocError, Global};
 use std::io::Write;
 
@@ -49,30 +48,9 @@ fn table_text(alloc: Global, slots: &AreaSlots, wrongs: &[Wrong]) -> Result<Stri
         text,
         "Pack of format {format}: {total} sectors, quotas {quota_one} and {quota_two}"
     )?;
-    push_area(
-        &mut text,
-        "Masters",
-        0,
-        header.masters,
-        slots.masters(),
-        wrongs,
-    )?;
-    push_area(
-        &mut text,
-        "Level 1",
-        1,
-        header.level_one,
-        slots.slots(LevelId::One),
-        wrongs,
-    )?;
-    push_area(
-        &mut text,
-        "Level 2",
-        2,
-        header.level_two,
-        slots.slots(LevelId::Two),
-        wrongs,
-    )?;
+    for area in Area::ALL {
+        push_area(&mut text, slots, area, wrongs)?;
+    }
     Ok(text)
 }
 
@@ -83,16 +61,25 @@ fn number_of(format: Format) -> u8 {
     }
 }
 
-/// Appends an area, 0 for the masters, 1 and 2 for the levels: its region, and a line for each used slot.
+/// What an area is called.
+pub fn area_title(area: Area) -> &'static str {
+    match area {
+        Area::Masters => "Masters",
+        Area::Level(LevelId::One) => "Level 1",
+        Area::Level(LevelId::Two) => "Level 2",
+    }
+}
+
+/// Appends an area: its region, and a line for each used slot.
 fn push_area(
     text: &mut String,
-    title: &str,
-    area: u16,
-    region: Stretch,
-    slots: &[Slot],
+    areas: &AreaSlots,
+    area: Area,
     wrongs: &[Wrong],
 ) -> Result<(), AllocError> {
-    let sectors = u32::from(region.sectors);
+    let title = area_title(area);
+    let slots = areas.slots_of(area);
+    let sectors = u32::from(region_of(areas, area).sectors);
     let tracks = sectors / TRACK;
     let free = sectors.saturating_sub(taken_sectors(slots)) / TRACK;
     let free_slots = slots.iter().filter(|slot| is_free(slot)).count();
@@ -114,7 +101,7 @@ fn push_area(
 }
 
 /// What is wrong with the slot of a number in an area, if anything is.
-fn cause_of(wrongs: &[Wrong], area: u16, number: usize) -> Option<Cause> {
+fn cause_of(wrongs: &[Wrong], area: Area, number: usize) -> Option<Cause> {
     for wrong in wrongs {
         if wrong.area == area && usize::from(wrong.slot) == number {
             return Some(wrong.cause);

@@ -9,7 +9,7 @@ ghost use Rattle.s3_listing.specs.Inner.Listing.{text_of as text_of_spec, listin
 use crate::fault::ListFault;
 use crate::lines::push_area;
 use s3_cards::LevelId;
-use s3_labels::{AreaSlots, Pack, Refusal, Refused};
+use s3_labels::{Area, AreaSlots, Pack, Refusal, Refused};
 use s3_store::MemoryStore;
 use std::alloc::{AllocError, Global};
 use std::io::Write;
@@ -58,8 +58,10 @@ fn text_of(alloc: Global, slots: &AreaSlots) -> Result<Vec<u8>, AllocError>
     ensures { IfOk result (λ text. text.items ≡ text_of_spec slots.now) }
 {
     let mut text = Vec::new(alloc);
-    push_area(&mut text, 0, slots.masters())?;
-    push_area(&mut text, 1, slots.slots(LevelId::One))?;
-    push_area(&mut text, 2, slots.slots(LevelId::Two))?;
+    push_area(&mut text, Area::Masters, slots.masters())?;
+    let level_one = Area::Level(LevelId::One);
+    push_area(&mut text, level_one, slots.slots(LevelId::One))?;
+    let level_two = Area::Level(LevelId::Two);
+    push_area(&mut text, level_two, slots.slots(LevelId::Two))?;
     Ok(text)
 }

@@ -35,32 +35,32 @@ own_slots One areas = refl
 own_slots Two areas = refl
 
 -- a refusal that names the first damaged slot of the level's area
-pub first_named : (order : Order) (areas : Areas) (contents : List (List ℕ)) (area : ℕ) (fault : LoadFault) → order.appends ≡ false → IsMounted areas contents → area ≡ area_of order.level → NamesFirst (slots_in area areas) fault
+pub first_named : (order : Order) (areas : Areas) (contents : List (List ℕ)) (fault : LoadFault) → order.appends ≡ false → IsMounted areas contents → NamesFirst (slots_in (area_of order.level) areas) fault
     → NamesDamaged order contents fault
-first_named order areas contents area refused.NoMemory anew is own h = tt
-first_named order areas contents area refused.File anew is own h = tt
-first_named order areas contents area (refused.OpenQuote line) anew is own h = tt
-first_named order areas contents area refused.NoHeading anew is own h = tt
-first_named order areas contents area (refused.Heading faults) anew is own h = tt
-first_named order areas contents area (refused.Values faults count) anew is own h = tt
-first_named order areas contents area (refused.Mount fault) anew is own h = tt
-first_named order areas contents area (refused.Label fault) anew is own h = tt
-first_named order areas contents area (refused.DamagedSlot slot) anew is own h = record {
+first_named order areas contents refused.NoMemory anew is h = tt
+first_named order areas contents refused.File anew is h = tt
+first_named order areas contents (refused.OpenQuote line) anew is h = tt
+first_named order areas contents refused.NoHeading anew is h = tt
+first_named order areas contents (refused.Heading faults) anew is h = tt
+first_named order areas contents (refused.Values faults count) anew is h = tt
+first_named order areas contents (refused.Mount fault) anew is h = tt
+first_named order areas contents (refused.Label fault) anew is h = tt
+first_named order areas contents (refused.DamagedSlot slot) anew is h = record {
   anew = anew;
   header = areas.header;
   mounts = is.mounts;
   first =
       sym (ap (λ (a : Areas). first_damaged (slots_at order.level a)) is.judged)
-      ∙ sym (ap (λ n. first_damaged (slots_in n areas)) own ∙ ap first_damaged (own_slots order.level areas))
+      ∙ sym (ap first_damaged (own_slots order.level areas))
       ∙ h;
 }
-first_named order areas contents area refused.NoName anew is own h = tt
-first_named order areas contents area refused.NoKey anew is own h = tt
-first_named order areas contents area refused.NoRoom anew is own h = tt
-first_named order areas contents area (refused.Full room count) anew is own h = tt
-first_named order areas contents area refused.OtherKind anew is own h = tt
-first_named order areas contents area (refused.OtherShape old new) anew is own h = tt
-first_named order areas contents area refused.BadIndex anew is own h = tt
+first_named order areas contents refused.NoName anew is h = tt
+first_named order areas contents refused.NoKey anew is h = tt
+first_named order areas contents refused.NoRoom anew is h = tt
+first_named order areas contents (refused.Full room count) anew is h = tt
+first_named order areas contents refused.OtherKind anew is h = tt
+first_named order areas contents (refused.OtherShape old new) anew is h = tt
+first_named order areas contents refused.BadIndex anew is h = tt
 
 -- .. of a pack by its bytes
 pub same_named : (order : Order) (pool contents : List (List ℕ)) (fault : LoadFault) → pool ≡ contents → NamesDamaged order pool fault → NamesDamaged order contents fault

@@ -1,6 +1,7 @@
 //! A table loaded into a file of a pack.
 ghost use Rattle.std.specs.Prelude.{◌≡◌, ◌<◌, ◌≤◌, ℕ, List, None, Some, length, false, IfOk, OnOk, IfErr};
 ghost use Rattle.s3_slots.specs.Inner.Kept.{IsOfPack};
+ghost use Rattle.s3_labels.specs.Inner.AreaNumbers.{area_number};
 ghost use Rattle.s3_labels.specs.Contents.{contents_of};
 ghost use Rattle.s3_labels.specs.Inner.Areas.{IsReady, slots_in};
 ghost use Rattle.s3_pack_check.specs.Inner.Damages.{first_damaged as first_damaged_spec};
@@ -22,7 +23,7 @@ use crate::quotes::refuse_open_quote;
 use crate::rows::Row;
 use crate::shape::refuse_other_shape;
 use crate::table::read_table;
-use s3_labels::{AreaSlots, FileLabel, Pack, Refusal, Refused, Standing, area_of};
+use s3_labels::{Area, AreaSlots, FileLabel, Pack, Refusal, Refused, Standing};
 use s3_pack_care::{bytes_after, saved};
 use s3_pack_check::first_damaged;
 use s3_slots::standing_of;
@@ -197,17 +198,16 @@ fn made_file(
     ensures long { OnOk result (length mounted.new.pool ≡ length mounted.old.pool) }
     ensures damaged { IfErr result (NamesDamaged order.now mounted.old.pool) }
 {
-    refuse_damaged(&mounted.areas, area_of(order.level))?;
+    refuse_damaged(&mounted.areas, Area::Level(order.level))?;
     let new = new_file(order, count)?;
     let label = mounted.make(order.level, &new)?;
     Ok(label)
 }
 
 /// Refuses an area that has a damaged slot.
-fn refuse_damaged(areas: &AreaSlots, area: u16) -> Result<(), LoadFault>
-    requires { area < 3 }
-    ensures none { OnOk result (first_damaged_spec (slots_in area areas.now) ≡ None) }
-    ensures first { IfErr result (NamesFirst (slots_in area areas.now)) }
+fn refuse_damaged(areas: &AreaSlots, area: Area) -> Result<(), LoadFault>
+    ensures none { OnOk result (first_damaged_spec (slots_in (area_number area) areas.now) ≡ None) }
+    ensures first { IfErr result (NamesFirst (slots_in (area_number area) areas.now)) }
 {
     match first_damaged(areas, area) {
         Some(slot) => Err(LoadFault::DamagedSlot(slot)),

@@ -12,6 +12,7 @@ ghost use Rattle.s3_slots.specs.Making.{tracks_of};
 ghost use Rattle.s3_slots.specs.Slots.{labels_at, standing};
 ghost use Rattle.s3_slots.specs.declared.slot.Standing.TheVariants.{Absent};
 ghost use Rattle.s3_cards.specs.Names.{is_name as is_name_spec};
+ghost use Rattle.s3_labels.specs.Inner.AreaNumbers.{area_number};
 ghost use Rattle.s3_labels.specs.Contents.{contents_of};
 ghost use Rattle.s3_labels.specs.Inner.Areas.{IsReady, slots_in};
 ghost use Rattle.s3_pack_check.specs.Inner.Damages.{first_damaged as first_damaged_spec};
@@ -23,10 +24,10 @@ ghost use Rattle.s3_pack_care.specs.Inner.Copied.{IsCopy, IsRoom, IsSource, Refu
 use crate::fault::CareFault;
 use crate::relabelling::{MountedPack, mount};
 use crate::saving::{bytes_after, saved};
-use s3_cards::{Name, is_name};
+use s3_cards::{LevelId, Name, is_name};
 use s3_files::{FileSectors, write_bytes};
-use s3_labels::{AreaSlots, FileLabel, LabelFault, NewFile, Size, Slot, Standing};
-use s3_pack_check::{file_bytes, first_damaged, region_of, sector_count, slots_of};
+use s3_labels::{Area, AreaSlots, FileLabel, LabelFault, NewFile, Size, Slot, Standing};
+use s3_pack_check::{file_bytes, first_damaged, region_of, sector_count};
 use s3_slots::{bytes_of, make_in, standing_of};
 use s3_store::{MemoryStore, Sectors};
 use std::alloc::{AllocError, Global};
@@ -42,13 +43,13 @@ struct Source {
 fn mount_source(
     alloc: Global,
     store: MemoryStore,
-    area: u16,
+    area: Area,
     name: Name,
 ) -> Result<MountedPack, CareFault>
     ensures same { IfOk result (λ pack. pack.store ≡ store) }
     ensures mounted { IfOk result (λ pack. IsMounted pack.areas pack.store) }
     ensures ready { IfOk result (λ pack. IsReady pack.areas pack.store) }
-    ensures refused { IfErr result (RefusesSource area name store) }
+    ensures refused { IfErr result (RefusesSource (area_number area) name store) }
 {
     match mount(alloc, store) {
         Ok(pack) => Ok(pack),
@@ -63,16 +64,15 @@ fn read_file(
     alloc: Global,
     store: &mut MemoryStore,
     areas: &AreaSlots,
-    area: u16,
+    area: Area,
     name: Name,
 ) -> Result<Source, CareFault>
-    requires area { area < 3 }
     requires mounted { IsMounted areas.now store.old }
     requires ready { IsReady areas.now store.old }
-    ensures source { IfOk result (λ source. IsSource area name source.label source.bytes.items store.old) }
-    ensures refused { IfErr result (RefusesSource area name store.old) }
+    ensures source { IfOk result (λ source. IsSource (area_number area) name source.label source.bytes.items store.old) }
+    ensures refused { IfErr result (RefusesSource (area_number area) name store.old) }
 {
-    match standing_of(name, slots_of(areas, area)) {
+    match standing_of(name, areas.slots_of(area)) {
         Standing::Absent => Err(CareFault::SourceLabel(LabelFault::NotFound)),
         Standing::Blocked => Err(CareFault::SourceLabel(LabelFault::DamagedLabel)),
         Standing::Present(label) => match file_bytes(alloc, store, &label) {
@@ -84,10 +84,9 @@ fn read_file(
 
 /// Reads the file of a label in an area of a pack. Refused with `SourceMount`, with `SourceLabel` if there is no such file, and
 /// with `NoMemory`.
-fn source_of(alloc: Global, pack: Vec<u8>, area: u16, name: Name) -> Result<Source, CareFault>
-    requires { area < 3 }
-    ensures source { IfOk result (λ source. IsSource area name source.label source.bytes.items (contents_of pack.items)) }
-    ensures refused { IfErr result (RefusesSource area name (contents_of pack.items)) }
+fn source_of(alloc: Global, pack: Vec<u8>, area: Area, name: Name) -> Result<Source, CareFault>
+    ensures source { IfOk result (λ source. IsSource (area_number area) name source.label source.bytes.items (contents_of pack.items)) }
+    ensures refused { IfErr result (RefusesSource (area_number area) name (contents_of pack.items)) }
 {
     let MountedPack { mut store, areas } = mount_source(
         alloc,
@@ -129,24 +128,23 @@ fn asked(name: Name, source: &FileLabel) -> NewFile
 }
 
 /// The masters' slots if a level gets the file, which must not have the label of a master; none if the masters get it.
-fn masters_beside(areas: &AreaSlots, area: u16) -> &[Slot]
-    ensures { result.now ≡ masters_beside_spec area areas.now }
+fn masters_beside(areas: &AreaSlots, area: Area) -> &[Slot]
+    ensures { result.now ≡ masters_beside_spec (area_number area) areas.now }
 {
     match area {
-        0 => &[],
-        _ => areas.masters(),
+        Area::Masters => &[],
+        Area::Level(LevelId::One | LevelId::Two) => areas.masters(),
     }
 }
 
 /// Checks that an area without damage has no file of a name. Refused with `NoName`, with `Damaged` if a slot of the area is
 /// damaged, and with `Exists` if a file has the name.
 #[tactic(auto, using(crate::proofs::Refusals::exists_there, crate::proofs::Refusals::unblocked))]
-fn unused(areas: &AreaSlots, area: u16, name: Name, source: &FileLabel) -> Result<(), CareFault>
-    requires area { area < 3 }
+fn unused(areas: &AreaSlots, area: Area, name: Name, source: &FileLabel) -> Result<(), CareFault>
     ensures named { OnOk result (is_name_spec name.codes ≡ true) }
-    ensures undamaged { OnOk result (first_damaged_spec (slots_in area areas.now) ≡ None) }
-    ensures absent { OnOk result (standing name (slots_in area areas.now) ≡ Absent) }
-    ensures refused { IfErr result (RefusesRoom area name source.now areas.now) }
+    ensures undamaged { OnOk result (first_damaged_spec (slots_in (area_number area) areas.now) ≡ None) }
+    ensures absent { OnOk result (standing name (slots_in (area_number area) areas.now) ≡ Absent) }
+    ensures refused { IfErr result (RefusesRoom (area_number area) name source.now areas.now) }
 {
     if !is_name(&name.codes) {
         return Err(CareFault::NoName);
@@ -154,7 +152,7 @@ fn unused(areas: &AreaSlots, area: u16, name: Name, source: &FileLabel) -> Resul
     if let Some(damaged) = first_damaged(areas, area) {
         return Err(CareFault::Damaged(damaged));
     }
-    match standing_of(name, slots_of(areas, area)) {
+    match standing_of(name, areas.slots_of(area)) {
         Standing::Present(_) => Err(CareFault::Exists),
         Standing::Absent | Standing::Blocked => Ok(()),
     }
@@ -166,23 +164,22 @@ fn unused(areas: &AreaSlots, area: u16, name: Name, source: &FileLabel) -> Resul
 fn room_for(
     alloc: Global,
     areas: &AreaSlots,
-    area: u16,
+    area: Area,
     name: Name,
     source: &FileLabel,
 ) -> Result<(u16, FileLabel), CareFault>
-    requires area { area < 3 }
-    requires fits { end_of (region_in area areas.now) ≤ 65535 }
-    requires whole { IsWhole (region_in area areas.now) }
+    requires fits { end_of (region_in (area_number area) areas.now) ≤ 65535 }
+    requires whole { IsWhole (region_in (area_number area) areas.now) }
     requires key { source.now.key_length ≤ 29 }
     requires length { 1 ≤ source.now.record_length }
     requires some { 24 ≤ length (sectors_of source.now) }
     ensures slot { IfOk result (λ room. room.0 < 32) }
     ensures named { IfOk result (λ room. is_name_spec name.codes ≡ true) }
-    ensures room { IfOk result (λ room. IsRoom area name source.now areas.now room.0 room.1) }
-    ensures refused { IfErr result (RefusesRoom area name source.now areas.now) }
+    ensures room { IfOk result (λ room. IsRoom (area_number area) name source.now areas.now room.0 room.1) }
+    ensures refused { IfErr result (RefusesRoom (area_number area) name source.now areas.now) }
 {
     unused(areas, area, name, source)?;
-    let mut slots = slots_copied(alloc, slots_of(areas, area))?;
+    let mut slots = slots_copied(alloc, areas.slots_of(area))?;
     let made = match make_in(
         areas.header().format,
         region_of(areas, area),
@@ -212,20 +209,19 @@ fn know_widths(codes: &[u8; 8], date: &[u8; 6])
 /// Writes a label into slot `slot`, 0 to 31, of an area. Refused with `NoMemory`.
 fn write_label(
     store: &mut MemoryStore,
-    area: u16,
+    area: Area,
     slot: u16,
     label: &FileLabel,
 ) -> Result<(), CareFault>
-    requires area { area < 3 }
     requires slot { slot < 32 }
     requires room { 25 ≤ length store.old }
-    ensures written { OnOk result (store.new ≡ with_piece store.old (labels_at area + slot / 4) (slot % 4 * 64) (label_bytes label.now)) }
+    ensures written { OnOk result (store.new ≡ with_piece store.old (labels_at (area_number area) + slot / 4) (slot % 4 * 64) (label_bytes label.now)) }
     ensures width { length (label_bytes label.now) ≡ 64 }
     ensures count { length store.new ≡ length store.old }
     ensures fault { IfErr result (λ fault. fault ≡ CareFault.NoMemory) }
 {
     let bytes = bytes_of(label);
-    let sector = 1 + 8 * area + slot / 4;
+    let sector = area.label_sector(slot);
     match store.change_sector(sector, usize::from(slot % 4) * 64, &bytes) {
         Ok(()) => Ok(()),
         // a store in memory never fails
@@ -255,17 +251,15 @@ fn write_file(store: &mut MemoryStore, label: &FileLabel, bytes: &[u8]) -> Resul
 fn with_copy(
     alloc: Global,
     from: Vec<u8>,
-    from_area: u16,
+    from_area: Area,
     name: Name,
     into: MemoryStore,
-    area: u16,
+    area: Area,
     new_name: Name,
 ) -> Result<MemoryStore, CareFault>
-    requires from_area { from_area < 3 }
-    requires area { area < 3 }
-    ensures copied { IfOk result (IsCopy from_area name area new_name (contents_of from.items) into) }
-    ensures only { IfOk result (ChangesFile area new_name (λ i. ⊥) into) }
-    ensures refused { IfErr result (RefusesCopy from_area name area new_name (contents_of from.items) into) }
+    ensures copied { IfOk result (IsCopy (area_number from_area) name (area_number area) new_name (contents_of from.items) into) }
+    ensures only { IfOk result (ChangesFile (area_number area) new_name (λ i. ⊥) into) }
+    ensures refused { IfErr result (RefusesCopy (area_number from_area) name (area_number area) new_name (contents_of from.items) into) }
 {
     let source = source_of(alloc, from, from_area, name)?;
     let MountedPack { mut store, areas } = mount(alloc, into)?;
@@ -277,8 +271,8 @@ fn with_copy(
 }
 
 /// A pack with a copy of a file: of the file of a label in an area of a pack, into an area of another or the same, under a label
-/// that no file there has. The copy has the same records in the same order, and the same index. An area is 0 for the masters, 1
-/// or 2 for a level. The copy gets a free slot and free sectors, and no other byte of the pack changes.
+/// that no file there has. The copy has the same records in the same order, and the same index. It gets a free slot and
+/// free sectors, and no other byte of the pack changes.
 ///
 /// Refused with `SourceMount` or `Mount` by a header; with `SourceLabel` if there is no such file, or a damaged slot blocks its
 /// label; with `NoName` if the label of the copy isn't a name; with `Damaged` if a slot of the area is damaged, so that nothing
@@ -288,17 +282,15 @@ fn with_copy(
 pub fn copy(
     alloc: Global,
     from: Vec<u8>,
-    from_area: u16,
+    from_area: Area,
     name: Name,
     into: Vec<u8>,
-    area: u16,
+    area: Area,
     new_name: Name,
 ) -> Result<Vec<u8>, CareFault>
-    requires from_area { from_area < 3 }
-    requires area { area < 3 }
-    ensures copied { IfOk result (λ new. IsCopy from_area name area new_name (contents_of from.items) (contents_of into.items) (contents_of new.items)) }
-    ensures only { IfOk result (λ new. ChangesBytes (IsInLabelled area new_name (contents_of new.items)) into.items new.items) }
-    ensures refused { IfErr result (RefusesCopy from_area name area new_name (contents_of from.items) (contents_of into.items)) }
+    ensures copied { IfOk result (λ new. IsCopy (area_number from_area) name (area_number area) new_name (contents_of from.items) (contents_of into.items) (contents_of new.items)) }
+    ensures only { IfOk result (λ new. ChangesBytes (IsInLabelled (area_number area) new_name (contents_of new.items)) into.items new.items) }
+    ensures refused { IfErr result (RefusesCopy (area_number from_area) name (area_number area) new_name (contents_of from.items) (contents_of into.items)) }
 {
     let after = Vec::from_slice(alloc, bytes_after(&into))?;
     let store = with_copy(

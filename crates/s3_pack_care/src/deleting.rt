@@ -5,6 +5,7 @@ ghost use Rattle.s3_slots.specs.Making.{is_permanent as is_permanent_spec};
 ghost use Rattle.s3_slots.specs.Placement.{is_free as is_free_spec};
 ghost use Rattle.s3_slots.specs.Slots.{slot_bytes};
 ghost use Rattle.s3_slots.specs.declared.header.Header.{Header};
+ghost use Rattle.s3_labels.specs.Inner.AreaNumbers.{area_number};
 ghost use Rattle.s3_labels.specs.Contents.{contents_of};
 ghost use Rattle.s3_labels.specs.Inner.Areas.{areas_on, slots_in};
 ghost use Rattle.s3_pack_care.specs.Inner.Kept.{IsWithout};
@@ -16,8 +17,7 @@ use crate::relabelling::{MountedPack, mount, relabelled};
 use crate::saving::{bytes_after, saved};
 use s3_cards::ebcdic::LETTER_P;
 use s3_cards::{Name, Retention};
-use s3_labels::{AreaSlots, Slot};
-use s3_pack_check::slots_of;
+use s3_labels::{Area, AreaSlots, Slot};
 use s3_slots::place_in;
 use s3_store::{MemoryStore, Sectors};
 use std::alloc::Global;
@@ -33,14 +33,13 @@ pub enum Chosen {
 
 /// The slot, 0 to 31, that is meant. Refused with `Label` if no sound file has the label, and with `NoSlot` if there is no such
 /// slot.
-fn slot_of(areas: &AreaSlots, area: u16, chosen: Chosen) -> Result<u16, CareFault>
-    requires { area < 3 }
+fn slot_of(areas: &AreaSlots, area: Area, chosen: Chosen) -> Result<u16, CareFault>
     ensures within { IfOk result (λ slot. slot < 32) }
-    ensures chosen { IfOk result (λ slot. chosen_in chosen (slots_in area areas.now) ≡ Some slot) }
-    ensures refused { IfErr result (RefusesLabel chosen (slots_in area areas.now)) }
+    ensures chosen { IfOk result (λ slot. chosen_in chosen (slots_in (area_number area) areas.now) ≡ Some slot) }
+    ensures refused { IfErr result (RefusesLabel chosen (slots_in (area_number area) areas.now)) }
 {
     match chosen {
-        Chosen::Label(name) => match place_in(name, slots_of(areas, area)) {
+        Chosen::Label(name) => match place_in(name, areas.slots_of(area)) {
             Ok(place) => Ok(place as u16),
             Err(fault) => Err(CareFault::Label(fault)),
         },
@@ -55,16 +54,15 @@ fn slot_of(areas: &AreaSlots, area: u16, chosen: Chosen) -> Result<u16, CareFaul
 }
 
 /// Reads the 64 bytes of slot `i`, 0 to 31, of an area. Refused with `NoMemory`.
-fn read_slot(store: &mut MemoryStore, area: u16, i: u16) -> Result<[u8; 64], CareFault>
-    requires area { area < 3 }
+fn read_slot(store: &mut MemoryStore, area: Area, i: u16) -> Result<[u8; 64], CareFault>
     requires slot { i < 32 }
     requires room { 25 ≤ length store.old }
-    ensures ok { IfOk result (λ bytes. bytes ≡ slot_bytes area store.old i) }
+    ensures ok { IfOk result (λ bytes. bytes ≡ slot_bytes (area_number area) store.old i) }
     ensures keeps { store.new ≡ store.old }
     ensures fault { IfErr result (λ fault. fault ≡ CareFault.NoMemory) }
 {
     let mut bytes = [0; 64];
-    match store.read_part(1 + 8 * area + i / 4, usize::from(i % 4) * 64, &mut bytes) {
+    match store.read_part(area.label_sector(i), usize::from(i % 4) * 64, &mut bytes) {
         Ok(()) => Ok(bytes),
         // a store in memory never fails
         Err(_) => Err(CareFault::NoMemory),
@@ -130,14 +128,13 @@ fn permit(slot: &Slot, bytes: &[u8; 64], is_permanent_meant: bool) -> Result<(),
 fn freed(
     alloc: Global,
     store: MemoryStore,
-    area: u16,
+    area: Area,
     chosen: Chosen,
     is_permanent_meant: bool,
 ) -> Result<MemoryStore, CareFault>
-    requires { area < 3 }
-    ensures freed { IfOk result (IsFreed area chosen store) }
-    ensures permitted { IfOk result (λ new. MayGo area chosen is_permanent_meant store) }
-    ensures refused { IfErr result (RefusesDelete area chosen is_permanent_meant store) }
+    ensures freed { IfOk result (IsFreed (area_number area) chosen store) }
+    ensures permitted { IfOk result (λ new. MayGo (area_number area) chosen is_permanent_meant store) }
+    ensures refused { IfErr result (RefusesDelete (area_number area) chosen is_permanent_meant store) }
 {
     let MountedPack { mut store, areas } = mount(alloc, store)?;
     let slot = slot_of(&areas, area, chosen)?;
@@ -152,8 +149,7 @@ fn freed(
     Ok(store)
 }
 
-/// The pack of these bytes without a file of an area: 0 for the masters, 1 and 2 for the levels. The slot of the file is filled with
-/// zeros, and no other byte changes.
+/// The pack of these bytes without a file of an area. The slot of the file is filled with zeros, and no other byte changes.
 ///
 /// Refused with `Mount` by the header; with `Label` if no sound file has the label, and with `NoFile` if the slot has none; with
 /// `NoSlot` if there is no such slot; with `Permanent` unless that is meant; with `Uncovers` if a slot that is damaged for what
@@ -162,15 +158,14 @@ fn freed(
 pub fn delete(
     alloc: Global,
     pack: Vec<u8>,
-    area: u16,
+    area: Area,
     chosen: Chosen,
     is_permanent_meant: bool,
 ) -> Result<Vec<u8>, CareFault>
-    requires { area < 3 }
-    ensures deleted { IfOk result (λ new. (header : Header) (slot : ℕ) → mounted (contents_of pack.items) ≡ Ok header → chosen_in chosen (slots_in area (areas_on header (contents_of pack.items))) ≡ Some slot → IsWithout area slot header (contents_of pack.items) (contents_of new.items)) }
-    ensures only { IfOk result (λ new. ChangesBytes (IsInChosen area chosen (contents_of pack.items)) pack.items new.items) }
-    ensures permitted { IfOk result (λ new. MayGo area chosen is_permanent_meant (contents_of pack.items)) }
-    ensures refused { IfErr result (RefusesDelete area chosen is_permanent_meant (contents_of pack.items)) }
+    ensures deleted { IfOk result (λ new. (header : Header) (slot : ℕ) → mounted (contents_of pack.items) ≡ Ok header → chosen_in chosen (slots_in (area_number area) (areas_on header (contents_of pack.items))) ≡ Some slot → IsWithout (area_number area) slot header (contents_of pack.items) (contents_of new.items)) }
+    ensures only { IfOk result (λ new. ChangesBytes (IsInChosen (area_number area) chosen (contents_of pack.items)) pack.items new.items) }
+    ensures permitted { IfOk result (λ new. MayGo (area_number area) chosen is_permanent_meant (contents_of pack.items)) }
+    ensures refused { IfErr result (RefusesDelete (area_number area) chosen is_permanent_meant (contents_of pack.items)) }
 {
     let after = Vec::from_slice(alloc, bytes_after(&pack))?;
     let store = freed(

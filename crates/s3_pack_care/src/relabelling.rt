@@ -1,11 +1,13 @@
 //! A slot written, and all slots judged again.
 ghost use Rattle.std.specs.Prelude.{◌≡◌, ◌≢◌, ◌<◌, ℕ, true, length, slice_get, Ok, Some, IfOk, IfErr, IfNone, IfSome, ◌&&◌, not, nat_eq};
 ghost use Rattle.s3_slots.specs.Header.{mounted};
+ghost use Rattle.s3_labels.specs.Inner.AreaNumbers.{area_number};
 ghost use Rattle.s3_labels.specs.Inner.Areas.{IsReady, slots_in};
 ghost use Rattle.s3_pack_care.specs.Inner.Kept.{IsMounted, IsMountRefusal, IsOther, IsChanged, IsRelabelled, RefusesWritten, alike, fault_of as fault_of_spec, same_kind};
 
 use crate::fault::CareFault;
-use s3_labels::{AreaSlots, Pack, Refusal, Refused, Slot};
+use s3_cards::LevelId;
+use s3_labels::{Area, AreaSlots, Pack, Refusal, Refused, Slot};
 use s3_store::{MemoryStore, Sectors};
 use std::alloc::Global;
 
@@ -31,10 +33,9 @@ fn is_same_kind(old: &Slot, new: &Slot) -> bool
 }
 
 /// Whether slot `i`, 0 to 31, of an area is of the same kind in two packs.
-fn is_alike(old: &AreaSlots, new: &AreaSlots, area: u16, i: u16) -> bool
-    requires area { area < 3 }
+fn is_alike(old: &AreaSlots, new: &AreaSlots, area: Area, i: u16) -> bool
     requires slot { i < 32 }
-    ensures { result ≡ alike (slice_get (slots_in area old.now) i) (slice_get (slots_in area new.now) i) }
+    ensures { result ≡ alike (slice_get (slots_in (area_number area) old.now) i) (slice_get (slots_in (area_number area) new.now) i) }
 {
     is_same_kind(
         old.slot(area, usize::from(i)),
@@ -43,20 +44,18 @@ fn is_alike(old: &AreaSlots, new: &AreaSlots, area: u16, i: u16) -> bool
 }
 
 /// Whether slot `i`, 0 to 31, of an area is another one than that which was written, and isn't of the kind that it was.
-fn is_changed(old: &AreaSlots, new: &AreaSlots, area: u16, written: u16, i: u16) -> bool
-    requires area { area < 3 }
+fn is_changed(old: &AreaSlots, new: &AreaSlots, area: Area, written: u16, i: u16) -> bool
     requires slot { i < 32 }
-    ensures { result ≡ (not (nat_eq i written) && not (alike (slice_get (slots_in area old.now) i) (slice_get (slots_in area new.now) i))) }
+    ensures { result ≡ (not (nat_eq i written) && not (alike (slice_get (slots_in (area_number area) old.now) i) (slice_get (slots_in (area_number area) new.now) i))) }
 {
     i != written && !is_alike(old, new, area, i)
 }
 
 /// The first slot of an area, except for the one that was written, that isn't of the kind that it was.
-fn first_other(old: &AreaSlots, new: &AreaSlots, area: u16, written: u16) -> Option<u16>
-    requires { area < 3 }
-    ensures none { IfNone result ((i : ℕ) → i < 32 → i ≢ written → alike (slice_get (slots_in area old.now) i) (slice_get (slots_in area new.now) i) ≡ true) }
+fn first_other(old: &AreaSlots, new: &AreaSlots, area: Area, written: u16) -> Option<u16>
+    ensures none { IfNone result ((i : ℕ) → i < 32 → i ≢ written → alike (slice_get (slots_in (area_number area) old.now) i) (slice_get (slots_in (area_number area) new.now) i) ≡ true) }
     ensures few { IfSome result (λ i. i < 32) }
-    ensures changed { IfSome result (λ i. (not (nat_eq i written) && not (alike (slice_get (slots_in area old.now) i) (slice_get (slots_in area new.now) i))) ≡ true) }
+    ensures changed { IfSome result (λ i. (not (nat_eq i written) && not (alike (slice_get (slots_in (area_number area) old.now) i) (slice_get (slots_in (area_number area) new.now) i))) ≡ true) }
 {
     for i in 0..32u16 {
         if is_changed(old, new, area, written, i) {
@@ -66,7 +65,19 @@ fn first_other(old: &AreaSlots, new: &AreaSlots, area: u16, written: u16) -> Opt
     None
 }
 
-/// The slot of an area that was written: that one in its own area, and none, 32, in another.
+/// The area of a number, 0 to 2.
+fn area_of(number: u16) -> Area
+    requires { number < 3 }
+    ensures { area_number result ≡ number }
+{
+    match number {
+        0 => Area::Masters,
+        1 => Area::Level(LevelId::One),
+        _ => Area::Level(LevelId::Two),
+    }
+}
+
+/// The slot of area `a`, 0 to 2, that was written: that one in its own area, and none, 32, in another.
 fn written_in(a: u16, area: u16, slot: u16) -> u16
     ensures own { a ≡ area → result ≡ slot }
     ensures none { a ≢ area → result ≡ 32 }
@@ -75,13 +86,13 @@ fn written_in(a: u16, area: u16, slot: u16) -> u16
 }
 
 /// The first slot of the three areas, except for the one that was written, that isn't of the kind that it was.
-fn first_changed(old: &AreaSlots, new: &AreaSlots, area: u16, slot: u16) -> Option<u16>
-    requires { area < 3 }
-    ensures none { IfNone result ((a i : ℕ) → IsOther area slot a i → alike (slice_get (slots_in a old.now) i) (slice_get (slots_in a new.now) i) ≡ true) }
-    ensures some { IfSome result (IsChanged area slot old.now new.now) }
+fn first_changed(old: &AreaSlots, new: &AreaSlots, area: Area, slot: u16) -> Option<u16>
+    ensures none { IfNone result ((a i : ℕ) → IsOther (area_number area) slot a i → alike (slice_get (slots_in a old.now) i) (slice_get (slots_in a new.now) i) ≡ true) }
+    ensures some { IfSome result (IsChanged (area_number area) slot old.now new.now) }
 {
+    let own = area.number();
     for a in 0..3u16 {
-        if let Some(other) = first_other(old, new, a, written_in(a, area, slot)) {
+        if let Some(other) = first_other(old, new, area_of(a), written_in(a, own, slot)) {
             return Some(other);
         }
     }
@@ -116,22 +127,21 @@ fn fault_of(refusal: Refusal) -> CareFault
 pub fn relabelled(
     alloc: Global,
     pack: MountedPack,
-    area: u16,
+    area: Area,
     slot: u16,
     bytes: &[u8; 64],
 ) -> Result<MountedPack, CareFault>
-    requires area { area < 3 }
     requires slot { slot < 32 }
     requires mounted { IsMounted pack.areas pack.store }
     requires ready { IsReady pack.areas pack.store }
-    ensures ok { IfOk result (λ new. IsRelabelled area slot bytes.now pack.areas.header pack.store new.store) }
+    ensures ok { IfOk result (λ new. IsRelabelled (area_number area) slot bytes.now pack.areas.header pack.store new.store) }
     ensures long { IfOk result (λ new. length new.store ≡ length pack.store) }
     ensures mounted { IfOk result (λ new. IsMounted new.areas new.store) }
     ensures ready { IfOk result (λ new. IsReady new.areas new.store) }
-    ensures refused { IfErr result (RefusesWritten area slot bytes.now pack.areas.header pack.store) }
+    ensures refused { IfErr result (RefusesWritten (area_number area) slot bytes.now pack.areas.header pack.store) }
 {
     let MountedPack { mut store, areas } = pack;
-    let sector = 1 + 8 * area + slot / 4;
+    let sector = area.label_sector(slot);
     if let Err(_fault) = store.change_sector(sector, usize::from(slot % 4) * 64, bytes) {
         return Err(CareFault::NoMemory);
     }

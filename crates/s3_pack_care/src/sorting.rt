@@ -4,6 +4,7 @@ ghost use Rattle.std.specs.List.{All};
 ghost use Rattle.s3_slots.specs.Inner.Kept.{IsOfPack};
 ghost use Rattle.s3_slots.specs.Labels.{sectors_of};
 ghost use Rattle.s3_slots.specs.declared.label.Organization.TheVariants.{Sequential as SequentialVariant};
+ghost use Rattle.s3_labels.specs.Inner.AreaNumbers.{area_number};
 ghost use Rattle.s3_labels.specs.Contents.{contents_of};
 ghost use Rattle.s3_files.specs.Inner.Files.{AreStored, file_of, records};
 ghost use Rattle.s3_pack_care.specs.Inner.Frames.{ChangesBytes, ChangesRecords, IsInFile};
@@ -18,8 +19,7 @@ use crate::sort_fault::SortFault;
 use crate::{MountedPack, mount};
 use s3_cards::Name;
 use s3_files::Sequential;
-use s3_labels::{FileLabel, LabelFault, Organization, Standing};
-use s3_pack_check::slots_of;
+use s3_labels::{Area, FileLabel, LabelFault, Organization, Standing};
 use s3_slots::standing_of;
 use s3_store::MemoryStore;
 use std::alloc::Global;
@@ -90,17 +90,16 @@ fn sort_label(
 fn sorted(
     alloc: Global,
     store: MemoryStore,
-    area: u16,
+    area: Area,
     name: Name,
     fields: &[SortField],
 ) -> Result<MemoryStore, SortFault>
-    requires { area < 3 }
-    ensures sorted { IfOk result (IsSorted area name fields.now store) }
-    ensures only { IfOk result (ChangesRecords area name store) }
-    ensures refused { IfErr result (RefusesSort area name fields.now store) }
+    ensures sorted { IfOk result (IsSorted (area_number area) name fields.now store) }
+    ensures only { IfOk result (ChangesRecords (area_number area) name store) }
+    ensures refused { IfErr result (RefusesSort (area_number area) name fields.now store) }
 {
     let MountedPack { mut store, areas } = mount(alloc, store)?;
-    match standing_of(name, slots_of(&areas, area)) {
+    match standing_of(name, areas.slots_of(area)) {
         Standing::Absent => Err(SortFault::Label(LabelFault::NotFound)),
         Standing::Blocked => Err(SortFault::Label(LabelFault::DamagedLabel)),
         Standing::Present(label) => {
@@ -111,22 +110,20 @@ fn sorted(
 }
 
 /// The pack of these bytes with the records of a file sorted by the fields, the first field first. Records that are equal in all
-/// fields keep their order. The file must be a sequential one. No byte outside of its records changes. An area is 0 for the
-/// masters, 1 or 2 for a level.
+/// fields keep their order. The file must be a sequential one. No byte outside of its records changes.
 ///
 /// Refused with `Mount` by the header; with `Label` if no sound file has the label; with `NotInOrder` if the file is indexed or
 /// direct; with `Field` if a field doesn't fit its records; and with `NoMemory`.
 pub fn sort(
     alloc: Global,
     pack: Vec<u8>,
-    area: u16,
+    area: Area,
     name: Name,
     fields: &[SortField],
 ) -> Result<Vec<u8>, SortFault>
-    requires { area < 3 }
-    ensures sorted { IfOk result (λ new. IsSorted area name fields.now (contents_of pack.items) (contents_of new.items)) }
-    ensures only { IfOk result (λ new. ChangesBytes (IsInFile area name (contents_of pack.items)) pack.items new.items) }
-    ensures refused { IfErr result (RefusesSort area name fields.now (contents_of pack.items)) }
+    ensures sorted { IfOk result (λ new. IsSorted (area_number area) name fields.now (contents_of pack.items) (contents_of new.items)) }
+    ensures only { IfOk result (λ new. ChangesBytes (IsInFile (area_number area) name (contents_of pack.items)) pack.items new.items) }
+    ensures refused { IfErr result (RefusesSort (area_number area) name fields.now (contents_of pack.items)) }
 {
     let after = Vec::from_slice(alloc, bytes_after(&pack))?;
     let store = sorted(alloc, MemoryStore::from_bytes(pack), area, name, fields)?;

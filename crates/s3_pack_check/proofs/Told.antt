@@ -11,7 +11,11 @@ use Rattle.s3_slots.specs.declared.slot.Slot.{Slot}
 use Rattle.s3_slots.specs.declared.slot.Slot.TheVariants.{Damaged, Free, Sound}
 use Rattle.s3_store.specs.Bytes.{bytes_at}
 use Rattle.s3_labels.specs.Contents.{contents_of}
+use Rattle.s3_labels.specs.Inner.AreaNumbers.{area_number}
 use Rattle.s3_labels.specs.Inner.Areas.{Areas, IsRefusal, slots_in}
+use Rattle.s3_labels.specs.declared.area.Area.{Area}
+use Rattle.s3_labels.specs.declared.area.Area.TheVariants.{Level, Masters}
+use Rattle.s3_cards.specs.declared.levels.LevelId.TheVariants.{One, Two}
 use Rattle.s3_labels.specs.declared.fault.Refusal.{Refusal}
 use Rattle.s3_labels.specs.declared.fault.Refusal.TheVariants.{BadPack, Sectors}
 use Rattle.s3_pack_check.specs.Inner.Entries.{first_fault}
@@ -22,7 +26,7 @@ use Rattle.s3_pack_check.specs.declared.checking.Wrong.{Wrong}
 use Rattle.s3_pack_check.specs.declared.fault.CheckFault.{CheckFault}
 
 -- ---- what is reported for the slots of an area, one after another
-pub begun : (areas : Areas) (area : ℕ) (contents : List (List ℕ)) (before : List Wrong) → before ++ flat_map (slot_wrongs areas area contents) (range_with_len 0 (32 - 0)) ≡ before ++ area_wrongs areas area contents
+pub begun : (areas : Areas) (area : Area) (contents : List (List ℕ)) (before : List Wrong) → before ++ flat_map (slot_wrongs areas area contents) (range_with_len 0 (32 - 0)) ≡ before ++ area_wrongs areas area contents
 unfolding area_wrongs
 begun areas area contents before = refl
 
@@ -68,34 +72,34 @@ is_right_then true true cause h e = refl
 is_right_then true false cause h e = absurd cc
 is_right_then false good cause h e = absurd cc
 
-no_cause : (areas : Areas) (area i : ℕ) (contents : List (List ℕ)) (slot : Option Slot) → IsRight slot contents → cause_of areas area i contents slot ≡ None
+no_cause : (areas : Areas) (area : Area) (i : ℕ) (contents : List (List ℕ)) (slot : Option Slot) → IsRight slot contents → cause_of areas area i contents slot ≡ None
 no_cause areas area i contents None right = refl
 no_cause areas area i contents (Some Free) right = refl
 no_cause areas area i contents (Some (Damaged name)) right = absurd right
 no_cause areas area i contents (Some (Sound label)) right =
     nothing_wrong (is_indexed label.organization) (is_good label contents) (Index (first_fault label (bytes_at (sectors_of label) contents))) right
 
-right_by_none : (areas : Areas) (area i : ℕ) (contents : List (List ℕ)) (slot : Option Slot) → cause_of areas area i contents slot ≡ None → IsRight slot contents
+right_by_none : (areas : Areas) (area : Area) (i : ℕ) (contents : List (List ℕ)) (slot : Option Slot) → cause_of areas area i contents slot ≡ None → IsRight slot contents
 right_by_none areas area i contents None none = tt
 right_by_none areas area i contents (Some Free) none = tt
 right_by_none areas area i contents (Some (Damaged name)) none = absurd cc
 right_by_none areas area i contents (Some (Sound label)) none = λ indexed.
     is_right_then (is_indexed label.organization) (is_good label contents) (Index (first_fault label (bytes_at (sectors_of label) contents))) none indexed
 
-none_if_empty : (area i : ℕ) (name : Option Name) (cause : Option Cause) → wrong_with area i name cause ≡ [] → cause ≡ None
+none_if_empty : (area : Area) (i : ℕ) (name : Option Name) (cause : Option Cause) → wrong_with area i name cause ≡ [] → cause ≡ None
 none_if_empty area i name None h = refl
 none_if_empty area i name (Some cause) h = absurd cc
 
-slot_right : (areas : Areas) (area i : ℕ) (contents : List (List ℕ)) → slot_wrongs areas area contents i ≡ [] → IsRight (slice_get (slots_in area areas) i) contents
+slot_right : (areas : Areas) (area : Area) (i : ℕ) (contents : List (List ℕ)) → slot_wrongs areas area contents i ≡ [] → IsRight (slice_get (slots_in (area_number area) areas) i) contents
 unfolding slot_wrongs
 slot_right areas area i contents h =
-    right_by_none areas area i contents (slice_get (slots_in area areas) i)
-    (none_if_empty area i (name_at (slice_get (slots_in area areas) i)) (cause_of areas area i contents (slice_get (slots_in area areas) i)) h)
+    right_by_none areas area i contents (slice_get (slots_in (area_number area) areas) i)
+    (none_if_empty area i (name_at (slice_get (slots_in (area_number area) areas) i)) (cause_of areas area i contents (slice_get (slots_in (area_number area) areas) i)) h)
 
-slot_empty : (areas : Areas) (area i : ℕ) (contents : List (List ℕ)) → IsRight (slice_get (slots_in area areas) i) contents → slot_wrongs areas area contents i ≡ []
+slot_empty : (areas : Areas) (area : Area) (i : ℕ) (contents : List (List ℕ)) → IsRight (slice_get (slots_in (area_number area) areas) i) contents → slot_wrongs areas area contents i ≡ []
 unfolding slot_wrongs
 slot_empty areas area i contents right =
-    ap (wrong_with area i (name_at (slice_get (slots_in area areas) i))) (no_cause areas area i contents (slice_get (slots_in area areas) i) right)
+    ap (wrong_with area i (name_at (slice_get (slots_in (area_number area) areas) i))) (no_cause areas area i contents (slice_get (slots_in (area_number area) areas) i) right)
 
 first_empty : (xs ys : List Wrong) → xs ++ ys ≡ [] → xs ≡ []
 first_empty [] ys h = refl
@@ -117,15 +121,15 @@ each_empty f a (suc n) (suc i) few h =
     let e : a + suc i ≡ a + 1 + i = omega arith in
     rw e (each_empty f (a + 1) n i (omega (arith, few)) (rest_empty (f a) (flat_map f (range_with_len (a + 1) n)) h))
 
-area_empty : (areas : Areas) (area : ℕ) (contents : List (List ℕ)) → area < 3 → IsSoundPack areas contents → area_wrongs areas area contents ≡ []
+area_empty : (areas : Areas) (area : Area) (contents : List (List ℕ)) → IsSoundPack areas contents → area_wrongs areas area contents ≡ []
 unfolding area_wrongs
-area_empty areas area contents few sound = all_empty (slot_wrongs areas area contents) 0 32 (λ i low high. slot_empty areas area i contents (sound area i few high))
+area_empty areas area contents sound = all_empty (slot_wrongs areas area contents) 0 32 (λ i low high. slot_empty areas area i contents (sound area i high))
 
 pub sound_is_empty : (areas : Areas) (contents : List (List ℕ)) → IsSoundPack areas contents → wrongs_on areas contents ≡ []
 sound_is_empty areas contents sound =
-    ap₂ (λ xs ys. xs ++ ys) (ap₂ (λ xs ys. xs ++ ys) (area_empty areas 0 contents (omega arith) sound) (area_empty areas 1 contents (omega arith) sound)) (area_empty areas 2 contents (omega arith) sound)
+    ap₂ (λ xs ys. xs ++ ys) (ap₂ (λ xs ys. xs ++ ys) (area_empty areas Masters contents sound) (area_empty areas (Level One) contents sound)) (area_empty areas (Level Two) contents sound)
 
-area_right : (areas : Areas) (area i : ℕ) (contents : List (List ℕ)) → i < 32 → area_wrongs areas area contents ≡ [] → IsRight (slice_get (slots_in area areas) i) contents
+area_right : (areas : Areas) (area : Area) (i : ℕ) (contents : List (List ℕ)) → i < 32 → area_wrongs areas area contents ≡ [] → IsRight (slice_get (slots_in (area_number area) areas) i) contents
 unfolding area_wrongs
 area_right areas area i contents few h =
     let e : i ≡ 0 + i = omega arith in
@@ -133,12 +137,11 @@ area_right areas area i contents few h =
 
 pub empty_is_sound : (areas : Areas) (contents : List (List ℕ)) → wrongs_on areas contents ≡ [] → IsSoundPack areas contents
 empty_is_sound areas contents h =
-    let front = first_empty (area_wrongs areas 0 contents ++ area_wrongs areas 1 contents) (area_wrongs areas 2 contents) h in
-    by (first_empty (area_wrongs areas 0 contents) (area_wrongs areas 1 contents) front) (rest_empty (area_wrongs areas 0 contents) (area_wrongs areas 1 contents) front)
-    (rest_empty (area_wrongs areas 0 contents ++ area_wrongs areas 1 contents) (area_wrongs areas 2 contents) h)
+    let front = first_empty (area_wrongs areas Masters contents ++ area_wrongs areas (Level One) contents) (area_wrongs areas (Level Two) contents) h in
+    by (first_empty (area_wrongs areas Masters contents) (area_wrongs areas (Level One) contents) front) (rest_empty (area_wrongs areas Masters contents) (area_wrongs areas (Level One) contents) front)
+    (rest_empty (area_wrongs areas Masters contents ++ area_wrongs areas (Level One) contents) (area_wrongs areas (Level Two) contents) h)
   where
-    by : area_wrongs areas 0 contents ≡ [] → area_wrongs areas 1 contents ≡ [] → area_wrongs areas 2 contents ≡ [] → IsSoundPack areas contents
-    by a b c zero i few small = area_right areas 0 i contents small a
-    by a b c (suc zero) i few small = area_right areas 1 i contents small b
-    by a b c (suc (suc zero)) i few small = area_right areas 2 i contents small c
-    by a b c (suc (suc (suc n))) i few small = absurd (omega (arith, few))
+    by : area_wrongs areas Masters contents ≡ [] → area_wrongs areas (Level One) contents ≡ [] → area_wrongs areas (Level Two) contents ≡ [] → IsSoundPack areas contents
+    by a b c Masters i small = area_right areas Masters i contents small a
+    by a b c (Level One) i small = area_right areas (Level One) i contents small b
+    by a b c (Level Two) i small = area_right areas (Level Two) i contents small c

@@ -5,6 +5,7 @@ ghost use Rattle.s3_store.specs.Bytes.{bytes_at};
 ghost use Rattle.s3_slots.specs.Inner.Kept.{IsOfPack};
 ghost use Rattle.s3_slots.specs.Labels.{sectors_of, is_indexed};
 ghost use Rattle.s3_slots.specs.Slots.{slot_bytes};
+ghost use Rattle.s3_labels.specs.Inner.AreaNumbers.{area_number};
 ghost use Rattle.s3_labels.specs.Inner.Areas.{IsReady, slots_in};
 ghost use Rattle.s3_pack_check.specs.Inner.Damages.{first_damaged as first_damaged_spec};
 ghost use Rattle.s3_pack_check.specs.Inner.Wrongs.{index_cause as index_cause_spec, file_cause as file_cause_spec, cause_of as cause_of_spec, name_on as name_on_spec, slot_wrongs, area_wrongs, region_in, wrongs_on, told, IsRefused, fault_of as fault_of_spec};
@@ -15,7 +16,7 @@ use crate::fault::CheckFault;
 use s3_cards::{LevelId, Name};
 use s3_files::{FileSectors, read_bytes};
 use s3_keyed::{Keyed, KeyedFault};
-use s3_labels::{AreaSlots, FileLabel, Organization, Pack, Refusal, Refused, Slot};
+use s3_labels::{Area, AreaSlots, FileLabel, Organization, Pack, Refusal, Refused, Slot};
 use s3_store::{MemoryStore, Sectors, Stretch};
 use std::alloc::Global;
 
@@ -31,8 +32,8 @@ pub enum Cause {
 /// A slot with which something is wrong.
 #[derive(Clone, Copy)]
 pub struct Wrong {
-    /// The area: 0 for the masters, 1 and 2 for the levels.
-    pub area: u16,
+    /// The area.
+    pub area: Area,
     /// The slot, 0 to 31.
     pub slot: u16,
     /// The label, if it is a name.
@@ -41,17 +42,16 @@ pub struct Wrong {
     pub cause: Cause,
 }
 
-/// Reads the 64 bytes of slot `i`, 0 to 31, of an area: 0 for the masters, 1 and 2 for the levels.
-fn read_slot<P: Sectors>(pool: &mut P, area: u16, i: u16) -> Result<[u8; 64], CheckFault>
-    requires area { area < 3 }
+/// Reads the 64 bytes of slot `i`, 0 to 31, of an area.
+fn read_slot<P: Sectors>(pool: &mut P, area: Area, i: u16) -> Result<[u8; 64], CheckFault>
     requires slot { i < 32 }
     requires room { 25 ≤ length (P.state pool.old).contents }
-    ensures ok { IfOk result (λ bytes. bytes ≡ slot_bytes area (P.state pool.old).contents i) }
+    ensures ok { IfOk result (λ bytes. bytes ≡ slot_bytes (area_number area) (P.state pool.old).contents i) }
     ensures keeps { (P.state pool.new).contents ≡ (P.state pool.old).contents }
     ensures fault { IfErr result (λ fault. fault ≡ CheckFault.NoMemory) }
 {
     let mut bytes = [0; 64];
-    match pool.read_part(1 + 8 * area + i / 4, usize::from(i % 4) * 64, &mut bytes) {
+    match pool.read_part(area.label_sector(i), usize::from(i % 4) * 64, &mut bytes) {
         Ok(()) => Ok(bytes),
         Err(_) => Err(CheckFault::NoMemory),
     }
@@ -140,13 +140,12 @@ fn cause_of<P: Sectors>(
     alloc: Global,
     pool: &mut P,
     areas: &AreaSlots,
-    area: u16,
+    area: Area,
     i: u16,
 ) -> Result<Option<Cause>, CheckFault>
-    requires area { area < 3 }
     requires slot { i < 32 }
     requires ready { IsReady areas.now (P.state pool.old).contents }
-    ensures ok { IfOk result (λ cause. cause ≡ cause_of_spec areas.now area i (P.state pool.old).contents (slice_get (slots_in area areas.now) i)) }
+    ensures ok { IfOk result (λ cause. cause ≡ cause_of_spec areas.now area i (P.state pool.old).contents (slice_get (slots_in (area_number area) areas.now) i)) }
     ensures keeps { (P.state pool.new).contents ≡ (P.state pool.old).contents }
     ensures fault { IfErr result (λ fault. fault ≡ CheckFault.NoMemory) }
 {
@@ -155,24 +154,11 @@ fn cause_of<P: Sectors>(
         Slot::Sound(label) => file_cause(alloc, pool, label),
         Slot::Damaged(name) => {
             let bytes = read_slot(pool, area, i)?;
-            let earlier = &slots_of(areas, area)[..usize::from(i)];
+            let earlier = &areas.slots_of(area)[..usize::from(i)];
             let format = areas.header().format;
             let region = region_of(areas, area);
             Ok(Some(Cause::Label(damage_of(format, region, *name, earlier, &bytes))))
         }
-    }
-}
-
-/// The 32 slots of an area: 0 for the masters, 1 and 2 for the levels.
-pub fn slots_of(areas: &AreaSlots, area: u16) -> &[Slot]
-    requires { area < 3 }
-    ensures slots { result.now ≡ slots_in area areas.now }
-    ensures count { length result.now ≡ 32 }
-{
-    match area {
-        0 => areas.masters(),
-        1 => areas.slots(LevelId::One),
-        _ => areas.slots(LevelId::Two),
     }
 }
 
@@ -184,28 +170,26 @@ fn damaged_place(slots: &[Slot]) -> Option<usize>
     slots.iter().position(|slot| is_damaged(slot))
 }
 
-/// The first damaged slot of an area, 0 to 31, if one is damaged. An area is 0 for the masters, 1 or 2 for a level. Which sectors
-/// a damaged slot's file has isn't known, so nothing new may be written into its area.
-pub fn first_damaged(areas: &AreaSlots, area: u16) -> Option<u16>
-    requires { area < 3 }
-    ensures first { result ≡ first_damaged_spec (slots_in area areas.now) }
+/// The first damaged slot of an area, 0 to 31, if one is damaged. Which sectors a damaged slot's file has isn't known, so nothing new
+/// may be written into its area.
+pub fn first_damaged(areas: &AreaSlots, area: Area) -> Option<u16>
+    ensures first { result ≡ first_damaged_spec (slots_in (area_number area) areas.now) }
     ensures within { IfSome result (λ slot. slot < 32) }
 {
-    match damaged_place(slots_of(areas, area)) {
+    match damaged_place(areas.slots_of(area)) {
         Some(place) => Some(place as u16),
         None => None,
     }
 }
 
-/// The region of an area: 0 for the masters, 1 and 2 for the levels.
-pub fn region_of(areas: &AreaSlots, area: u16) -> Stretch
-    requires { area < 3 }
-    ensures { result ≡ region_in area areas.now }
+/// The region of an area.
+pub fn region_of(areas: &AreaSlots, area: Area) -> Stretch
+    ensures { result ≡ region_in (area_number area) areas.now }
 {
     match area {
-        0 => areas.header().masters,
-        1 => areas.region(LevelId::One),
-        _ => areas.region(LevelId::Two),
+        Area::Masters => areas.header().masters,
+        Area::Level(LevelId::One) => areas.region(LevelId::One),
+        Area::Level(LevelId::Two) => areas.region(LevelId::Two),
     }
 }
 
@@ -227,10 +211,9 @@ fn push_slot<P: Sectors>(
     wrongs: &mut Vec<Wrong>,
     pool: &mut P,
     areas: &AreaSlots,
-    area: u16,
+    area: Area,
     i: u16,
 ) -> Result<(), CheckFault>
-    requires area { area < 3 }
     requires slot { i < 32 }
     requires ready { IsReady areas.now (P.state pool.old).contents }
     ensures ok { OnOk result (wrongs.new.items ≡ wrongs.old.items ++ slot_wrongs areas.now area (P.state pool.old).contents i) }
@@ -255,9 +238,8 @@ fn push_area<P: Sectors>(
     wrongs: &mut Vec<Wrong>,
     pool: &mut P,
     areas: &AreaSlots,
-    area: u16,
+    area: Area,
 ) -> Result<(), CheckFault>
-    requires area { area < 3 }
     requires ready { IsReady areas.now (P.state pool.old).contents }
     ensures ok { OnOk result (wrongs.new.items ≡ wrongs.old.items ++ area_wrongs areas.now area (P.state pool.old).contents) }
     ensures keeps { (P.state pool.new).contents ≡ (P.state pool.old).contents }
@@ -280,9 +262,9 @@ fn wrongs_of<P: Sectors>(
     ensures fault { IfErr result (λ fault. fault ≡ CheckFault.NoMemory) }
 {
     let mut wrongs = Vec::new(alloc);
-    push_area(alloc, &mut wrongs, pool, areas, 0)?;
-    push_area(alloc, &mut wrongs, pool, areas, 1)?;
-    push_area(alloc, &mut wrongs, pool, areas, 2)?;
+    push_area(alloc, &mut wrongs, pool, areas, Area::Masters)?;
+    push_area(alloc, &mut wrongs, pool, areas, Area::Level(LevelId::One))?;
+    push_area(alloc, &mut wrongs, pool, areas, Area::Level(LevelId::Two))?;
     Ok(wrongs)
 }
 

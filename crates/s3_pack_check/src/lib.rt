@@ -15,9 +15,7 @@ mod fault;
 mod laws;
 mod words;
 
-pub use checking::{
-    Cause, Wrong, check_pack, file_bytes, first_damaged, region_of, sector_count, slots_of,
-};
+pub use checking::{Cause, Wrong, check_pack, file_bytes, first_damaged, region_of, sector_count};
 pub use damage::{Damage, damage_of};
 pub use entries::{EntryFlaw, WrongEntry};
 pub use fault::CheckFault;

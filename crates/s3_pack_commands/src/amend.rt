@@ -1,5 +1,5 @@
 //! `bureau amend`: fields of one record of a file changed.
-ghost use Rattle.std.specs.Prelude.{◌≤◌, ◌<◌, IfOk};
+ghost use Rattle.std.specs.Prelude.{◌≤◌};
 
 use crate::amend_sentences::mistake_sentence;
 use crate::shown_record::push_record;
@@ -12,8 +12,8 @@ use s3_data_commands::filled::Words;
 use s3_data_commands::inputs::{test_plain_text, typed_layout_of};
 use s3_data_commands::journaling::{journal_for, unmade_if_refused};
 use s3_data_commands::pack_words::{
-    Save, area_number, keep_input, label_of, label_words, mount_words, pack_to_change, refused,
-    saved, tell_done, wrong_words,
+    Save, area_of, keep_input, label_of, label_words, mount_words, pack_to_change, refused, saved,
+    tell_done, wrong_words,
 };
 use s3_data_commands::words::{
     AGAIN, AREA, DATE_FIELDS, DECIMAL, JOURNAL, LABEL, LAYOUT, LAYOUT_FILE, LAYOUT_PLAIN,
@@ -21,6 +21,7 @@ use s3_data_commands::words::{
 };
 use s3_host_files::{StandardOutput, is_input};
 use s3_journal::{Posting, Work};
+use s3_labels::Area;
 use s3_layout::SourceLayout;
 use s3_paper_commands::OutputReason;
 use s3_paper_commands::status::{DONE, FILE_FAILED, NOTHING_SAVED, OPTIONS_WRONG, PACK_SAVED};
@@ -123,8 +124,8 @@ pub fn amend_file(rt: &HostRuntime, matches: &ArgMatches<'_>) -> u8
 struct Asked<'a> {
     path: &'a str,
     save: &'a str,
-    /// 0 for the masters, 1 or 2 for a level.
-    area: u16,
+    /// The area of the file.
+    area: Area,
     label: &'a str,
     name: Name,
     /// The deck that has the layout.
@@ -138,10 +139,8 @@ struct Asked<'a> {
 
 impl<'a> Asked<'a> {
     /// What the options ask for.
-    fn read(rt: &HostRuntime, matches: &ArgMatches<'a>) -> Result<Asked<'a>, Fault>
-        ensures { IfOk result (λ asked. asked.area < 3) }
-    {
-        let area = area_number(rt, value_of(matches, "area"))?;
+    fn read(rt: &HostRuntime, matches: &ArgMatches<'a>) -> Result<Asked<'a>, Fault> {
+        let area = area_of(rt, value_of(matches, "area"))?;
         let label = value_of(matches, "label");
         let name = label_of(rt, label)?;
         let which = which_of(rt, matches)?;
@@ -250,9 +249,7 @@ fn amended(
     layout: &SourceLayout,
     settings: &[Setting<'_>],
     pack: Vec<u8>,
-) -> Result<Amended, Fault>
-    requires { asked.now.area < 3 }
-{
+) -> Result<Amended, Fault> {
     let amendment = Amendment {
         area: asked.area,
         name: asked.name,

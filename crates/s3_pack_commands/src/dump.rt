@@ -250,7 +250,7 @@ fn refuse_long_record(rt: &HostRuntime, text: &[u8], areas: &AreaSlots) -> Resul
 /// Why a dump with a record that is too long isn't restored.
 fn long_sentence(alloc: Global, found: LongRecord) -> Result<String, AllocError> {
     let (line, bytes) = (found.line, found.bytes);
-    let (area, length) = (found.area, found.record_length);
+    let (area, length) = (found.area.number(), found.record_length);
     let mut text = String::new(alloc);
     write!(
         text,

@@ -5,28 +5,24 @@ use s3_cards::Name;
 use s3_data_commands::fault::Fault;
 use s3_data_commands::filled::Words;
 use s3_data_commands::inputs::{layouts_of, test_plain_text};
-use s3_data_commands::pack_words::{area_number, label_of, mount_words, refused, tell};
+use s3_data_commands::pack_words::{area_of, label_of, mount_words, refused, tell};
 use s3_data_commands::sentences::unload_sentence;
 use s3_dump::FileLayout;
 use s3_host_files::{is_input, is_standard_error};
-use s3_labels::AreaSlots;
+use s3_labels::{Area, AreaSlots};
 use s3_layout::SourceLayout;
 use s3_listing::{ListFault, mount_slots};
-use s3_pack_check::slots_of;
 use s3_paper_commands::status::{DONE, FILE_FAILED};
 use s3_refusals::Shown;
 use s3_slots::{Standing, standing_of};
 use s3_unload::UnloadFault;
 use std::alloc::{AllocError, Global};
 
-/// How many areas a pack has.
-const AREAS: u16 = 3;
-
 /// A file that has a layout, and the deck with the layout.
 #[derive(Clone, Copy)]
 pub struct Asked<'a> {
-    /// Its area, 0 for the masters, 1 or 2 for a level; none for all areas that have the label.
-    area: Option<u16>,
+    /// Its area; none for all areas that have the label.
+    area: Option<Area>,
     label: &'a str,
     name: Name,
     deck: &'a str,
@@ -38,8 +34,8 @@ pub struct DeckLayouts {
     /// The label of their file.
     name: Name,
     /// The area that the option names.
-    area: Option<u16>,
-    /// For each area the record length of its file, if the layouts are for one there.
+    area: Option<Area>,
+    /// For each area, by its number, the record length of its file, if the layouts are for one there.
     lengths: [Option<u16>; 3],
     /// One for each record type.
     layouts: Vec<SourceLayout>,
@@ -146,7 +142,7 @@ fn next_asked<'a>(
         _ => return Err(no_deck(rt.alloc(), text)),
     };
     if asked.iter().any(|before| is_same_file(before, &next)) {
-        return Err(Fault::Usage(Words::of_file("", 0, next.label).fill(
+        return Err(Fault::Usage(Words::of_file("", Area::Masters, next.label).fill(
             rt.alloc(),
             "--layout names {label} twice; give each file one deck",
         )?));
@@ -157,7 +153,7 @@ fn next_asked<'a>(
 /// The file that a text names, as `CUSTOM` or `1:CUSTOM`, with its deck.
 fn asked_of<'a>(rt: &HostRuntime, file: &'a str, deck: &'a str) -> Result<Asked<'a>, Fault> {
     let (area, label) = match file.split_once(":") {
-        Some((area, label)) => (Some(area_number(rt, area)?), label),
+        Some((area, label)) => (Some(area_of(rt, area)?), label),
         None => (None, file),
     };
     let name = label_of(rt, label)?;
@@ -249,11 +245,11 @@ fn lengths_of(
     let mut lengths = [None; 3];
     let mut is_there = false;
     let mut damaged = None;
-    for area in 0..AREAS {
+    for area in Area::ALL {
         if asked.area.is_none() || asked.area == Some(area) {
-            match standing_of(asked.name, slots_of(areas, area)) {
+            match standing_of(asked.name, areas.slots_of(area)) {
                 Standing::Present(label) => {
-                    lengths[usize::from(area)] = Some(label.record_length);
+                    lengths[usize::from(area.number())] = Some(label.record_length);
                     is_there = true;
                 }
                 Standing::Blocked => damaged = Some(area),
@@ -282,7 +278,7 @@ fn no_file_sentence(alloc: Global, path: &str, asked: &Asked<'_>) -> Result<Stri
         None =>
             "{path} has no file {label}, so no fields of it are printed; `bureau list --pack {given}` shows the files that it has",
     };
-    Words::of_file(path, asked.area.unwrap_or(0), asked.label).fill(alloc, sentence)
+    Words::of_file(path, asked.area.unwrap_or(Area::Masters), asked.label).fill(alloc, sentence)
 }
 
 /// The notes at the end of a dump about the files that the pack hasn't.
@@ -294,7 +290,7 @@ pub fn missing_notes(alloc: Global, found: &[DeckLayouts]) -> Result<String, All
                 Some(_) => "# no file {field} in area {area}\n",
                 None => "# no file {field}\n",
             };
-            Words::of_file("", deck.area.unwrap_or(0), "")
+            Words::of_file("", deck.area.unwrap_or(Area::Masters), "")
                 .with_fields(Some(deck.name), None)
                 .push(&mut notes, sentence)?;
         }
@@ -312,8 +308,8 @@ fn deck_layouts(
 ) -> Result<DeckLayouts, Fault> {
     let layouts = layouts_of(rt, matches, asked.deck, asked.label, asked.name)?;
     let mut faults = Faults::none();
-    for area in 0..AREAS {
-        if let Some(length) = lengths[usize::from(area)] {
+    for area in Area::ALL {
+        if let Some(length) = lengths[usize::from(area.number())] {
             if !have_length(&layouts, length) {
                 let sentence = unload_sentence(
                     rt.alloc(),
@@ -349,8 +345,8 @@ pub fn file_layouts<'a>(
 ) -> Result<Vec<FileLayout<'a>>, AllocError> {
     let mut files = Vec::new(alloc);
     for deck in found {
-        for area in 0..AREAS {
-            if deck.lengths[usize::from(area)].is_some() {
+        for area in Area::ALL {
+            if deck.lengths[usize::from(area.number())].is_some() {
                 push_layouts(&mut files, area, deck)?;
             }
         }
@@ -361,7 +357,7 @@ pub fn file_layouts<'a>(
 /// Adds the layouts of a deck for the file in an area.
 fn push_layouts<'a>(
     files: &mut Vec<FileLayout<'a>>,
-    area: u16,
+    area: Area,
     deck: &'a DeckLayouts,
 ) -> Result<(), AllocError> {
     for layout in &deck.layouts {

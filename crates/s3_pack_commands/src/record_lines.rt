@@ -1,7 +1,8 @@
 //! The lines of a dump that are records: one that is too long, as by a change of its text, moves all bytes after it.
 
-use s3_cards::{LevelId, Name, host_byte, word_len};
-use s3_labels::{AreaSlots, FileLabel, Slot};
+use s3_cards::{Name, host_byte, word_len};
+use s3_data_commands::pack_words::area_named;
+use s3_labels::{Area, AreaSlots, FileLabel, Slot};
 
 /// A line of a dump that has more bytes than a record of its file.
 #[derive(Clone, Copy)]
@@ -10,8 +11,8 @@ pub struct LongRecord {
     pub line: u64,
     /// How many bytes it has.
     pub bytes: usize,
-    /// The area of the file: 0 for the masters, 1 or 2 for a level.
-    pub area: u16,
+    /// The area of the file.
+    pub area: Area,
     /// The label of the file.
     pub name: Name,
     /// How many bytes a record has.
@@ -21,7 +22,7 @@ pub struct LongRecord {
 /// The file whose records are the next lines of codes.
 #[derive(Clone, Copy)]
 struct RecordLines {
-    area: u16,
+    area: Area,
     name: Name,
     record_length: u16,
     /// How many of its records are left.
@@ -98,9 +99,9 @@ fn after_note(file: Option<RecordLines>, note: &[u8], areas: &AreaSlots) -> Opti
 fn records_after(note: &str, areas: &AreaSlots) -> Option<RecordLines> {
     let (label, rest) = note.strip_prefix("# ")?.split_once(" in area ")?;
     let (area, number) = rest.strip_suffix(" on")?.split_once(", records from ")?;
-    let area = area.parse::<u16>().ok()?;
+    let area = area_named(area)?;
     let before = number.parse::<u32>().ok()?.saturating_sub(1);
-    for slot in slots_of(areas, area) {
+    for slot in areas.slots_of(area) {
         if let Slot::Sound(file) = slot
             && is_named(file, label)
         {
@@ -111,7 +112,7 @@ fn records_after(note: &str, areas: &AreaSlots) -> Option<RecordLines> {
 }
 
 /// The lines of the records of a file after so many; none if there are no more.
-fn lines_of(area: u16, file: &FileLabel, before: u32) -> Option<RecordLines> {
+fn lines_of(area: Area, file: &FileLabel, before: u32) -> Option<RecordLines> {
     let left = file.count.saturating_sub(before);
     (left > 0).then_some(RecordLines {
         area,
@@ -129,13 +130,4 @@ fn is_named(file: &FileLabel, label: &str) -> bool {
             .iter()
             .zip(label.bytes())
             .all(|(code, byte)| host_byte(*code) == byte)
-}
-
-/// The slots of an area.
-fn slots_of(areas: &AreaSlots, area: u16) -> &[Slot] {
-    match area {
-        0 => areas.masters(),
-        1 => areas.slots(LevelId::One),
-        _ => areas.slots(LevelId::Two),
-    }
 }

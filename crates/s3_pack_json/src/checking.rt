@@ -37,7 +37,7 @@ fn wrong_object(alloc: Global, wrong: &Wrong, texts: &Texts) -> Result<Value, Al
     object(
         alloc,
         &[
-            ("area", Cell::Number(u64::from(wrong.area))),
+            ("area", Cell::Number(u64::from(wrong.area.number()))),
             ("slot", Cell::Number(u64::from(wrong.slot))),
             ("label", text_cell(&texts.label)),
             ("kind", Cell::Text(kind_of(wrong.cause))),

@@ -6,11 +6,10 @@ ghost use Rattle.s3_pack_json.specs.Inner.Objects.{area_json, format_number as f
 use crate::checking::reason_of;
 use crate::extents::tracks_cell;
 use crate::slots::add_slot;
-use s3_cards::LevelId;
 use s3_json_lines::{Cell, Value, lines_of, object};
-use s3_labels::{AreaSlots, Format, Header, Slot};
-use s3_listing::{FreeRoom, ListFault, free_room, mount_slots};
-use s3_pack_check::{Cause, CheckFault, Wrong, check_pack};
+use s3_labels::{Area, AreaSlots, Format, Header, Slot};
+use s3_listing::{FreeRoom, ListFault, mount_slots, room_of};
+use s3_pack_check::{Cause, CheckFault, Wrong, check_pack, region_of};
 use s3_store::Stretch;
 use std::alloc::{AllocError, Global};
 use std::io::Write;
@@ -33,48 +32,38 @@ fn list(alloc: Global, pack: &[u8]) -> Result<Vec<u8>, ListFault> {
         Err(CheckFault::Mount(fault)) => return Err(ListFault::Mount(fault)),
         Err(CheckFault::NoMemory) => return Err(ListFault::NoMemory),
     };
-    let rooms = [
-        free_room(alloc, pack, 0)?,
-        free_room(alloc, pack, 1)?,
-        free_room(alloc, pack, 2)?,
-    ];
-    Ok(listed(alloc, &areas, &rooms, &wrongs)?)
+    Ok(listed(alloc, &areas, &wrongs)?)
 }
 
 /// The lines of a pack.
-fn listed(
-    alloc: Global,
-    areas: &AreaSlots,
-    rooms: &[FreeRoom; 3],
-    wrongs: &[Wrong],
-) -> Result<Vec<u8>, AllocError> {
+fn listed(alloc: Global, areas: &AreaSlots, wrongs: &[Wrong]) -> Result<Vec<u8>, AllocError> {
     let mut values = Vec::new(alloc);
-    add_areas(alloc, &mut values, areas, rooms, wrongs)?;
+    values.push(pack_value(alloc, &areas.header())?)?;
+    for area in Area::ALL {
+        add_area(alloc, &mut values, areas, area, wrongs)?;
+    }
     lines_of(alloc, &values)
 }
 
-/// Adds the objects of the pack, of its areas and of their used slots.
-fn add_areas(
+/// Adds the objects of an area and of its used slots.
+fn add_area(
     alloc: Global,
     values: &mut Vec<Value>,
     areas: &AreaSlots,
-    rooms: &[FreeRoom; 3],
+    area: Area,
     wrongs: &[Wrong],
 ) -> Result<(), AllocError> {
-    let header = areas.header();
-    values.push(pack_value(alloc, &header)?)?;
-    let slots = areas.masters();
-    let free = count_free(slots);
-    values.push(area_value(alloc, 0, header.masters, rooms[0], free)?)?;
-    add_slots(alloc, values, 0, slots, wrongs)?;
-    let slots = areas.slots(LevelId::One);
-    let free = count_free(slots);
-    values.push(area_value(alloc, 1, header.level_one, rooms[1], free)?)?;
-    add_slots(alloc, values, 1, slots, wrongs)?;
-    let slots = areas.slots(LevelId::Two);
-    let free = count_free(slots);
-    values.push(area_value(alloc, 2, header.level_two, rooms[2], free)?)?;
-    add_slots(alloc, values, 2, slots, wrongs)
+    let number = u64::from(area.number());
+    let region = region_of(areas, area);
+    let room = room_of(areas, area);
+    let free = count_free(areas.slots_of(area));
+    values.push(area_value(alloc, number, region, room, free)?)?;
+    for (place, slot) in areas.slots_of(area).iter().enumerate() {
+        let place = place as u64;
+        let reason = reason_text(alloc, cause_of(wrongs, area, place))?;
+        add_slot(alloc, values, number, place, slot, reason)?;
+    }
+    Ok(())
 }
 
 /// The object of the pack.
@@ -142,26 +131,10 @@ fn is_free(slot: &Slot) -> bool
     }
 }
 
-/// Adds the objects of the used slots of an area.
-fn add_slots(
-    alloc: Global,
-    values: &mut Vec<Value>,
-    area: u64,
-    slots: &[Slot],
-    wrongs: &[Wrong],
-) -> Result<(), AllocError> {
-    for (place, slot) in slots.iter().enumerate() {
-        let place = place as u64;
-        let reason = reason_text(alloc, cause_of(wrongs, area, place))?;
-        add_slot(alloc, values, area, place, slot, reason)?;
-    }
-    Ok(())
-}
-
 /// What is wrong with the slot of a number in an area, if anything is.
-fn cause_of(wrongs: &[Wrong], area: u64, place: u64) -> Option<Cause> {
+fn cause_of(wrongs: &[Wrong], area: Area, place: u64) -> Option<Cause> {
     for wrong in wrongs {
-        if u64::from(wrong.area) == area && u64::from(wrong.slot) == place {
+        if wrong.area == area && u64::from(wrong.slot) == place {
             return Some(wrong.cause);
         }
     }

@@ -2,34 +2,15 @@
 ghost use Rattle.std.specs.Prelude.{◌≡◌, Ok, length, IfOk, IfErr};
 ghost use Rattle.s3_slots.specs.Inner.Kept.{IsOfPack};
 ghost use Rattle.s3_labels.specs.Contents.{contents_of};
-ghost use Rattle.s3_unload.specs.Inner.Found.{IsFound, slots_of_area};
+ghost use Rattle.s3_unload.specs.Inner.Found.{IsFound};
 ghost use Rattle.s3_unload.specs.Inner.Refusals.{IsFindRefusal};
 
 use crate::fault::UnloadFault;
-use s3_cards::{LevelId, Name};
-use s3_labels::{AreaSlots, FileLabel, Pack, Refused, Slot, Standing};
+use s3_cards::Name;
+use s3_labels::{Area, FileLabel, Pack, Refused, Standing};
 use s3_slots::standing_of;
 use s3_store::MemoryStore;
 use std::alloc::Global;
-
-/// An area of a pack.
-#[derive(Clone, Copy)]
-pub enum Area {
-    /// Area 0: the masters.
-    Masters,
-    /// Area 1 or 2: the files of a level.
-    Level(LevelId),
-}
-
-/// The slots of an area.
-pub fn slots_of(areas: &AreaSlots, area: Area) -> &[Slot]
-    ensures { result.now ≡ slots_of_area area areas.now }
-{
-    match area {
-        Area::Masters => areas.masters(),
-        Area::Level(level) => areas.slots(level),
-    }
-}
 
 /// The file of a label in an area of a pack, by the pack's first 65,535 whole sectors, and these.
 #[tactic(auto, using(crate::proofs::Finding::found_on_pack))]
@@ -49,7 +30,7 @@ pub fn find_file(
         Ok(Pack { pool, areas }) => (pool, areas),
         Err(Refused { pool: _, fault }) => return Err(UnloadFault::from(fault)),
     };
-    match standing_of(name, slots_of(&areas, area)) {
+    match standing_of(name, areas.slots_of(area)) {
         Standing::Present(label) => Ok((pool, label)),
         Standing::Absent => Err(UnloadFault::NotFound),
         Standing::Blocked => Err(UnloadFault::DamagedLabel),

@@ -7,10 +7,11 @@ ghost use Rattle.s3_unload.specs.Inner.Opened.{IsOpened};
 ghost use Rattle.s3_unload.specs.Inner.Tables.{IsHiddenValue};
 
 use crate::fault::UnloadFault;
-use crate::found::{Area, find_file};
+use crate::found::find_file;
 use crate::ordered::Records;
 use s3_cards::Name;
 use s3_cells::{Field, Layout, ShowFault};
+use s3_labels::Area;
 use s3_record_types::ChosenRecords;
 use s3_slots::FileLabel;
 use s3_store::MemoryStore;

@@ -37,7 +37,7 @@ mod writing;
 
 pub use fault::UnloadFault;
 pub use fixed::{FixedForm, unload_fixed};
-pub use found::{Area, find_file};
+pub use found::find_file;
 pub use hidden::{HiddenValue, HiddenValues, hidden_values};
 pub use laws::a_table_reads_as_its_rows;
 pub use lines::{LineForm, unload_lines};

@@ -9,11 +9,12 @@ ghost use Rattle.s3_unload.specs.Inner.Lines.{IsLineRefusal, IsLinesRefusal, IsU
 ghost use Rattle.s3_unload.specs.Inner.Ordered.{in_order};
 
 use crate::fault::UnloadFault;
-use crate::found::{Area, find_file};
+use crate::found::find_file;
 use crate::ordered::read_in_order;
 use s3_cards::{Name, push_characters};
 use s3_cells::place_without_character;
 use s3_files::Sequential;
+use s3_labels::Area;
 use s3_slots::FileLabel;
 use s3_store::MemoryStore;
 use std::alloc::{AllocError, Global};

@@ -14,12 +14,13 @@ ghost use Rattle.s3_unload.specs.Inner.Tables.{AddsText, IsBetweenRows, are_show
 ghost use Rattle.s3_unload.specs.Inner.Unloads.{IsRowRefusal, IsRowsRefusal, IsUnloadRefusal, Unloads};
 
 use crate::fault::UnloadFault;
-use crate::found::{Area, find_file};
+use crate::found::find_file;
 use crate::ordered::Records;
 use crate::rows::{HiddenField, fill_heading, fill_row};
 use csv::{ByteRecord, Writer, WriterBuilder};
 use s3_cards::Name;
 use s3_cells::{Field, Layout, ShowFault};
+use s3_labels::Area;
 use s3_record_types::ChosenRecords;
 use s3_slots::FileLabel;
 use s3_store::MemoryStore;

@@ -7,6 +7,7 @@ use Rattle.s3_slots.specs.Slots.{standing}
 use Rattle.s3_slots.specs.declared.header.Header.{Header}
 use Rattle.s3_slots.specs.declared.label.FileLabel.{FileLabel}
 use Rattle.s3_slots.specs.declared.slot.Standing.TheVariants.{Present}
+use Rattle.s3_labels.specs.Inner.AreaNumbers.{area_number}
 use Rattle.s3_labels.specs.Inner.Areas.{areas_on, slots_in}
 use Rattle.s3_cells.specs.declared.field.Field.{Field}
 use Rattle.s3_record_types.specs.Inner.Chosen.{is_of}
@@ -48,5 +49,5 @@ pub record IsAmended (amendment : Amendment) (amended : AmendedRecord) (old new 
   pub header : Header
   pub mounts : mounted old ≡ Ok header
   pub label : FileLabel
-  pub stands : standing amendment.name (slots_in amendment.area (areas_on header old)) ≡ Present label
+  pub stands : standing amendment.name (slots_in (area_number amendment.area) (areas_on header old)) ≡ Present label
   pub file : AmendsFile amendment label amended old new

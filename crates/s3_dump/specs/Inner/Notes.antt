@@ -8,16 +8,18 @@ use Rattle.s3_cells.specs.Inner.Fields.{cell_of, field_bytes, is_shown}
 use Rattle.s3_cells.specs.declared.field.Field.{Field}
 use Rattle.s3_cells.specs.declared.layout.Layout.{Layout}
 use Rattle.s3_record_types.specs.Inner.Chosen.{is_chosen}
+use Rattle.s3_labels.specs.Inner.AreaNumbers.{area_number}
+use Rattle.s3_labels.specs.declared.area.Area.{Area}
 use Rattle.s3_dump.specs.Inner.Dumps.{line_end}
 use Rattle.s3_dump.specs.declared.laid.FileLayout.{FileLayout}
 use Rattle.s3_dump.specs.declared.writing.Writer.{Writer}
 
 -- ---- which layout a record has
 -- a layout is of a file, and has the length and the type of a record
-abbrev pub is_layout_of : (area : ℕ) → Name → List ℕ → FileLayout → Bool
-is_layout_of area name bytes file = (file.area == area) && same_name file.name name && (file.layout.now.record_length == length bytes) && is_chosen file.records.now bytes
+abbrev pub is_layout_of : Area → Name → List ℕ → FileLayout → Bool
+is_layout_of area name bytes file = (area_number file.area == area_number area) && same_name file.name name && (file.layout.now.record_length == length bytes) && is_chosen file.records.now bytes
 
-abbrev pub layout_for : (area : ℕ) → Name → List ℕ → List FileLayout → Option Layout
+abbrev pub layout_for : Area → Name → List ℕ → List FileLayout → Option Layout
 layout_for area name bytes files = option_map (λ (file : FileLayout). file.layout.now) (find (is_layout_of area name bytes) files)
 
 -- ---- the text of a field

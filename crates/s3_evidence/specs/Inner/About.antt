@@ -11,8 +11,9 @@ use Rattle.s3_slots.specs.declared.label.FileLabel.{FileLabel}
 use Rattle.s3_slots.specs.declared.slot.Standing.TheVariants.{Present}
 use Rattle.s3_slots.specs.Labels.{is_indexed, sectors_of}
 use Rattle.s3_slots.specs.Slots.{standing}
-use Rattle.s3_labels.specs.Areas.{area_of}
 use Rattle.s3_labels.specs.Inner.Areas.{Areas}
+use Rattle.s3_labels.specs.declared.area.Area.{Area}
+use Rattle.s3_labels.specs.declared.area.Area.TheVariants.{Level, Masters}
 use Rattle.s3_job_files.specs.Files.{JobFile}
 use Rattle.s3_job_files.specs.Inner.Holds.{slots_by}
 use Rattle.s3_solo.specs.World.{World}
@@ -45,13 +46,13 @@ pub record HasIndex (level : LevelId) (areas : Areas) (name : Name) (label : Fil
   pub indexed : is_indexed label.organization ≡ true
 
 -- ---- areas
--- the number of the area of the masters, or of the level's own
-abbrev pub area_by : (is_master : Bool) → LevelId → ℕ
-area_by true level = 0
-area_by false level = area_of level
+-- the masters, or the level's own area
+abbrev pub area_by : (is_master : Bool) → LevelId → Area
+area_by true level = Masters
+area_by false level = Level level
 
 -- an area is the level's own, or the masters'
-abbrev pub IsOwnArea : LevelId → ℕ → Type 0
+abbrev pub IsOwnArea : LevelId → Area → Type 0
 IsOwnArea level area = (is_master : Bool) × (area ≡ area_by is_master level)
 
 -- what a level finds under a label in the slots of the pack

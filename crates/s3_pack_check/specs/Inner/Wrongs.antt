@@ -1,7 +1,7 @@
 -- All damage on a pack.
-use Rattle.std.specs.Prelude.{◌<◌}
-use Rattle.std.specs.Prelude.{◌≡◌, ℕ, zero, suc, Bool, true, List, [], ◌∷◌, ◌++◌, take, slice_get, Option, Some, None, Result, Ok, Err, ⊤, if◌then◌else◌}
+use Rattle.std.specs.Prelude.{◌≡◌, ◌<◌, ℕ, zero, suc, Bool, true, List, [], ◌∷◌, ◌++◌, take, slice_get, Option, Some, None, Result, Ok, Err, ⊤, if◌then◌else◌}
 use Rattle.std.specs.List.{flat_map, range_with_len}
+use Rattle.s3_cards.specs.declared.levels.LevelId.TheVariants.{One, Two}
 use Rattle.s3_cards.specs.declared.name.Name.{Name}
 use Rattle.s3_store.specs.Bytes.{bytes_at}
 use Rattle.s3_store.specs.declared.stretch.Stretch.{Stretch}
@@ -13,8 +13,11 @@ use Rattle.s3_slots.specs.declared.header.MountFault.{MountFault}
 use Rattle.s3_slots.specs.declared.label.FileLabel.{FileLabel}
 use Rattle.s3_slots.specs.declared.slot.Slot.{Slot}
 use Rattle.s3_slots.specs.declared.slot.Slot.TheVariants.{Damaged, Free, Sound}
+use Rattle.s3_labels.specs.Inner.AreaNumbers.{area_number}
 use Rattle.s3_labels.specs.Contents.{contents_of}
 use Rattle.s3_labels.specs.Inner.Areas.{Areas, areas_on, slots_in}
+use Rattle.s3_labels.specs.declared.area.Area.{Area}
+use Rattle.s3_labels.specs.declared.area.Area.TheVariants.{Level, Masters}
 use Rattle.s3_labels.specs.declared.fault.Refusal.{Refusal}
 use Rattle.s3_labels.specs.declared.fault.Refusal.TheVariants.{BadPack, Sectors}
 use Rattle.s3_keyed.specs.Index.{index_in, layout_of}
@@ -48,9 +51,9 @@ abbrev pub file_cause : FileLabel → List (List ℕ) → Option Cause
 file_cause label contents = if is_indexed label.organization then index_cause label contents else None
 
 -- the cause of damage in slot i of an area
-abbrev pub cause_of : Areas → (area i : ℕ) → List (List ℕ) → Option Slot → Option Cause
+abbrev pub cause_of : Areas → Area → (i : ℕ) → List (List ℕ) → Option Slot → Option Cause
 cause_of areas area i contents (Some (Damaged name)) =
-    Some (Label (damage_of areas.header.format (region_in area areas) name (take i (slots_in area areas)) (slot_bytes area contents i)))
+    Some (Label (damage_of areas.header.format (region_in (area_number area) areas) name (take i (slots_in (area_number area) areas)) (slot_bytes (area_number area) contents i)))
 cause_of areas area i contents (Some (Sound label)) = file_cause label contents
 cause_of areas area i contents (Some Free) = None
 cause_of areas area i contents None = None
@@ -64,20 +67,21 @@ abbrev pub name_at : Option Slot → Option Name
 name_at None = None
 name_at (Some slot) = name_on slot
 
-abbrev pub wrong_with : (area i : ℕ) → Option Name → Option Cause → List Wrong
+abbrev pub wrong_with : Area → (i : ℕ) → Option Name → Option Cause → List Wrong
 wrong_with area i name None = []
 wrong_with area i name (Some cause) = record { area = area; slot = i; name = name; cause = cause } ∷ []
 
 -- the damage that is reported for a slot
-unfoldable pub slot_wrongs : Areas → (area : ℕ) → List (List ℕ) → ℕ → List Wrong
+unfoldable pub slot_wrongs : Areas → Area → List (List ℕ) → ℕ → List Wrong
 slot_wrongs areas area contents i =
-    wrong_with area i (name_at (slice_get (slots_in area areas) i)) (cause_of areas area i contents (slice_get (slots_in area areas) i))
+    let slot : Option Slot = slice_get (slots_in (area_number area) areas) i in
+    wrong_with area i (name_at slot) (cause_of areas area i contents slot)
 
-unfoldable pub area_wrongs : Areas → (area : ℕ) → List (List ℕ) → List Wrong
+unfoldable pub area_wrongs : Areas → Area → List (List ℕ) → List Wrong
 area_wrongs areas area contents = flat_map (slot_wrongs areas area contents) (range_with_len 0 32)
 
 abbrev pub wrongs_on : Areas → List (List ℕ) → List Wrong
-wrongs_on areas contents = area_wrongs areas 0 contents ++ area_wrongs areas 1 contents ++ area_wrongs areas 2 contents
+wrongs_on areas contents = area_wrongs areas Masters contents ++ area_wrongs areas (Level One) contents ++ area_wrongs areas (Level Two) contents
 
 -- ---- packs
 abbrev pub told_if : List (List ℕ) → Result Header MountFault → Result (List Wrong) MountFault
@@ -107,4 +111,4 @@ IsRight (Some (Sound label)) contents = is_indexed label.organization ≡ true �
 
 -- each used slot is valid, and each index is good
 abbrev pub IsSoundPack : Areas → List (List ℕ) → Type 0
-IsSoundPack areas contents = (area i : ℕ) → area < 3 → i < 32 → IsRight (slice_get (slots_in area areas) i) contents
+IsSoundPack areas contents = (area : Area) (i : ℕ) → i < 32 → IsRight (slice_get (slots_in (area_number area) areas) i) contents

@@ -8,6 +8,7 @@ use Rattle.s3_cards.specs.declared.retention.Retention.{Retention}
 use Rattle.s3_cards.specs.declared.retention.Retention.TheVariants.{Permanent, Scratch, Temporary}
 use Rattle.s3_json_lines.specs.Inner.Characters.{text_of}
 use Rattle.s3_json_lines.specs.Inner.Values.{array_of, object_named, whole}
+use Rattle.s3_labels.specs.Inner.AreaNumbers.{area_number}
 use Rattle.s3_listing.specs.declared.room.FreeRoom.{FreeRoom}
 use Rattle.s3_pack_check.specs.declared.checking.Cause.{Cause}
 use Rattle.s3_pack_check.specs.declared.checking.Cause.TheVariants.{Index, Label}
@@ -113,5 +114,5 @@ entry_json (Index (Some entry)) = whole (entry.place + 1)
 
 abbrev pub wrong_json : Wrong → (label reason : Option (List ℕ)) → Json
 wrong_json wrong label reason = object_named (
-    (codes "area", whole wrong.area) ∷ (codes "slot", whole wrong.slot) ∷ (codes "label", text_json label)
+    (codes "area", whole (area_number wrong.area)) ∷ (codes "slot", whole wrong.slot) ∷ (codes "label", text_json label)
     ∷ (codes "kind", string (kind_word wrong.cause)) ∷ (codes "entry", entry_json wrong.cause) ∷ (codes "reason", text_json reason) ∷ [])

@@ -13,7 +13,7 @@ use Rattle.s3_unload.specs.Inner.Opened.{IsOpenRefusal}
 use Rattle.s3_unload.specs.Inner.Ordered.{in_order, ordered}
 use Rattle.s3_unload.specs.Inner.Refusals.{IsFindRefusal}
 use Rattle.s3_unload.specs.Inner.Unloads.{Refuses}
-use Rattle.s3_unload.specs.declared.found.Area.{Area}
+use Rattle.s3_labels.specs.declared.area.Area.{Area}
 use Rattle.s3_unload.specs.declared.fixed.FixedForm.{FixedForm}
 use Rattle.s3_unload.specs.declared.fixed.FixedForm.TheVariants.{Ebcdic, EbcdicLines, Ascii, AsciiLines}
 use Rattle.s3_unload.specs.declared.fault.UnloadFault.{UnloadFault}

@@ -10,7 +10,7 @@ use Rattle.s3_unload.specs.Inner.Found.{IsFound}
 use Rattle.s3_unload.specs.Inner.Ordered.{in_order}
 use Rattle.s3_unload.specs.Inner.Refusals.{IsFindRefusal}
 use Rattle.s3_unload.specs.Inner.Unloads.{Refuses}
-use Rattle.s3_unload.specs.declared.found.Area.{Area}
+use Rattle.s3_labels.specs.declared.area.Area.{Area}
 use Rattle.s3_unload.specs.declared.lines.LineForm.{LineForm}
 use Rattle.s3_unload.specs.declared.lines.LineForm.TheVariants.{Text, Hexadecimal}
 use Rattle.s3_unload.specs.declared.fault.UnloadFault.{UnloadFault}

@@ -6,12 +6,12 @@ use Rattle.s3_slots.specs.Slots.{standing}
 use Rattle.s3_slots.specs.declared.header.Header.{Header}
 use Rattle.s3_slots.specs.declared.slot.Standing.TheVariants.{Absent, Blocked}
 use Rattle.s3_slots.specs.declared.slot.Standing.{Standing}
-use Rattle.s3_labels.specs.Inner.Areas.{areas_on}
+use Rattle.s3_labels.specs.Inner.Areas.{areas_on, slots_in}
 use Rattle.s3_labels.specs.declared.fault.Refusal.{Refusal}
 use Rattle.s3_labels.specs.declared.fault.Refusal.TheVariants.{BadPack, Sectors}
 use Rattle.std.specs.Prelude.{Ok}
-use Rattle.s3_unload.specs.Inner.Found.{slots_of_area}
-use Rattle.s3_unload.specs.declared.found.Area.{Area}
+use Rattle.s3_labels.specs.Inner.AreaNumbers.{area_number}
+use Rattle.s3_labels.specs.declared.area.Area.{Area}
 use Rattle.s3_unload.specs.declared.fault.UnloadFault.{UnloadFault}
 use Rattle.s3_unload.specs.declared.fault.UnloadFault.TheVariants.{Mount, NotFound, DamagedLabel, BadIndex, OtherLength, Hidden, NoCharacter, NoMemory, File}
 
@@ -24,7 +24,7 @@ fault_of_mount (Sectors fault) = NoMemory
 pub record Stands (area : Area) (name : Name) (contents : List (List ℕ)) (meant : Standing) : Type 0 where
   pub header : Header
   pub is_mounted : mounted contents ≡ Ok header
-  pub stands : standing name (slots_of_area area (areas_on header contents)) ≡ meant
+  pub stands : standing name (slots_in (area_number area) (areas_on header contents)) ≡ meant
 
 -- no file is found, because of the pack or because memory ran out
 abbrev pub IsFindRefusal : Area → Name → List (List ℕ) → UnloadFault → Type 0

@@ -13,7 +13,7 @@ use Rattle.s3_unload.specs.Inner.Opened.{IsOpenRefusal}
 use Rattle.s3_unload.specs.Inner.Ordered.{in_order, ordered}
 use Rattle.s3_unload.specs.Inner.Refusals.{IsFindRefusal}
 use Rattle.s3_unload.specs.Inner.Tables.{are_shown, table_text}
-use Rattle.s3_unload.specs.declared.found.Area.{Area}
+use Rattle.s3_labels.specs.declared.area.Area.{Area}
 use Rattle.s3_unload.specs.declared.fault.UnloadFault.{UnloadFault}
 use Rattle.s3_unload.specs.declared.fault.UnloadFault.TheVariants.{Mount, NotFound, DamagedLabel, BadIndex, OtherLength, Hidden, NoCharacter, NoMemory, File}
 

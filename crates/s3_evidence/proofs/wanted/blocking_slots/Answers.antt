@@ -2,4 +2,4 @@ use Rattle.std.proofs.Common.{false, refl, true}
 use Rattle.s3_evidence.proofs.wanted.blocking_slots.Goals as goal
 
 pub loop-statement-preserved : goal.loop-statement-preserved
-loop-statement-preserved c = c.in_ok-push_slot-2.ensures (true, refl) (c.in_ok-push_slot.ensures (false, c.area_of.ensures.value) c.loop-statement.invariant)
+loop-statement-preserved c = c.in_ok-push_slot-2.ensures (true, refl) (c.in_ok-push_slot.ensures (false, refl) c.loop-statement.invariant)

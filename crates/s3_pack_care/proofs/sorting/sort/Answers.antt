@@ -1,12 +1,14 @@
 use Rattle.std.proofs.Common.{ℕ, ◌*◌, List, length, drop, sym, ap, ◌∙◌, subst}
 use Rattle.s3_labels.specs.Contents.{contents_of}
+use Rattle.s3_labels.specs.Inner.AreaNumbers.{area_number}
+use Rattle.s3_labels.proofs.AreaNumbers.{area_few}
 use Rattle.s3_pack_care.specs.Inner.Frames.{ChangesRecords}
 use Rattle.s3_pack_care.specs.Inner.Sorted.{IsSorted}
 use Rattle.s3_pack_care.proofs.Frames.{IsSaved, records_only, saved_is}
 use Rattle.s3_pack_care.proofs.sorting.sort.Goals as goal
 
-changed : (c : goal.After-drop-after-2) → ChangesRecords c.args.area c.args.name (contents_of c.args.pack.items) c.in_ok-store.store
-changed c = subst (λ (s : List (List ℕ)). ChangesRecords c.args.area c.args.name s c.in_ok-store.store) c.from_bytes.ensures c.in_ok-store.ensures.only
+changed : (c : goal.After-drop-after-2) → ChangesRecords (area_number c.args.area) c.args.name (contents_of c.args.pack.items) c.in_ok-store.store
+changed c = subst (λ (s : List (List ℕ)). ChangesRecords (area_number c.args.area) c.args.name s c.in_ok-store.store) c.from_bytes.ensures c.in_ok-store.ensures.only
 
 is_saved : (c : goal.After-drop-after-2) → IsSaved c.args.pack.items c.in_ok-saved.field-0.items c.in_ok-store.store
 is_saved c =
@@ -15,8 +17,8 @@ is_saved c =
 
 pub returns-clause-sorted : goal.returns-clause-sorted
 returns-clause-sorted c =
-    subst (λ (n : List (List ℕ)). IsSorted c.args.area c.args.name c.args.fields.now (contents_of c.args.pack.items) n) (sym (is_saved c).seen)
-    (subst (λ (s : List (List ℕ)). IsSorted c.args.area c.args.name c.args.fields.now s c.in_ok-store.store) c.from_bytes.ensures c.in_ok-store.ensures.sorted)
+    subst (λ (n : List (List ℕ)). IsSorted (area_number c.args.area) c.args.name c.args.fields.now (contents_of c.args.pack.items) n) (sym (is_saved c).seen)
+    (subst (λ (s : List (List ℕ)). IsSorted (area_number c.args.area) c.args.name c.args.fields.now s c.in_ok-store.store) c.from_bytes.ensures c.in_ok-store.ensures.sorted)
 
 pub returns-clause-only : goal.returns-clause-only
-returns-clause-only c = records_only c.args.pack.items c.in_ok-saved.field-0.items c.args.area c.args.name c.in_ok-store.store c.requires (is_saved c) (changed c)
+returns-clause-only c = records_only c.args.pack.items c.in_ok-saved.field-0.items (area_number c.args.area) c.args.name c.in_ok-store.store (area_few c.args.area) (is_saved c) (changed c)

@@ -16,13 +16,13 @@ returns-clause-ready g c =
 
 pub returns-in_err-clear_slot-clause-others : goal.returns-in_err-clear_slot-clause-others
 returns-in_err-clear_slot-clause-others g c = λ j other.
-    (rw c.area_of.ensures.value at c.in_err-clear_slot.ensures.others) j (other_place _ _ j c.in_ok-place.ensures.place other)
+    c.in_err-clear_slot.ensures.others j (other_place _ _ j c.in_ok-place.ensures.place other)
 
 pub returns-clause-others : goal.returns-clause-others
 returns-clause-others g c = λ j other.
-    (rw c.area_of.ensures.value at c.in_ok-clear_slot.ensures.others) j (other_place _ _ j c.in_ok-place.ensures.place other)
+    c.in_ok-clear_slot.ensures.others j (other_place _ _ j c.in_ok-place.ensures.place other)
 
 pub returns-clause-says : goal.returns-clause-says
 returns-clause-says g c =
     says_dropped c.args.level c.args.name c.in_ok-place.place c.args.self.now.areas _ (g.P.Sectors.state c.args.self.now.pool).contents (g.P.Sectors.state c.clear_slot.new.pool).contents c.in_ok-place.ensures.within
-    c.in_ok-place.ensures.ok c.in_ok-place.ensures.place (rw c.area_of.ensures.value at c.in_ok-clear_slot.ensures.others) c.free.ensures (rw c.area_of.ensures.value at c.in_ok-clear_slot.ensures.cleared)
+    c.in_ok-place.ensures.ok c.in_ok-place.ensures.place c.in_ok-clear_slot.ensures.others c.free.ensures c.in_ok-clear_slot.ensures.cleared

@@ -38,11 +38,11 @@ pub returns-in_err-write_made-clause-within : goal.returns-in_err-write_made-cla
 returns-in_err-write_made-clause-within g c =
     make_within (area_of c.args.level) c.args.new.now.name _ c.in_ok-made.made.label _ _ _
     (record { slots = _; at = c.in_ok-made.made.at; is = c.in_ok-made.ensures.ok; there = c.in_ok-made.ensures.there; named = c.in_ok-made.ensures.named })
-    c.in_ok-write_records.ensures.within (rw c.area_of.ensures.value at c.in_err-write_made.ensures.within)
+    c.in_ok-write_records.ensures.within c.in_err-write_made.ensures.within
 
 pub returns-clause-blank : goal.returns-clause-blank
 returns-clause-blank g c = λ direct.
-    blanks_stay c.args.level c.args.self.now.areas _ c.area_of.result _ c.in_ok-made.made.label (g.P.Sectors.state c.write_records.new.pool) (g.P.Sectors.state c.write_made.new.pool) c.area_of.ensures.few c.requires.ready
+    blanks_stay c.args.level c.args.self.now.areas _ (area_of c.args.level) _ c.in_ok-made.made.label (g.P.Sectors.state c.write_records.new.pool) (g.P.Sectors.state c.write_made.new.pool) (few_areas c.args.level) c.requires.ready
     c.in_ok-made.ensures.placed c.in_ok-write_made.ensures.within (c.in_ok-write_records.ensures.blank direct)
 
 pub returns-in_err-write_records-clause-ready : goal.returns-in_err-write_records-clause-ready
@@ -54,7 +54,7 @@ pub returns-in_err-write_made-clause-ready : goal.returns-in_err-write_made-clau
 returns-in_err-write_made-clause-ready g c =
     made_ready c.args.level c.args.new.now c.args.self.now.areas c.make.new.self _ (g.P.Sectors.state c.args.self.now.pool) (g.P.Sectors.state c.write_made.new.pool) c.requires.ready c.requires.proper
     c.in_ok-made.ensures.ok c.in_ok-made.ensures.alone
-    (make_within c.area_of.result c.args.new.now.name _ c.in_ok-made.made.label _ _ _
+    (make_within (area_of c.args.level) c.args.new.now.name _ c.in_ok-made.made.label _ _ _
     (record { slots = _; at = c.in_ok-made.made.at; is = c.in_ok-made.ensures.ok; there = c.in_ok-made.ensures.there; named = c.in_ok-made.ensures.named })
     c.in_ok-write_records.ensures.within c.in_err-write_made.ensures.within)
 
@@ -62,7 +62,7 @@ pub returns-clause-ready : goal.returns-clause-ready
 returns-clause-ready g c =
     made_ready c.args.level c.args.new.now c.args.self.now.areas c.make.new.self _ (g.P.Sectors.state c.args.self.now.pool) (g.P.Sectors.state c.write_made.new.pool) c.requires.ready c.requires.proper
     c.in_ok-made.ensures.ok c.in_ok-made.ensures.alone
-    (make_within c.area_of.result c.args.new.now.name _ c.in_ok-made.made.label _ _ _
+    (make_within (area_of c.args.level) c.args.new.now.name _ c.in_ok-made.made.label _ _ _
     (record { slots = _; at = c.in_ok-made.made.at; is = c.in_ok-made.ensures.ok; there = c.in_ok-made.ensures.there; named = c.in_ok-made.ensures.named })
     c.in_ok-write_records.ensures.within c.in_ok-write_made.ensures.within)
 
@@ -70,7 +70,7 @@ pub returns-clause-written : goal.returns-clause-written
 returns-clause-written g c = record {
   slot = c.in_ok-made.made.at;
   there = c.in_ok-made.ensures.there;
-  bytes = rw c.area_of.ensures.value at c.in_ok-write_made.ensures.written;
+  bytes = c.in_ok-write_made.ensures.written;
 }
 
 pub returns-clause-on_pack : goal.returns-clause-on_pack
@@ -78,7 +78,7 @@ returns-clause-on_pack g c =
     slot_on_pack c.args.level c.make.new.self (g.P.Sectors.state c.write_made.new.pool).contents c.in_ok-made.made.at c.in_ok-made.made.label c.in_ok-made.ensures.there
     (made_ready c.args.level c.args.new.now c.args.self.now.areas c.make.new.self _ (g.P.Sectors.state c.args.self.now.pool) (g.P.Sectors.state c.write_made.new.pool) c.requires.ready c.requires.proper
     c.in_ok-made.ensures.ok c.in_ok-made.ensures.alone
-    (make_within c.area_of.result c.args.new.now.name _ c.in_ok-made.made.label _ _ _
+    (make_within (area_of c.args.level) c.args.new.now.name _ c.in_ok-made.made.label _ _ _
     (record { slots = _; at = c.in_ok-made.made.at; is = c.in_ok-made.ensures.ok; there = c.in_ok-made.ensures.there; named = c.in_ok-made.ensures.named })
     c.in_ok-write_records.ensures.within c.in_ok-write_made.ensures.within))
 
@@ -90,14 +90,14 @@ returns-in_err-write_records-clause-others g c = λ j below not_old not_new.
 pub returns-in_err-write_made-clause-others : goal.returns-in_err-write_made-clause-others
 returns-in_err-write_made-clause-others g c = λ j below not_old not_new.
     let other = others_of_make c.in_ok-made.made.freed _ _ c.in_ok-made.made.at j c.in_ok-made.ensures.old c.in_ok-made.ensures.slot not_old not_new in
-    (rw c.area_of.ensures.value at c.in_err-write_made.ensures.others) j other.0 other.1
+    c.in_err-write_made.ensures.others j other.0 other.1
     ∙ slots_stay c.args.level c.args.self.now.areas _ (area_of c.args.level) c.in_ok-made.made.label (g.P.Sectors.state c.args.self.now.pool) (g.P.Sectors.state c.write_records.new.pool) (few_areas c.args.level) c.requires.ready
     c.in_ok-made.ensures.placed c.in_ok-write_records.ensures.within j below
 
 pub returns-clause-others : goal.returns-clause-others
 returns-clause-others g c = λ j below not_old not_new.
     let other = others_of_make c.in_ok-made.made.freed _ _ c.in_ok-made.made.at j c.in_ok-made.ensures.old c.in_ok-made.ensures.slot not_old not_new in
-    (rw c.area_of.ensures.value at c.in_ok-write_made.ensures.others) j other.0 other.1
+    c.in_ok-write_made.ensures.others j other.0 other.1
     ∙ slots_stay c.args.level c.args.self.now.areas _ (area_of c.args.level) c.in_ok-made.made.label (g.P.Sectors.state c.args.self.now.pool) (g.P.Sectors.state c.write_records.new.pool) (few_areas c.args.level) c.requires.ready
     c.in_ok-made.ensures.placed c.in_ok-write_records.ensures.within j below
 
@@ -105,8 +105,8 @@ pub returns-clause-says : goal.returns-clause-says
 returns-clause-says g c =
     says_made c.args.level c.args.new.now c.args.self.now.areas c.make.new.self (g.P.Sectors.state c.args.self.now.pool).contents (g.P.Sectors.state c.write_made.new.pool).contents c.in_ok-made.made.at c.in_ok-made.made.label c.in_ok-made.made.freed
     c.requires.ready c.requires.proper c.know_widths.ensures.codes c.know_widths.ensures.date c.in_ok-made.ensures.within c.in_ok-made.ensures.ok c.in_ok-made.ensures.alone c.in_ok-made.ensures.slot c.in_ok-made.ensures.there c.in_ok-made.ensures.old
-    (rw c.area_of.ensures.value at c.in_ok-write_made.ensures.written) (rw c.area_of.ensures.value at c.in_ok-write_made.ensures.cleared)
-    (λ j below not_old not_new. (rw c.area_of.ensures.value at c.in_ok-write_made.ensures.others) j not_old not_new
+    c.in_ok-write_made.ensures.written c.in_ok-write_made.ensures.cleared
+    (λ j below not_old not_new. c.in_ok-write_made.ensures.others j not_old not_new
     ∙ slots_stay c.args.level c.args.self.now.areas _ (area_of c.args.level) c.in_ok-made.made.label (g.P.Sectors.state c.args.self.now.pool) (g.P.Sectors.state c.write_records.new.pool) (few_areas c.args.level) c.requires.ready
     c.in_ok-made.ensures.placed c.in_ok-write_records.ensures.within j below)
 
@@ -166,7 +166,7 @@ pub returns-clause-within : goal.returns-clause-within
 returns-clause-within g c =
     make_within (area_of c.args.level) c.args.new.now.name _ c.in_ok-made.made.label _ _ _
     (record { slots = _; at = c.in_ok-made.made.at; is = c.in_ok-made.ensures.ok; there = c.in_ok-made.ensures.there; named = c.in_ok-made.ensures.named })
-    c.in_ok-write_records.ensures.within (rw c.area_of.ensures.value at c.in_ok-write_made.ensures.within)
+    c.in_ok-write_records.ensures.within c.in_ok-write_made.ensures.within
 
 pub returns-clause-failures : goal.returns-clause-failures
 returns-clause-failures g c = later_failed _ _ _ _ c.in_ok-write_records.ensures.failures c.in_ok-write_made.ensures.failures

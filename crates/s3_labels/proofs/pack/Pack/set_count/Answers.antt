@@ -17,15 +17,15 @@ returns-clause-ready g c =
 
 pub returns-in_err-write_count-clause-others : goal.returns-in_err-write_count-clause-others
 returns-in_err-write_count-clause-others g c = λ j other.
-    (rw c.area_of.ensures.value at c.in_err-write_count.ensures.others) j (other_place _ _ j c.in_ok-place.ensures.place other)
+    c.in_err-write_count.ensures.others j (other_place _ _ j c.in_ok-place.ensures.place other)
 
 pub returns-clause-others : goal.returns-clause-others
 returns-clause-others g c = λ j other.
-    (rw c.area_of.ensures.value at c.in_ok-write_count.ensures.others) j (other_place _ _ j c.in_ok-place.ensures.place other)
+    c.in_ok-write_count.ensures.others j (other_place _ _ j c.in_ok-place.ensures.place other)
 
 pub returns-clause-says : goal.returns-clause-says
 returns-clause-says g c =
     says_counted c.args.level c.args.name c.in_ok-place.place c.args.self.now.areas _ (g.P.Sectors.state c.args.self.now.pool).contents (g.P.Sectors.state c.write_count.new.pool).contents c.in_ok-place.ensures.within
-    c.in_ok-place.ensures.ok c.in_ok-place.ensures.place (rw c.area_of.ensures.value at c.in_ok-write_count.ensures.others) c.args.count (omega (arith, c.ranges.count))
+    c.in_ok-place.ensures.ok c.in_ok-place.ensures.place c.in_ok-write_count.ensures.others c.args.count (omega (arith, c.ranges.count))
     (count_kept c.args.level c.args.name c.args.count c.in_ok-place.place c.args.self.now.areas _ c.requires.ready c.in_ok-place.ensures.place c.requires.room)
-    c.recount.ensures (rw c.area_of.ensures.value at c.in_ok-write_count.ensures.written)
+    c.recount.ensures c.in_ok-write_count.ensures.written
