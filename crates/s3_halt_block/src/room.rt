@@ -3,11 +3,12 @@
 use crate::at_start::push_file_name;
 use s3_cards::Name;
 use s3_evidence::{Asked, JobFile, key_of};
-use s3_labels::Slot;
+use s3_labels::{Area, Slot};
 use s3_lines::sheet::FileLine;
+use s3_listing::room_of;
 use s3_ocl::{FileSize, FileStatement};
 use s3_opening::is_new;
-use s3_store::Stretch;
+use s3_pack_check::sector_count;
 use std::alloc::AllocError;
 
 /// The sectors of a track.
@@ -53,64 +54,15 @@ fn push_asked(
 /// Appends what a level's region has free.
 fn push_free(text: &mut String, asked: &Asked<'_>) -> Result<(), AllocError> {
     let number = asked.level.number();
-    let slots = asked.areas.slots(asked.level);
-    let region = asked.areas.region(asked.level);
-    let tracks = region.sectors / TRACK;
-    let free = free_tracks(region, slots);
-    let in_all = free.in_all;
+    let tracks = asked.areas.region(asked.level).sectors / TRACK;
+    let free = room_of(asked.areas, Area::Level(asked.level));
+    let in_all = free.tracks;
     let in_a_row = free.in_a_row;
-    let free_slots = count_free(slots);
+    let free_slots = count_free(asked.areas.slots(asked.level));
     writeln!(
         text,
         "  level {number} has {tracks} tracks: {in_all} free, {in_a_row} of them in a row; {free_slots} of 32 slots free"
     )
-}
-
-/// How many tracks are free.
-#[derive(Clone, Copy)]
-struct FreeTracks {
-    /// All that are free.
-    in_all: u32,
-    /// The most that lie one after the other.
-    in_a_row: u32,
-}
-
-fn free_tracks(region: Stretch, slots: &[Slot]) -> FreeTracks {
-    let mut free = FreeTracks {
-        in_all: 0,
-        in_a_row: 0,
-    };
-    let mut row: u32 = 0;
-    for track in 0..region.sectors / TRACK {
-        if is_free(
-            u32::from(region.start) + u32::from(track) * u32::from(TRACK),
-            slots,
-        ) {
-            free.in_all = free.in_all.saturating_add(1);
-            row = row.saturating_add(1);
-            free.in_a_row = free.in_a_row.max(row);
-        } else {
-            row = 0;
-        }
-    }
-    free
-}
-
-/// Whether no file of these slots has the track that begins at a sector.
-fn is_free(sector: u32, slots: &[Slot]) -> bool {
-    !slots.iter().any(|slot| match slot {
-        Slot::Sound(label) => label
-            .extents
-            .as_slice()
-            .iter()
-            .any(|run| has_sector(*run, sector)),
-        Slot::Free | Slot::Damaged(_) => false,
-    })
-}
-
-fn has_sector(run: Stretch, sector: u32) -> bool {
-    let start = u32::from(run.start);
-    start <= sector && sector < start + u32::from(run.sectors)
 }
 
 fn count_free(slots: &[Slot]) -> usize {
@@ -121,23 +73,15 @@ fn count_free(slots: &[Slot]) -> usize {
 }
 
 /// How many tracks the level's file of a label has, which a new file of that label replaces; none if it has no such file.
-fn tracks_of_old(asked: &Asked<'_>, name: Name) -> Option<u32> {
+fn tracks_of_old(asked: &Asked<'_>, name: Name) -> Option<usize> {
     for slot in asked.areas.slots(asked.level) {
         if let Slot::Sound(label) = slot {
             if label.name == name {
-                return Some(count_sectors(label.extents.as_slice()) / u32::from(TRACK));
+                return Some(sector_count(label) / usize::from(TRACK));
             }
         }
     }
     None
-}
-
-fn count_sectors(runs: &[Stretch]) -> u32 {
-    let mut count: u32 = 0;
-    for run in runs {
-        count = count.saturating_add(u32::from(run.sectors));
-    }
-    count
 }
 
 /// How many tracks a new file takes.
