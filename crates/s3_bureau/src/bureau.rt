@@ -330,6 +330,7 @@ impl<S: PackStore> Bureau<S> {
     }
 
     /// Performs an entry in its level, or stops.
+    #[inline(always)]
     fn enter(&mut self, entry: Entry, most: NonZeroU16) -> Result<Taken, SectorFault>
         requires { is_open self.old ≡ true }
         ensures { Enters entry.level entry.action (non_zero_u16_get most) result self.old self.new }

@@ -7,6 +7,7 @@ use Rattle.s3_cards.specs.declared.name.Name.{Name}
 use Rattle.s3_cards.specs.Names.{same_name}
 use Rattle.s3_cards.proofs.NameLemmas.{same_name-equal}
 use Rattle.s3_store.specs.Inner.State.{PoolState, ChangesWithin}
+use Rattle.s3_store.proofs.Frames.{within_refl}
 use Rattle.s3_store.specs.declared.sector_fault.SectorFault.{SectorFault}
 use Rattle.s3_slots.specs.Header.{region_of}
 use Rattle.s3_slots.specs.Labels.{sectors_of}
@@ -17,20 +18,21 @@ use Rattle.s3_slots.specs.declared.label.FileLabel.{FileLabel}
 use Rattle.s3_slots.specs.declared.slot.Slot.{Slot}
 use Rattle.s3_slots.specs.declared.slot.Standing.{Standing}
 use Rattle.s3_slots.specs.declared.slot.Standing.TheVariants.{Present}
+use Rattle.s3_labels.specs.Areas.{area_of, IsLabelSector}
 use Rattle.s3_labels.specs.Inner.Areas.{Areas, slots_at, with_slots, MayHave, IsReady as IsPackReady}
 use Rattle.s3_job_files.specs.declared.file.OpenFile.{OpenFile}
 use Rattle.s3_job_files.specs.Kept.{Kept, kept_on}
 use Rattle.s3_job_files.specs.Files.{Files, area_by}
 use Rattle.s3_job_files.specs.Closing.{closed_by, closed_slots, file_closed, files_closed, is_kept_for_job, is_scratch}
-use Rattle.s3_job_files.specs.Inner.Packs.{ChangesLabels}
+use Rattle.s3_job_files.specs.Inner.Packs.{ChangesLabels, LeavesPack}
 use Rattle.s3_job_files.specs.Inner.Holds.{Seen, seen, slots_by, IsUsable, Stands, AreOpen, IsReady, Closes, job_file_of, is_open, HoldsRecords, HoldsFiles, records_of, count_of}
 use Rattle.s3_job_files.proofs.Lists.{all_contained}
 use Rattle.s3_job_files.proofs.Held.{on_pack_by}
 use Rattle.s3_job_files.proofs.Frames.{SameAt, same_kept, same_records}
 use Rattle.s3_job_files.proofs.OneFile.{count_allowed, count_records}
-use Rattle.s3_job_files.proofs.Packs.{header_kept, masters_kept, not_label}
+use Rattle.s3_job_files.proofs.Packs.{header_kept, masters_kept, not_label, pack_kept}
 use Rattle.s3_job_files.proofs.Putting.{SameBut, differ_sym, differs_at, high_by, own_sound, same_apart, same_masters, stands_over}
-use Rattle.s3_job_files.proofs.Slots.{counted_else, counted_here, dropped_else, dropped_none}
+use Rattle.s3_job_files.proofs.Slots.{counted_else, counted_here, counted_same, dropped_else, dropped_none}
 
 -- ---- the files that are left
 rest_distinct : (level : LevelId) (file : OpenFile) (rest : List OpenFile) (s : Seen) → AreOpen level (file ∷ rest) s → (i j : ℕ) (first second : OpenFile) → slice_get rest i ≡ Some first
@@ -221,6 +223,18 @@ closes_counted level file n areas new_areas s u t (Ok done) pack stands own is c
     (counted_closed level file areas new_areas s u t pack (own_sound level (seen areas s.contents) file stands own) is kept first
     (slots ∙ ap (λ m. counted file.label.name m (slots_at level areas)) counts) labels)
 closes_counted level file n areas new_areas s u t (Err fault) pack stands own is counts kept first slots labels = tt
+
+-- a file is closed whose label has its count
+pub closes_as_counted : (level : LevelId) (file : OpenFile) (areas : Areas) (s u : PoolState) → IsPackReady areas s.contents
+    → Stands level (seen areas s.contents) file → file.is_master ≡ false → (file.is_made && is_kept_for_job file.label.retention) ≡ false
+    → count_of file.records ≡ file.label.count
+    → kept_on (record file.label { count = count_of file.records }) u.contents ≡ record { records = records_of file.records s.contents; has_good_index = true }
+    → ChangesWithin (Contains (sectors_of file.label)) s u → LeavesPack level (Ok (tt {0})) areas areas s u
+    → Closes level file (seen areas s.contents) (seen areas u.contents)
+closes_as_counted level file areas s u pack stands own is same kept first leaves =
+    closes_counted level file (count_of file.records) areas areas s u u (Ok (tt {0})) pack stands own is refl kept first
+    (sym (ap (λ m. counted file.label.name m (slots_at level areas)) same ∙ counted_same file.label.name (slots_at level areas) file.label (own_sound level (seen areas s.contents) file stands own)))
+    (record { within = within_refl (IsLabelSector (area_of level)) u; leaves = pack_kept level areas u (tt {0}) leaves.others.pack })
 
 -- ---- what the calls ask
 pub usable_alone : (level : LevelId) (areas : Areas) (contents : List (List ℕ)) (file : OpenFile) → IsPackReady areas contents → Stands level (seen areas contents) file → IsUsable contents file.label file.records

@@ -6,7 +6,7 @@ use Rattle.s3_cards.specs.declared.name.Name.{Name}
 use Rattle.s3_cards.specs.Names.{same_name}
 use Rattle.s3_cards.proofs.NameLemmas.{same_name-equal}
 use Rattle.s3_store.specs.declared.stretch.Stretch.{Stretch}
-use Rattle.s3_store.proofs.SectorLists.{slice_get_set_other, slice_get_set_same}
+use Rattle.s3_store.proofs.SectorLists.{slice_get_set_other, slice_get_set_same, slice_set_known}
 use Rattle.s3_slots.specs.Inner.Kept.{AreKept}
 use Rattle.s3_slots.specs.Making.{counted, dropped}
 use Rattle.s3_slots.specs.Slots.{bears, is_damaged_under, standing, standing_with, slot_at}
@@ -65,6 +65,12 @@ pub counted_here : (name : Name) (n : ℕ) (slots : List Slot) (old : FileLabel)
 counted_here name n slots old stands =
     let at = slot_of name slots old stands in
     ap (standing name) (counted_is name n slots old at.slot at.found at.there) ∙ set_here slots at.slot old (record old { count = n }) name at.there at.found refl
+
+-- the count that a label has is set
+pub counted_same : (name : Name) (slots : List Slot) (old : FileLabel) → standing name slots ≡ Present old → counted name old.count slots ≡ slots
+counted_same name slots old stands =
+    let at = slot_of name slots old stands in
+    counted_is name old.count slots old at.slot at.found at.there ∙ slice_set_known slots at.slot (Sound old) at.there
 
 pub counted_else : (name : Name) (n : ℕ) (slots : List Slot) (old : FileLabel) (q : Name) → standing name slots ≡ Present old → same_name name q ≡ false
     → standing q (counted name n slots) ≡ standing q slots

@@ -55,7 +55,7 @@ fn set_count<P: Sectors>(
     changed(pack.set_count(level, name, count))
 }
 
-/// Closes a file: the count of a file of the level's own is set; a scratch file that the job made goes.
+/// Closes a file: the count of a file of the level's own is set, unless its label has it; a scratch file that the job made goes.
 fn close_file<P: Sectors>(
     level: LevelId,
     file: OpenFile,
@@ -74,7 +74,11 @@ fn close_file<P: Sectors>(
         return drop_label(level, name, pack);
     }
     let count = file.records.len();
+    let is_label_right = count == file.label.count;
     file.close(&mut pack.pool)?;
+    if is_label_right {
+        return Ok(());
+    }
     set_count(level, name, count, pack)
 }
 

@@ -1,14 +1,18 @@
 -- Lemmas about first errors.
-use Rattle.std.proofs.Common.{◌≡◌, ℕ, ◌+◌, ◌*◌, ◌<◌, List, [], ◌∷◌, ◌++◌, true, false, cond, refl, sym, ◌∙◌, ap, inl, inr, arith, length, take, get_or, lit<, ltb-true, lt-ltb}
+use Rattle.std.proofs.Common.{◌≡◌, ℕ, ◌+◌, ◌*◌, ◌<◌, List, [], ◌∷◌, ◌++◌, Bool, true, false, cond, not, refl, sym, ◌∙◌, ap, inl, inr, suc, arith, length, take, drop, get_or, lit<, ltb-true, lt-ltb}
 use Rattle.std.proofs.lemmas.List.{take_more, flat_map_more}
-use Rattle.std.specs.Prelude.{Option, Some, None, ◌==◌, nat_lt}
-use Rattle.std.specs.List.{flat_map}
-use Rattle.std.proofs.lemmas.Bool.{cases_Bool}
+use Rattle.std.specs.Prelude.{Option, Some, None, ◌==◌, ◌||◌, find, nat_lt}
+use Rattle.std.specs.List.{after_first, flat_map, position_or_len}
+use Rattle.std.proofs.lemmas.Bool.{cases_Bool, eqb-true, true≢false}
 use Rattle.std.proofs.lemmas.Bool.Decides.{nat_tests}
 use Rattle.s3_ocl.specs.declared.faults.JobFault.{JobFault}
 use Rattle.s3_ocl.specs.declared.faults.JobFault.TheVariants.{NotOcl, Keyword, Value, NoRun, Twice}
 use Rattle.s3_ocl.specs.declared.faults.Mark.{Mark}
-use Rattle.s3_ocl.specs.Faults.{fault_number, is_before, earlier, first_fault}
+use Rattle.s3_ocl.specs.declared.parameters.Parameter.{Parameter}
+use Rattle.s3_ocl.specs.declared.statements.Piece.{Piece}
+use Rattle.s3_ocl.specs.Contents.{gives, is_given, is_parameter, rank, stands_at}
+use Rattle.s3_ocl.specs.Faults.{again_faults, earlier, fault_number, file_parameters, first_fault, is_before, twice_on}
+use Rattle.s3_ocl.specs.Inner.Steps.{gives_twice, is_given_in}
 
 pub earlier-none : (a : Option Mark) → earlier a None ≡ a
 earlier-none None = refl
@@ -96,3 +100,47 @@ all_faults a b c d e =
     ∙ ap (λ m. earlier m (first_fault e)) (first_fault-append ((a ++ b) ++ c) d
     ∙ ap (λ m. earlier m (first_fault d)) (first_fault-append (a ++ b) c
     ∙ ap (λ m. earlier m (first_fault c)) (first_fault-append a b))))
+
+same_parameter : (given other : Parameter) → rank other ≡ rank given → (at : Option Parameter) → is_parameter given at ≡ is_parameter other at
+same_parameter given other e None = refl
+same_parameter given other e (Some parameter) = ap (λ n. rank parameter == n) (sym e)
+
+neither : (a b : Bool) → (a || b) ≡ false → (a ≡ false) × (b ≡ false)
+neither true b h = absurd (true≢false h)
+neither false b h = (refl, h)
+
+-- no piece gives a parameter of the rank of one that none gives
+none_found : (pieces : List Piece) (given other : Parameter) → rank other ≡ rank given → is_given other pieces ≡ false → find (gives given) pieces ≡ None
+none_found [] given other e h = refl
+none_found (piece ∷ pieces) given other e h =
+    let parts = neither (gives other piece) (is_given other pieces) h in
+    rw (same_parameter given other e (stands_at piece.entry) ∙ parts.0) (none_found pieces given other e parts.1)
+
+once_among : (pieces : List Piece) (given : Parameter) (at : Option Parameter) → is_given_in pieces at ≡ false → is_parameter given at ≡ true
+    → find (gives given) pieces ≡ None
+once_among pieces given None h is = absurd (true≢false (sym is))
+once_among pieces given (Some other) h is = none_found pieces given other (eqb-true (rank other) (rank given) is) h
+
+-- no piece gives a parameter after the first one that does
+found_once : (pieces : List Piece) (given : Parameter) → gives_twice pieces ≡ false → find (gives given) (after_first (gives given) pieces) ≡ None
+found_once [] given h = refl
+found_once (piece ∷ pieces) given h =
+    let parts = neither (is_given_in pieces (stands_at piece.entry)) (gives_twice pieces) h in
+    by (gives given piece) refl parts.0 (found_once pieces given parts.1)
+  where
+    by : (b : Bool) → gives given piece ≡ b → is_given_in pieces (stands_at piece.entry) ≡ false
+        → find (gives given) (after_first (gives given) pieces) ≡ None
+        → find (gives given) (drop (cond (not b) (1 + position_or_len (gives given) pieces) 0 + 1) (piece ∷ pieces)) ≡ None
+    by true is here later = once_among pieces given (stands_at piece.entry) here is
+    by false is here later =
+        let e : 1 + position_or_len (gives given) pieces + 1 ≡ suc (position_or_len (gives given) pieces + 1) = omega arith in
+        rw e later
+
+none_more : {X Y : Type 0} (f : X → List Y) (xs : List X) → ((x : X) → f x ≡ []) → flat_map f xs ≡ []
+none_more f [] h = refl
+none_more f (x ∷ xs) h = ap (λ ys. ys ++ flat_map f xs) (h x) ∙ none_more f xs h
+
+-- there is no fault if no parameter is given twice
+pub none_twice : (pieces : List Piece) → gives_twice pieces ≡ false → None ≡ first_fault (flat_map (again_faults pieces) file_parameters)
+unfolding first_fault
+none_twice pieces h = sym (ap first_fault (none_more (again_faults pieces) file_parameters (λ given. ap twice_on (found_once pieces given h))))

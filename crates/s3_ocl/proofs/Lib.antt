@@ -8,3 +8,4 @@ pub mod PieceLemmas
 pub mod SoundLemmas
 pub mod StreamLemmas
 pub mod SwitchLemmas
+pub mod WordLemmas

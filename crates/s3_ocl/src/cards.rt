@@ -2,18 +2,11 @@
 ghost use Rattle.std.specs.Prelude.{◌≡◌, ◌<◌, ◌≤◌, IfSome, drop, length, slice_get};
 ghost use Rattle.std.specs.Option.{option_copied};
 ghost use Rattle.std.specs.List.{position_or_len};
-ghost use Rattle.s3_ocl.specs.Cards.{is_data_end as data_end_spec, is_job_end as job_end_spec, is_statement as statement_spec, is_separator as separator_spec, begins_job as begins_job_spec, closes_job as closes_job_spec, next_place, word_of, behind_word, first_word as first_word_spec, second_word as second_word_spec, is_continuation as continuation_spec};
+ghost use Rattle.s3_ocl.specs.Cards.{is_job_end as job_end_spec, is_statement as statement_spec, is_separator as separator_spec, begins_job as begins_job_spec, closes_job as closes_job_spec, next_place, from_word as from_word_spec, word_of, behind_word, first_word as first_word_spec, second_word as second_word_spec, is_continuation as continuation_spec};
 ghost use Rattle.s3_ocl.specs.Inner.Cards.{stops_at};
 
 use s3_cards::ebcdic::{AMPERSAND, ASTERISK, BLANK, SLASH};
-use s3_cards::{Card, blanks_in_front, word_len};
-
-/// Whether a card begins `/*`.
-pub fn is_data_end(card: &Card) -> bool
-    ensures { result ≡ data_end_spec card.now }
-{
-    card.starts_with(&[SLASH, ASTERISK])
-}
+use s3_cards::{Card, are_same_eight, blanks_in_front, word_len};
 
 /// Whether a card begins `/&`.
 pub fn is_job_end(card: &Card) -> bool
@@ -29,11 +22,13 @@ pub fn is_statement(card: &Card) -> bool
     card.starts_with(&[SLASH, SLASH, BLANK])
 }
 
-/// Whether a card is a separator: it ends data, and may be between jobs.
+/// Whether a card is a separator: it ends data, and may be between jobs. Most cards that a search passes have no `/` in column 1, so
+/// that is tested first.
+#[tactic(auto, using(crate::proofs::WordLemmas::separator_by_columns))]
 pub fn is_separator(card: &Card) -> bool
     ensures { result ≡ separator_spec card.now }
 {
-    is_data_end(card) || is_job_end(card)
+    card[0] == SLASH && (card[1] == ASTERISK || card[1] == AMPERSAND)
 }
 
 /// Whether a job begins at a card between jobs.
@@ -93,12 +88,34 @@ fn cards_before(stop: Stop, cards: &[Card]) -> usize
     cards.iter().take_while(|card| !stop.is(card)).count()
 }
 
+/// A text without whole groups of eight blanks in front, as a card without parameters has them after its keyword.
+fn behind_eights(text: &[u8]) -> &[u8]
+    ensures { from_word_spec result.now ≡ from_word_spec text.now }
+{
+    let mut rest = text;
+    while let Some((first, after)) = rest.split_first_chunk::<8>() {
+        if !are_same_eight(first, &[BLANK; 8]) {
+            return rest;
+        }
+        rest = after;
+    }
+    rest
+}
+
+/// A text from its first nonblank code.
+fn from_word(text: &[u8]) -> &[u8]
+    ensures { result.now ≡ from_word_spec text.now }
+{
+    let rest = behind_eights(text);
+    &rest[blanks_in_front(rest)..]
+}
+
 /// The first word of a text, and the text after it.
 fn split_word(text: &[u8]) -> (&[u8], &[u8])
     ensures word { result.0.now ≡ word_of text.now }
     ensures behind { result.1.now ≡ behind_word text.now }
 {
-    let from_word = &text[blanks_in_front(text)..];
+    let from_word = from_word(text);
     from_word.split_at(word_len(from_word))
 }
 
@@ -116,11 +133,13 @@ pub fn first_word(card: &Card) -> &[u8]
     split_word(behind_slashes(card)).0
 }
 
-/// The second word after the `//` of a card.
-pub fn second_word(card: &Card) -> &[u8]
-    ensures { result.now ≡ second_word_spec card.now }
+/// The first and the second word after the `//` of a card.
+pub fn first_words(card: &Card) -> (&[u8], &[u8])
+    ensures first { result.0.now ≡ first_word_spec card.now }
+    ensures second { result.1.now ≡ second_word_spec card.now }
 {
-    split_word(split_word(behind_slashes(card)).1).0
+    let (first, rest) = split_word(behind_slashes(card));
+    (first, split_word(rest).0)
 }
 
 /// Whether the parameters of a statement may continue on a card.

@@ -35,7 +35,7 @@ pub struct FileStatement {
 }
 
 /// The parameter at an entry, if there is one.
-fn stands_at(entry: Entry) -> Option<Parameter>
+pub fn stands_at(entry: Entry) -> Option<Parameter>
     ensures { result ≡ stands_at_spec entry }
 {
     match entry {

@@ -1,11 +1,11 @@
 //! What is wrong with the statements of a job, and on which card.
 ghost use Rattle.std.specs.Prelude.{◌≡◌, ◌≤◌, Some, length};
 ghost use Rattle.std.specs.List.{after_first, flat_map, position_or_len};
-ghost use Rattle.s3_ocl.specs.Contents.{gives as gives_spec, named as named_spec};
+ghost use Rattle.s3_ocl.specs.Contents.{gives as gives_spec, named as named_spec, stands_at as stands_at_spec};
 ghost use Rattle.s3_ocl.specs.Faults.{fault_number, is_before as is_before_spec, earlier as earlier_spec, first_fault, fault_if as fault_if_spec, is_taken as is_taken_spec, piece_faults, again_faults, file_parameters, lacks_needed as lacks_needed_spec, is_ill_formed as is_ill_formed_spec, is_again as is_again_spec, lacks_load as lacks_load_spec, verb_faults, has_two_sizes as has_two_sizes_spec, statement_faults};
-ghost use Rattle.s3_ocl.specs.Inner.Steps.{Behind};
+ghost use Rattle.s3_ocl.specs.Inner.Steps.{Behind, gives_twice as gives_twice_spec, is_given_in as is_given_in_spec};
 
-use super::contents::{Contents, first_giving, gives, is_given, named};
+use super::contents::{Contents, first_giving, gives, is_given, named, stands_at};
 use super::file_list::FileList;
 use super::parameters::{Entry, Parameter, Verb};
 use super::statements::{Piece, Statement};
@@ -175,11 +175,38 @@ const FILE_PARAMETERS: [Parameter; 7] = [
     Parameter::Retain,
 ];
 
+/// Whether one of these pieces gives the parameter of another piece, if that has one.
+fn is_given_in(pieces: &[Piece], piece: &Piece) -> bool
+    ensures { result ≡ is_given_in_spec pieces.now (stands_at_spec piece.now.entry) }
+{
+    match stands_at(piece.entry) {
+        None => false,
+        Some(parameter) => is_given(parameter, pieces),
+    }
+}
+
+/// Whether a parameter is given twice. Most statements have one or two.
+fn gives_twice(pieces: &[Piece]) -> bool
+    ensures { result ≡ gives_twice_spec pieces.now }
+{
+    let mut rest = pieces;
+    while let Some((piece, after)) = rest.split_first() {
+        if is_given_in(after, piece) {
+            return true;
+        }
+        rest = after;
+    }
+    false
+}
+
 /// The first fault of the parameters that are given twice.
-#[tactic(auto, using(crate::proofs::FaultLemmas::no_fault_yet, crate::proofs::FaultLemmas::fault_more))]
+#[tactic(auto, using(crate::proofs::FaultLemmas::none_twice, crate::proofs::FaultLemmas::no_fault_yet, crate::proofs::FaultLemmas::fault_more))]
 fn repeated_fault(pieces: &[Piece]) -> Option<Mark>
     ensures { result ≡ first_fault (flat_map (again_faults pieces.now) file_parameters) }
 {
+    if !gives_twice(pieces) {
+        return None;
+    }
     let mut fault = None;
     for parameter in FILE_PARAMETERS {
         fault = earlier(fault, again_fault(pieces, parameter));

@@ -277,9 +277,10 @@ fn read_job(alloc: Global, cards: &[Card], start: usize) -> Result<JobCards, Ocl
     ensures places { LiesWithin cards.now start result }
 {
     let mut contents = Contents::new(alloc);
+    let mut pieces = Vec::new(alloc);
     let mut place = start;
     while has_statement(cards, place) {
-        let statement = read_statement(alloc, cards, place)?;
+        let statement = read_statement(pieces, cards, place)?;
         if let Some(mark) = fault_here(cards, &contents, &statement, place) {
             return Err(OclFault::Faulty(faulty(cards, mark)));
         }
@@ -288,6 +289,7 @@ fn read_job(alloc: Global, cards: &[Card], start: usize) -> Result<JobCards, Ocl
         if statement.does(Verb::Run) {
             return Ok(job_with(contents, cards, place));
         }
+        pieces = statement.pieces;
     }
     Err(OclFault::Faulty(faulty(cards, stop_fault(cards, place))))
 }

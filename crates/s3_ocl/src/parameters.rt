@@ -9,7 +9,7 @@ use super::values::{
     unit_value,
 };
 use super::words::{
-    DATE, FILE, LABEL, LOAD, NAME, PACK, RECORDS, RETAIN, RUN, SWITCH, TRACKS, UNIT,
+    DATE, FILE, LABEL, LOAD, NAME, PACK, RECORDS, RETAIN, RUN, SWITCH, TRACKS, UNIT, reads,
 };
 use s3_cards::ebcdic::{COMMA, MINUS};
 
@@ -74,15 +74,15 @@ pub enum Entry {
 pub fn verb_of(keyword: &[u8]) -> Option<Verb>
     ensures { result ≡ verb_spec keyword.now }
 {
-    if keyword == LOAD.as_slice() {
+    if reads(keyword, &LOAD) {
         Some(Verb::Load)
-    } else if keyword == FILE.as_slice() {
+    } else if reads(keyword, &FILE) {
         Some(Verb::File)
-    } else if keyword == DATE.as_slice() {
+    } else if reads(keyword, &DATE) {
         Some(Verb::Date)
-    } else if keyword == SWITCH.as_slice() {
+    } else if reads(keyword, &SWITCH) {
         Some(Verb::Switch)
-    } else if keyword == RUN.as_slice() {
+    } else if reads(keyword, &RUN) {
         Some(Verb::Run)
     } else {
         None
@@ -93,19 +93,19 @@ pub fn verb_of(keyword: &[u8]) -> Option<Verb>
 fn parameter_of(key: &[u8]) -> Option<Parameter>
     ensures { result ≡ parameter_spec key.now }
 {
-    if key == NAME.as_slice() {
+    if reads(key, &NAME) {
         Some(Parameter::FileName)
-    } else if key == UNIT.as_slice() {
+    } else if reads(key, &UNIT) {
         Some(Parameter::Unit)
-    } else if key == PACK.as_slice() {
+    } else if reads(key, &PACK) {
         Some(Parameter::Pack)
-    } else if key == LABEL.as_slice() {
+    } else if reads(key, &LABEL) {
         Some(Parameter::Label)
-    } else if key == RECORDS.as_slice() {
+    } else if reads(key, &RECORDS) {
         Some(Parameter::Records)
-    } else if key == TRACKS.as_slice() {
+    } else if reads(key, &TRACKS) {
         Some(Parameter::Tracks)
-    } else if key == RETAIN.as_slice() {
+    } else if reads(key, &RETAIN) {
         Some(Parameter::Retain)
     } else {
         None

@@ -4,12 +4,12 @@ ghost use Rattle.s3_ocl.specs.Parameters.{parts_of};
 ghost use Rattle.s3_ocl.specs.Statements.{piece_of, pieces_in, texts_behind, is_verb, statement_at};
 ghost use Rattle.s3_ocl.specs.Inner.Steps.{pieces_more};
 
-use super::cards::{card_at, first_word, is_continuation, second_word};
+use super::cards::{card_at, first_word, first_words, is_continuation};
 use super::parameters::{
     Entry, Verb, behind_comma, entry_of, first_part, goes_on, verb_of, without_comma,
 };
 use s3_cards::Card;
-use std::alloc::{AllocError, Global};
+use std::alloc::AllocError;
 use std::marker::Model;
 
 /// What is at the place of a parameter, with the number of its card.
@@ -127,17 +127,23 @@ fn next_text<'a>(text: &[u8], cards: &'a [Card], place: usize) -> Option<&'a [u8
     }
 }
 
-/// The statement that begins at a place.
+/// The statement that begins at a place. Its parameters get the space of others, which are dropped.
 #[tactic(auto, using(crate::proofs::PieceLemmas::first_card_read, crate::proofs::PieceLemmas::one_more_card, crate::proofs::PieceLemmas::statement_read))]
-pub fn read_statement(alloc: Global, cards: &[Card], place: usize) -> Result<Statement, AllocError>
+pub fn read_statement(
+    others: Vec<Piece>,
+    cards: &[Card],
+    place: usize,
+) -> Result<Statement, AllocError>
     requires within { place < length cards.now }
     requires short { length cards.now ≤ 9_999 }
     ensures within { IfOk result (λ statement. (0 < statement.cards) × (place + statement.cards ≤ length cards.now)) }
     ensures value { IfOk result (λ statement. statement ≡ statement_at (place + 1) (slice_index_or cards.now place []) (drop (place + 1) cards.now)) }
 {
-    let verb = verb_of(first_word(&cards[place]));
-    let mut text = second_word(&cards[place]);
-    let mut pieces = Vec::new(alloc);
+    let (keyword, parameters) = first_words(&cards[place]);
+    let verb = verb_of(keyword);
+    let mut text = parameters;
+    let mut pieces = others;
+    pieces.clear();
     add_known_pieces(&mut pieces, verb, place as u16 + 1, text)?;
     let mut end = place + 1;
     while let Some(next) = next_text(text, cards, end) {

@@ -4,7 +4,7 @@ ghost use Rattle.std.specs.List.{list_all};
 ghost use Rattle.s3_cards.specs.Names.{is_digit as digit_spec};
 ghost use Rattle.s3_ocl.specs.Values.{name_value as name_value_spec, unit_value as unit_value_spec, pack_value as pack_value_spec, count_value as count_value_spec, retention_value as retention_value_spec, two_digits as two_digits_spec, is_date as date_spec, dated as dated_spec, date_value as date_value_spec, without_slashes as without_slashes_spec, is_switch as switch_spec, switch_of, switches_value as switches_value_spec};
 
-use super::words::{F1, F2, R1, R2};
+use super::words::{F1, F2, R1, R2, reads};
 use s3_cards::ebcdic::{BLANK, DIGIT_0, DIGIT_1, LETTER_P, LETTER_S, LETTER_T, LETTER_X, SLASH};
 use s3_cards::{Name, Retention, go_on_in_name, is_digit, is_word, number_spelled};
 
@@ -52,11 +52,7 @@ pub fn name_value(limit: usize, text: &[u8]) -> Option<Value>
 pub fn unit_value(text: &[u8]) -> Option<Value>
     ensures { result ≡ unit_value_spec text.now }
 {
-    if text == R1.as_slice()
-        || text == R2.as_slice()
-        || text == F1.as_slice()
-        || text == F2.as_slice()
-    {
+    if reads(text, &R1) || reads(text, &R2) || reads(text, &F1) || reads(text, &F2) {
         Some(Value::Checked)
     } else {
         None

@@ -1,5 +1,6 @@
 //! The words of the statements.
 ghost use Rattle.std.specs.Prelude.{◌≡◌};
+ghost use Rattle.s3_ocl.specs.Words.{reads as reads_spec};
 ghost use Rattle.s3_ocl.specs.Inner.Words.{words as words_spec, punched_words};
 
 use s3_cards::punched;
@@ -54,6 +55,14 @@ pub const F2: [u8; 2] = punched!(2, b"F2");
 
 /// `$RPG`, the name of the compiler.
 pub const COMPILER: [u8; 8] = punched!(8, b"$RPG    ");
+
+/// Whether a text is this word.
+#[tactic(auto, using(crate::proofs::WordLemmas::reads_as_long, crate::proofs::WordLemmas::reads_no_other_length))]
+pub fn reads(text: &[u8], word: &[u8]) -> bool
+    ensures { result ≡ reads_spec text.now word.now }
+{
+    text.len() == word.len() && text.starts_with(word)
+}
 
 /// Each word that the definitions name is its text as it is punched, in EBCDIC.
 #[tactic(auto, unfolding(s3_cards::specs::Codes::ebcdic, s3_cards::specs::Codes::code_page))]

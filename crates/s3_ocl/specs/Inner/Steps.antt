@@ -1,16 +1,17 @@
 -- Steps of the reader. They don't define what a job is: other files do, and proofs connect the two.
-use Rattle.std.specs.Prelude.{◌≡◌, ℕ, ◌||◌, List, [], ◌++◌, Bool, false, Option, Some, None, length, nat_lt, if◌then◌else◌}
+use Rattle.std.specs.Prelude.{◌≡◌, ℕ, ◌||◌, List, [], ◌∷◌, ◌++◌, Bool, false, Option, Some, None, length, nat_lt, if◌then◌else◌}
 use Rattle.std.specs.Option.{option_or, option_to_list}
 use Rattle.s3_cards.specs.declared.name.Name.{Name}
 use Rattle.s3_ocl.specs.declared.faults.JobFault.TheVariants.{NoRun}
 use Rattle.s3_ocl.specs.declared.faults.Mark.{Mark}
+use Rattle.s3_ocl.specs.declared.parameters.Parameter.{Parameter}
 use Rattle.s3_ocl.specs.declared.parameters.Parameter.TheVariants.{Program}
 use Rattle.s3_ocl.specs.declared.parameters.Verb.{Verb}
 use Rattle.s3_ocl.specs.declared.parameters.Verb.TheVariants as verb
 use Rattle.s3_ocl.specs.declared.statements.Piece.{Piece}
 use Rattle.s3_ocl.specs.declared.values.Switch.{Switch}
 use Rattle.s3_ocl.specs.declared.contents.FileStatement.{FileStatement}
-use Rattle.s3_ocl.specs.Contents.{date_in, date_of, file_of, files_of, has, name_in, program_of, switches_in, switches_of}
+use Rattle.s3_ocl.specs.Contents.{date_in, date_of, file_of, files_of, has, is_given, name_in, program_of, stands_at, switches_in, switches_of}
 use Rattle.s3_ocl.specs.Faults.{earlier}
 use Rattle.s3_ocl.specs.Parameters.{parts_of}
 use Rattle.s3_ocl.specs.Statements.{Statement, is_verb, pieces_in}
@@ -19,6 +20,16 @@ use Rattle.s3_ocl.specs.Statements.{Statement, is_verb, pieces_in}
 abbrev pub pieces_more : Option Verb → ℕ → List Piece → List ℕ → List Piece
 pieces_more None number pieces text = []
 pieces_more (Some verb) number pieces text = pieces_in verb number (length pieces) (parts_of text)
+
+-- whether one of these parameters is the one given, if there is one
+abbrev pub is_given_in : List Piece → Option Parameter → Bool
+is_given_in pieces None = false
+is_given_in pieces (Some given) = is_given given pieces
+
+-- whether a parameter is given twice
+abbrev pub gives_twice : List Piece → Bool
+gives_twice [] = false
+gives_twice (piece ∷ pieces) = is_given_in pieces (stands_at piece.entry) || gives_twice pieces
 
 -- the data that the reader keeps of the statements read so far
 pub record Contents : Type 0 where

@@ -1,5 +1,5 @@
 use Rattle.std.proofs.Common.{sym, ◌∙◌}
-use Rattle.s3_job_files.proofs.Closed.{closes_counted, closes_dropped, closes_master, room_for, usable_alone}
+use Rattle.s3_job_files.proofs.Closed.{closes_as_counted, closes_counted, closes_dropped, closes_master, room_for, usable_alone}
 use Rattle.s3_job_files.proofs.Packs.{file_leaves, pack_err, pack_kept, pack_then}
 use Rattle.s3_job_files.proofs.closing.close_file.Goals as goal
 
@@ -25,6 +25,15 @@ returns-in_err-close-clause-leaves g c = pack_err _ c.from_residual.ensures.1 (f
 
 pub set_count-requires-clause-room : goal.set_count-requires-clause-room
 set_count-requires-clause-room g c = room_for c.args.level c.args.pack.now.areas _ c.args.file c.len-count.result c.requires.ready c.requires.stands c.if-file.false c.len-count.ensures
+
+pub returns-then-is_label_right-clause-closes : goal.returns-then-is_label_right-clause-closes
+returns-then-is_label_right-clause-closes g c =
+    closes_as_counted c.args.level c.args.file c.args.pack.now.areas _ _ c.requires.ready c.requires.stands
+    c.if-file.false (sym c.goes_at_end.ensures ∙ c.if-goes_at_end.false) (sym c.len-count.ensures ∙ c.if-is_label_right.true) c.in_ok-close.ensures.kept c.close.ensures.changes.within
+    (file_leaves c.requires.ready c.requires.stands c.if-file.false c.in_ok-close.ensures.changes)
+
+pub returns-then-is_label_right-clause-leaves : goal.returns-then-is_label_right-clause-leaves
+returns-then-is_label_right-clause-leaves g c = file_leaves c.requires.ready c.requires.stands c.if-file.false c.in_ok-close.ensures.changes
 
 pub returns-clause-closes : goal.returns-clause-closes
 returns-clause-closes g c =
