@@ -23,12 +23,17 @@ use Rattle.s3_cycle.specs.declared.progress.Time.{Time}
 use Rattle.s3_cycle.specs.declared.progress.Time.TheVariants as time
 use Rattle.s3_cycle.specs.declared.stepper.Stepper.{Stepper}
 use Rattle.s3_cycle.specs.Inner.Rest.{after_calculations, after_lines, calculating, lines_from, lines_then, overflow_end, record_moved, totals_done, totals_end}
+use Rattle.s3_operations.specs.declared.values.Values.{Values}
+use Rattle.s3_operations.specs.Inner.Held.{IsSound}
+use Rattle.s3_instructions.specs.Inner.Calculations.{passed_over}
 use Rattle.s3_instructions.specs.Inner.Guards.{guard_holds}
+use Rattle.s3_instructions.proofs.StandLemmas.{forgets}
 use Rattle.s3_cycle.specs.Inner.Calculating.{IsAtTotals, IsOver}
 use Rattle.s3_cycle.specs.Inner.Environment.{environment, others}
 use Rattle.s3_cycle.specs.Inner.Entries.{turn_entry, is_entry_on}
 use Rattle.s3_cycle.specs.Inner.Going.{own, held_by, here, Changes, GoesOn, IsOverflowTime, IsRunning, IsTaken, IsTime, IsTotalTime}
 use Rattle.s3_cycle.specs.Inner.Lines.{PassesAll}
+use Rattle.s3_cycle.proofs.CalculatingLemmas.{at_values, moved_running, with_values}
 use Rattle.s3_cycle.proofs.GoingLemmas.{goes_then, goes_as, goes_changed}
 use Rattle.s3_cycle.proofs.PrintLemmas.{own_overflow}
 use Rattle.s3_cycle.proofs.WalkLemmas.{all_lines}
@@ -60,13 +65,27 @@ at_totals program spot course begins = record {
   returns = begins.returns;
 }
 
--- if the totals guard doesn't hold, all total calculations are done
-pub totals_idle : (c : Stepper) → IsRunning c → IsAtTotals c.program c.progress.course → guard_holds c.state.values.indicators c.totals_guard ≡ false → IsOver c c
+-- the run after total calculations that were passed over
+abbrev pub totals_passed : Stepper → Stepper
+totals_passed c = at_values c (passed_over c.totals_guard.divides c.state.values)
+
+passed_sound : (p : Program) (divides : Bool) (values : Values) → IsSound p values → IsSound p (passed_over divides values)
+passed_sound p true values sound = forgets p values sound
+passed_sound p false values sound = sound
+
+-- if the totals guard doesn't hold, all total calculations are passed over
+pub totals_over : (c : Stepper) → IsRunning c → IsAtTotals c.program c.progress.course → guard_holds c.state.values.indicators c.totals_guard.levels ≡ false → IsOver c (totals_passed c)
 unfolding environment
-totals_idle c running totals off =
+totals_over c running totals off =
     let go : Rest = after_calculations (own c) c.program c.progress c.progress.time in
+    let values : Values = passed_over c.totals_guard.divides c.state.values in
     record {
-      calculates = record { program = refl; reading = refl; time = refl; running = running };
+      calculates = record {
+        program = refl;
+        reading = refl;
+        time = refl;
+        running = moved_running c (with_values c.state values) c.progress.course running (record { values = passed_sound c.program c.totals_guard.divides c.state.values running.state.values; current = running.state.current });
+      };
       runs =
           (λ i. goes_through c.program (again (own c)) go (totals.returns i ++ c.progress.course.here ∷ []) (held_by c))
           ∙ (ap (λ (k : ℕ). calculated (own c) (again (own c)) (rest_of c.program c.progress.course.here.section c.progress.course.here.begin) go None (rest_of c.program c.progress.course.here.section k) (held_by c)) totals.first

@@ -11,8 +11,9 @@ use crate::progress::{Point, Progress, Time};
 use crate::request::Request;
 use crate::state::State;
 use crate::stepper::Stepper;
-use s3_instructions::calculation::{CalculationInstruction, calculations, totals_guard};
-use s3_instructions::guard::Guard;
+use s3_instructions::calculation::{
+    CalculationInstruction, TotalsGuard, calculations, totals_guard,
+};
 use s3_instructions::input::{InputInstruction, inputs};
 use s3_instructions::output::OutputSheet;
 use s3_match::controls::Controls;
@@ -115,11 +116,11 @@ impl State {
     }
 }
 
-/// The instructions of a program's sheets, and when its total calculations can do anything at all.
+/// The instructions of a program's sheets, and when its total calculations are passed over.
 #[derive(Drop)]
 pub struct Instructions {
     pub(crate) calculations: Vec<CalculationInstruction>,
-    pub(crate) totals_guard: Guard,
+    pub(crate) totals_guard: TotalsGuard,
     pub(crate) inputs: Vec<InputInstruction>,
     pub(crate) outputs: OutputSheet,
 }

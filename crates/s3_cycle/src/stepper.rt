@@ -5,8 +5,7 @@ ghost use Rattle.std.specs.Option.{option_copied};
 use crate::progress::{Point, Progress};
 use crate::request::Request;
 use crate::state::State;
-use s3_instructions::calculation::CalculationInstruction;
-use s3_instructions::guard::Guard;
+use s3_instructions::calculation::{CalculationInstruction, TotalsGuard};
 use s3_instructions::input::InputInstruction;
 use s3_instructions::output::OutputSheet;
 use s3_lines::indicator::Indicator;
@@ -21,8 +20,8 @@ pub struct Stepper {
     pub program: Program,
     /// The instructions of its C sheet.
     pub calculations: Vec<CalculationInstruction>,
-    /// When its total calculations can do anything at all.
-    pub totals_guard: Guard,
+    /// When its total calculations are passed over.
+    pub totals_guard: TotalsGuard,
     /// The instructions of its I sheet.
     pub inputs: Vec<InputInstruction>,
     /// The overflow indicator of its print file.
