@@ -53,7 +53,7 @@ pub fn push_halt<S: PackStore>(
     match held.cycle() {
         Some(cycle) => {
             let source = source_of(alloc, begun, held, cycle.program_name())?;
-            push_at_work(
+            let pushed = push_at_work(
                 text,
                 alloc,
                 AtWork {
@@ -65,7 +65,9 @@ pub fn push_halt<S: PackStore>(
                     code: halt.code,
                     evidence,
                 },
-            )?;
+            );
+            drop(source);
+            pushed?;
         }
         None => {
             push_stray_cards(text, alloc, cards, begun)?;
