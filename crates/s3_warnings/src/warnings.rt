@@ -14,19 +14,19 @@ use crate::known::{Known, set_by, tested_by};
 use crate::overlaps::push_overlaps;
 use crate::results::results_on;
 use crate::shapes::shapes_of;
+use indexmap::{IndexMap, IndexSet};
 use s3_lines::sheet::Line;
 use std::alloc::{AllocError, Global};
 
-/// What lines set, test and define.
-fn known_of(alloc: Global, lines: &[Line]) -> Result<Known, AllocError>
+/// Fills tables with what lines set, test and define. The caller owns the tables, so that no early return here drops them.
+fn fill(alloc: Global, known: &mut Known, lines: &[Line]) -> Result<(), AllocError>
     requires { IsTrue (are_ranged lines.now) }
-    ensures { IfOk result (λ known. facts_shown known ≡ facts_of lines.now) }
+    ensures { OnOk result (facts_shown known.new ≡ facts_of lines.now) }
 {
-    Ok(Known {
-        set: set_by(alloc, lines)?,
-        tested: tested_by(alloc, lines)?,
-        shapes: shapes_of(alloc, lines)?,
-    })
+    known.set = set_by(alloc, lines)?;
+    known.tested = tested_by(alloc, lines)?;
+    known.shapes = shapes_of(alloc, lines)?;
+    Ok(())
 }
 
 /// Appends the warnings of a card, given what all lines say.
@@ -80,6 +80,19 @@ fn warnings_by_known(
     Ok(found)
 }
 
+/// All warnings, by tables that it fills with what all lines say.
+fn warnings_with(
+    alloc: Global,
+    known: &mut Known,
+    lines: &[Line],
+) -> Result<Vec<Warning>, AllocError>
+    requires { IsTrue (are_ranged lines.now) }
+    ensures { IfOk result (λ found. found.items ≡ warnings lines.now) }
+{
+    fill(alloc, known, lines)?;
+    warnings_by_known(alloc, known, lines)
+}
+
 /// The warnings of a source (docs/LISTINGS.md, "Warnings"), by card and then by kind, and then those of fields that cover others.
 /// The lines are those of a source without diagnostics, as `read_sheets` gives them. It is refused only if memory runs out.
 #[tactic(auto, using(crate::proofs::RangeLemmas::ranged_of_read))]
@@ -87,8 +100,12 @@ pub fn warnings_of(alloc: Global, lines: &[Line]) -> Result<Vec<Warning>, AllocE
     requires { IsTrue (are_read lines.now) }
     ensures { IfOk result (λ found. found.items ≡ warnings lines.now) }
 {
-    let known = known_of(alloc, lines)?;
-    let found = warnings_by_known(alloc, &known, lines);
+    let mut known = Known {
+        set: IndexSet::new(alloc),
+        tested: IndexSet::new(alloc),
+        shapes: IndexMap::new(alloc),
+    };
+    let found = warnings_with(alloc, &mut known, lines);
     drop(known);
     found
 }
