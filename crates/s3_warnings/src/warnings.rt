@@ -2,7 +2,9 @@
 ghost use Rattle.std.specs.Prelude.{◌≡◌, ◌++◌, IfOk, OnOk, IsTrue, flat_map};
 ghost use Rattle.s3_lines.specs.Inner.Ranges.{are_read};
 ghost use Rattle.s3_diagnose.specs.Inner.Ranged.{are_ranged};
+ghost use Rattle.s3_warnings.specs.Inner.Contradictions.{contradictions_on as contradictions_spec};
 ghost use Rattle.s3_warnings.specs.Inner.Facts.{facts_of};
+ghost use Rattle.s3_warnings.specs.Inner.Indicators.{never_set_on as never_set_spec, never_tested_on as never_tested_spec};
 ghost use Rattle.s3_warnings.specs.Inner.Shown.{facts_shown};
 ghost use Rattle.s3_warnings.specs.Inner.Warnings.{warnings, warnings_by, warnings_on};
 
@@ -29,6 +31,21 @@ fn fill(alloc: Global, known: &mut Known, lines: &[Line]) -> Result<(), AllocErr
     Ok(())
 }
 
+/// Appends the warnings of a card's indicators, given what all lines say.
+fn push_of_indicators(
+    alloc: Global,
+    found: &mut Vec<Warning>,
+    known: &Known,
+    line: &Line,
+) -> Result<(), AllocError>
+    ensures { OnOk result (found.new.items ≡ found.old.items ++ never_set_spec (facts_shown known.now) line.now ++ never_tested_spec (facts_shown known.now) line.now ++ contradictions_spec line.now) }
+{
+    found.extend_from_slice(&never_set_on(alloc, known, line)?)?;
+    found.extend_from_slice(&never_tested_on(alloc, known, line)?)?;
+    found.extend_from_slice(&contradictions_on(alloc, line)?)?;
+    Ok(())
+}
+
 /// Appends the warnings of a card, given what all lines say.
 fn push_warnings(
     alloc: Global,
@@ -39,9 +56,7 @@ fn push_warnings(
 ) -> Result<(), AllocError>
     ensures { OnOk result (found.new.items ≡ found.old.items ++ warnings_on (facts_shown known.now) lines.now line.now) }
 {
-    found.extend_from_slice(&never_set_on(alloc, known, line)?)?;
-    found.extend_from_slice(&never_tested_on(alloc, known, line)?)?;
-    found.extend_from_slice(&contradictions_on(alloc, line)?)?;
+    push_of_indicators(alloc, found, known, line)?;
     found.extend_from_slice(&files_on(alloc, lines, line)?)?;
     found.extend_from_slice(&results_on(alloc, known, line)?)?;
     Ok(())
