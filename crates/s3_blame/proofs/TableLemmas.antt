@@ -3,10 +3,6 @@ use Rattle.std.proofs.Common.{◌≡◌, [], ◌∷◌, refl}
 use Rattle.s3_sheets.specs.declared.kind.CardKind.TheVariants as kind
 use Rattle.s3_blame.specs.Inner.Entries.{file_rows, record_rows, and_rows, or_rows, field_rows, calculation_rows, line_rows, line_and_rows, line_or_rows, put_rows, entries_tested}
 
-pub file_5 : entries_tested kind.File 5 ≡ []
-unfolding file_rows
-file_5 = refl
-
 pub file_6 : entries_tested kind.File 6 ≡ (7, 14) ∷ []
 unfolding file_rows
 file_6 = refl
@@ -27,17 +23,9 @@ pub record_12 : entries_tested kind.Record 12 ≡ (7, 14) ∷ []
 unfolding record_rows
 record_12 = refl
 
-pub and_5 : entries_tested kind.RecordAnd 5 ≡ []
-unfolding and_rows
-and_5 = refl
-
 pub and_9 : entries_tested kind.RecordAnd 9 ≡ (14, 16) ∷ []
 unfolding and_rows
 and_9 = refl
-
-pub or_5 : entries_tested kind.RecordOr 5 ≡ []
-unfolding or_rows
-or_5 = refl
 
 pub or_9 : entries_tested kind.RecordOr 9 ≡ (14, 16) ∷ []
 unfolding or_rows
@@ -46,10 +34,6 @@ or_9 = refl
 pub or_11 : entries_tested kind.RecordOr 11 ≡ (19, 20) ∷ []
 unfolding or_rows
 or_11 = refl
-
-pub field_5 : entries_tested kind.Field 5 ≡ []
-unfolding field_rows
-field_5 = refl
 
 pub field_6 : entries_tested kind.Field 6 ≡ (44, 51) ∷ (52, 52) ∷ (53, 58) ∷ []
 unfolding field_rows
@@ -107,17 +91,9 @@ pub line_12 : entries_tested kind.OutputLine 12 ≡ (7, 14) ∷ (16, 18) ∷ (17
 unfolding line_rows
 line_12 = refl
 
-pub line_and_5 : entries_tested kind.OutputAnd 5 ≡ []
-unfolding line_and_rows
-line_and_5 = refl
-
 pub line_and_9 : entries_tested kind.OutputAnd 9 ≡ (14, 16) ∷ []
 unfolding line_and_rows
 line_and_9 = refl
-
-pub line_or_5 : entries_tested kind.OutputOr 5 ≡ []
-unfolding line_or_rows
-line_or_5 = refl
 
 pub line_or_9 : entries_tested kind.OutputOr 9 ≡ (14, 16) ∷ []
 unfolding line_or_rows

@@ -145,5 +145,7 @@ pub fn later_entries(
     ensures marked { IfOk result (λ found. IsTrue (are_read lines.now) → AreInOrder told.now → (from : ℕ) → cards_ascend from lines.now ≡ true → All (HasAllMarks (names_of lines.now) told.now found.items) lines.now) }
 {
     let known = Known::of(alloc, lines)?;
-    entries_of_lines(alloc, &known, lines, told)
+    let found = entries_of_lines(alloc, &known, lines, told);
+    drop(known);
+    found
 }

@@ -21,7 +21,10 @@ fn told_of_lines(
     ensures { IfOk result (λ found. found.items ≡ compile_diagnostics run_card lines.now) }
 {
     match compile(alloc, lines, run_card) {
-        Ok(_program) => Ok(Vec::new(alloc)),
+        Ok(program) => {
+            drop(program);
+            Ok(Vec::new(alloc))
+        }
         Err(CompileFault::NoMemory) => Err(AllocError),
         Err(CompileFault::Diagnostics(found)) => Ok(found),
     }

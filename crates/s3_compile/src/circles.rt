@@ -72,6 +72,21 @@ fn circles_through(
     Ok(circling)
 }
 
+/// The calls in these subroutines that lie in a circle, by a table of callers that it makes.
+fn circles_among(
+    alloc: Global,
+    subroutines: &[usize],
+    calls: &[Call],
+) -> Result<IndexSet<Call>, AllocError>
+    ensures { IfOk result (λ circling. (call : Call) → contains same_call circling call
+        ≡ (list_any (is_place call.caller) subroutines.now && (list_any (same_call call) calls.now && is_in_circle calls.now call))) }
+{
+    let callers = callers_of_each(alloc, calls)?;
+    let circling = circles_through(alloc, subroutines, &callers, calls);
+    drop(callers);
+    circling
+}
+
 /// The subroutines in which these calls are.
 fn subroutines_of(alloc: Global, calls: &[Call]) -> Result<IndexSet<usize>, AllocError>
     ensures { IfOk result (λ subroutines. (subroutine : ℕ) → contains nat_eq subroutines subroutine ≡ list_any (λ call. is_place call.caller subroutine) calls.now) }
@@ -99,6 +114,7 @@ pub fn calls_in_circles(
         return Ok(IndexSet::new(alloc));
     }
     let subroutines = subroutines_of(alloc, ninth)?;
-    let callers = callers_of_each(alloc, calls)?;
-    circles_through(alloc, subroutines.as_slice(), &callers, calls)
+    let circling = circles_among(alloc, subroutines.as_slice(), calls);
+    drop(subroutines);
+    circling
 }

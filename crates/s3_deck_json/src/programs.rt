@@ -116,6 +116,19 @@ fn tables_of(alloc: Global, deck: &Deck, from: usize, to: usize) -> Result<Table
     }
 }
 
+/// The messages of a job, and how many they are.
+fn found_in(
+    alloc: Global,
+    cards: &Cards<'_>,
+    job: &JobEntry,
+) -> Result<(Value, Outcome), AllocError> {
+    let found = messages_of_job(alloc, cards.deck, job)?;
+    let outcome = found.outcome;
+    let messages = messages_value(alloc, cards.files, &found.messages);
+    drop(found);
+    Ok((messages?, outcome))
+}
+
 impl Programs {
     /// Adds an object.
     fn add(
@@ -126,15 +139,14 @@ impl Programs {
         program: Cell<'_>,
         tables: Tables,
     ) -> Result<(), AllocError> {
-        let found = messages_of_job(alloc, cards.deck, entry.job)?;
-        let messages = messages_value(alloc, cards.files, &found.messages)?;
+        let (messages, outcome) = found_in(alloc, cards, entry.job)?;
         let place = JobPlace {
             number: entry.number,
             card: entry.job.first_card(),
         };
         let value = program_value(alloc, cards.files, place, program, messages, tables)?;
         self.values.push(value)?;
-        self.outcome = self.outcome.with(found.outcome);
+        self.outcome = self.outcome.with(outcome);
         Ok(())
     }
 
@@ -183,14 +195,25 @@ pub fn programs_of_deck(
     deck: &Deck,
 ) -> Result<Programs, AllocError> {
     let cards = Cards { files, deck };
+    let jobs = jobs_of(alloc, deck)?;
+    let programs = programs_of_jobs(alloc, &cards, &jobs);
+    drop(jobs);
+    programs
+}
+
+/// An object for each program of these jobs.
+fn programs_of_jobs(
+    alloc: Global,
+    cards: &Cards<'_>,
+    jobs: &[JobEntry],
+) -> Result<Programs, AllocError> {
     let mut programs = Programs {
         values: Vec::new(alloc),
         outcome: Outcome::NONE,
     };
-    let jobs = jobs_of(alloc, deck)?;
     for (place, job) in jobs.iter().enumerate() {
         let number = place.saturating_add(1);
-        programs.add_job(alloc, &cards, NumberedJob { number, job })?;
+        programs.add_job(alloc, cards, NumberedJob { number, job })?;
     }
     Ok(programs)
 }

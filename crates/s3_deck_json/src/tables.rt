@@ -42,26 +42,43 @@ impl Tables {
     /// What the lines of a program have.
     pub fn of(alloc: Global, lines: &[Line]) -> Result<Tables, AllocError> {
         let mut tables = Tables::none(alloc);
-        add_files(alloc, &mut tables.files, lines)?;
-        add_fields(alloc, &mut tables.fields, lines)?;
-        add_indicators(alloc, &mut tables.indicators, lines)?;
-        add_labels(alloc, &mut tables.labels, lines, Sort::Tag, "tag")?;
+        tables.add(alloc, lines)?;
+        Ok(tables)
+    }
+
+    /// Adds what lines have. The caller owns the lists, so that no early return here drops them.
+    fn add(&mut self, alloc: Global, lines: &[Line]) -> Result<(), AllocError> {
+        add_files(alloc, &mut self.files, lines)?;
+        add_fields(alloc, &mut self.fields, lines)?;
+        add_indicators(alloc, &mut self.indicators, lines)?;
+        add_labels(alloc, &mut self.labels, lines, Sort::Tag, "tag")?;
         add_labels(
             alloc,
-            &mut tables.labels,
+            &mut self.labels,
             lines,
             Sort::Subroutine,
             "subroutine",
-        )?;
-        Ok(tables)
+        )
     }
 }
 
 /// Adds the files of lines.
 fn add_files(alloc: Global, values: &mut Vec<Value>, lines: &[Line]) -> Result<(), AllocError> {
     let names = names_of(alloc, lines, Sort::File)?;
+    let added = add_named_files(alloc, values, &names, lines);
+    drop(names);
+    added
+}
+
+/// Adds the files of lines, given the cards of their names.
+fn add_named_files(
+    alloc: Global,
+    values: &mut Vec<Value>,
+    names: &Names,
+    lines: &[Line],
+) -> Result<(), AllocError> {
     for line in lines {
-        add_file(alloc, values, &names, line)?;
+        add_file(alloc, values, names, line)?;
     }
     Ok(())
 }
@@ -131,8 +148,20 @@ fn file_object<'a>(
 /// Adds the fields of lines.
 fn add_fields(alloc: Global, values: &mut Vec<Value>, lines: &[Line]) -> Result<(), AllocError> {
     let known = Known::of(alloc, lines)?;
+    let added = add_fields_with(alloc, values, lines, &known);
+    drop(known);
+    added
+}
+
+/// Adds the fields of lines, with what all of them define.
+fn add_fields_with(
+    alloc: Global,
+    values: &mut Vec<Value>,
+    lines: &[Line],
+    known: &Known,
+) -> Result<(), AllocError> {
     let fields = names_of(alloc, lines, Sort::Field)?;
-    add_known_fields(alloc, values, &known, &fields)
+    add_known_fields(alloc, values, known, &fields)
 }
 
 /// Adds fields, each with its shape if it is known.

@@ -75,13 +75,25 @@ fn push_files(text: &mut String, alloc: Global, at: AtStart<'_>) -> Result<(), A
         statements: job.files(),
         switches: at.begun.switches(),
     };
-    let files = asked.files(alloc, &source.lines)?;
+    let files = asked.files(alloc, &source.lines);
+    drop(source);
+    push_file_of(text, alloc, at, &asked, &files?)
+}
+
+/// Appends the file for which a job doesn't start, given those that it asks for.
+fn push_file_of(
+    text: &mut String,
+    alloc: Global,
+    at: AtStart<'_>,
+    asked: &Asked<'_>,
+    files: &[JobFile],
+) -> Result<(), AllocError> {
     if matches!(at.code, HaltCode::NoSpace) {
-        return push_room(text, &asked, &files);
+        return push_room(text, asked, files);
     }
-    match asked.at_fault(at.code, &files) {
+    match asked.at_fault(at.code, files) {
         Some(place) => match files.get(place) {
-            Some(file) => push_file(text, alloc, at, &asked, file),
+            Some(file) => push_file(text, alloc, at, asked, file),
             None => Ok(()),
         },
         None => Ok(()),
@@ -116,7 +128,14 @@ fn push_file(
     text.push_str(words_after(at.code, file))?;
     text.push('\n')?;
     match at.code {
-        HaltCode::LabelMismatch => push_layouts(text, alloc, at, asked, file, statement.label),
+        HaltCode::LabelMismatch => push_layouts(
+            text,
+            alloc,
+            at.cards,
+            asked,
+            file,
+            statement.label,
+        ),
         HaltCode::RetainedFile => push_kept(text, asked.found(statement.label)),
         HaltCode::DamagedLabel => {
             push_slot_at_fault(

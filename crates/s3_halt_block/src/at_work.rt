@@ -33,11 +33,6 @@ pub(crate) struct AtWork<'a> {
 }
 
 impl<'a> AtWork<'a> {
-    /// The F line of a slot.
-    pub(crate) fn file(&self, slot: usize) -> Option<&'a FileLine> {
-        self.source.file_at(slot)
-    }
-
     /// The number of the last data card that was read, from 1.
     pub(crate) fn last_card(&self) -> Option<usize> {
         let unread = self.held.unread()?;

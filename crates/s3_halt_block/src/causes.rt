@@ -1,6 +1,6 @@
 //! The source cards that turn a halt indicator on.
 
-use crate::at_work::AtWork;
+use crate::cards::DeckCards;
 use s3_lines::indicator::Indicator;
 use s3_lines::sheet::{InputLine, Line, Operation, SheetLine};
 use std::alloc::AllocError;
@@ -9,12 +9,17 @@ use std::alloc::AllocError;
 const MOST: usize = 20;
 
 /// Appends the source cards that turn a halt indicator on.
-pub(crate) fn push_causes(text: &mut String, at: AtWork<'_>, number: u8) -> Result<(), AllocError> {
+pub(crate) fn push_causes(
+    text: &mut String,
+    cards: DeckCards<'_>,
+    lines: &[Line],
+    number: u8,
+) -> Result<(), AllocError> {
     let mut count: usize = 0;
-    for line in &at.source.lines {
+    for line in lines {
         if can_turn_on(line, number) {
             if count < MOST {
-                push_cause(text, at, number, line)?;
+                push_cause(text, cards, number, line)?;
             }
             count = count.saturating_add(1);
         }
@@ -28,14 +33,14 @@ pub(crate) fn push_causes(text: &mut String, at: AtWork<'_>, number: u8) -> Resu
 
 fn push_cause(
     text: &mut String,
-    at: AtWork<'_>,
+    cards: DeckCards<'_>,
     number: u8,
     line: &Line,
 ) -> Result<(), AllocError> {
     write!(text, "  H{number} is set by source ")?;
-    at.cards.push_place(text, usize::from(line.card))?;
+    cards.push_place(text, usize::from(line.card))?;
     text.push('\n')?;
-    at.cards.push_card(text, usize::from(line.card), &[])
+    cards.push_card(text, usize::from(line.card), &[])
 }
 
 /// Whether a line can turn a halt indicator on.

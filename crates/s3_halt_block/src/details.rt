@@ -30,6 +30,25 @@ pub(crate) fn push_details(
     halt: &Halt,
 ) -> Result<(), AllocError> {
     let blame = blame_of(alloc, cards, begun, halt)?;
+    let pushed = push_first_details(text, alloc, cards, begun, halt, &blame);
+    drop(blame);
+    pushed?;
+    let more = halt.details.len().saturating_sub(MOST);
+    if more > 0 {
+        writeln!(text, "  and {more} more")?;
+    }
+    Ok(())
+}
+
+/// Appends the first twenty details of a halt, given what is to blame for them.
+fn push_first_details(
+    text: &mut String,
+    alloc: Global,
+    cards: DeckCards<'_>,
+    begun: &Begun,
+    halt: &Halt,
+    blame: &Blame,
+) -> Result<(), AllocError> {
     let mut before = 0;
     for (card, number) in halt.details.iter().take(MOST) {
         let place = usize::from(*card);
@@ -41,20 +60,32 @@ pub(crate) fn push_details(
             card: *card,
             number: *number,
         };
-        let marked = marked_for(alloc, cards, begun, halt.code, &blame.entries, &diagnostic)?;
-        push_marked(text, &marked)?;
-        let reason = blame.reasons.of(*card, *number);
-        write!(text, "    {number:02}  ")?;
-        match halt.code {
-            HaltCode::FaultyJob => push_fault(text, alloc, cards, begun)?,
-            _ => push_words(text, diagnostic_words(*number), reason)?,
-        }
-    }
-    let more = halt.details.len().saturating_sub(MOST);
-    if more > 0 {
-        writeln!(text, "  and {more} more")?;
+        push_detail(text, alloc, cards, begun, halt.code, blame, &diagnostic)?;
     }
     Ok(())
+}
+
+/// Appends a detail of a halt under its card: the marks, the number and the text.
+fn push_detail(
+    text: &mut String,
+    alloc: Global,
+    cards: DeckCards<'_>,
+    begun: &Begun,
+    code: HaltCode,
+    blame: &Blame,
+    diagnostic: &Diagnostic,
+) -> Result<(), AllocError> {
+    let marked = marked_for(alloc, cards, begun, code, &blame.entries, diagnostic)?;
+    push_marked(text, &marked)?;
+    let number = diagnostic.number;
+    write!(text, "    {number:02}  ")?;
+    match code {
+        HaltCode::FaultyJob => push_fault(text, alloc, cards, begun),
+        _ => {
+            let reason = blame.reasons.of(diagnostic.card, number);
+            push_words(text, diagnostic_words(number), reason)
+        }
+    }
 }
 
 /// What is to blame for the diagnostics of a halt; nothing for a halt without diagnostics.
@@ -64,23 +95,41 @@ fn blame_of(
     begun: &Begun,
     halt: &Halt,
 ) -> Result<Blame, AllocError> {
-    let mut told = Vec::new(alloc);
+    let found = diagnostics_of(alloc, halt)?;
+    let blame = blame_for(alloc, cards, begun, &found);
+    drop(found);
+    blame
+}
+
+/// The diagnostics that a halt has as details.
+fn diagnostics_of(alloc: Global, halt: &Halt) -> Result<Vec<Diagnostic>, AllocError> {
+    let mut found = Vec::new(alloc);
     for (card, number) in halt.details.iter() {
-        told.push(Diagnostic {
+        found.push(Diagnostic {
             card: *card,
             number: *number,
         })?;
     }
+    Ok(found)
+}
+
+/// What is to blame for diagnostics of the job that was begun last; nothing if there are none.
+fn blame_for(
+    alloc: Global,
+    cards: DeckCards<'_>,
+    begun: &Begun,
+    found: &[Diagnostic],
+) -> Result<Blame, AllocError> {
     let Some(job) = begun.statements() else {
         return Ok(Blame::nothing(alloc));
     };
     let from = job.data_from();
     let to = job.data_to();
-    if told.is_empty() || to > cards.deck.len() {
+    if found.is_empty() || to > cards.deck.len() {
         return Ok(Blame::nothing(alloc));
     }
-    let entries = entries_of(alloc, cards.deck, from, to, &told)?;
-    let reasons = reasons_of(alloc, cards.deck, from, to, &told, &entries)?;
+    let entries = entries_of(alloc, cards.deck, from, to, found)?;
+    let reasons = reasons_of(alloc, cards.deck, from, to, found, &entries)?;
     Ok(Blame { entries, reasons })
 }
 

@@ -7,6 +7,7 @@ use crate::details::push_details;
 use crate::replies::{push_meaning, push_replies};
 use s3_bureau::Bureau;
 use s3_cards::{LevelId, Name};
+use s3_cycle::Cycle;
 use s3_decks::{DeckText, JobEntry, Statements, push_name, push_stray, strays_of};
 use s3_evidence::{Begun, Evidence, Source};
 use s3_level::Level;
@@ -51,22 +52,7 @@ pub fn push_halt<S: PackStore>(
     push_beginning(text, cards, begun, halt)?;
     push_details(text, alloc, cards, begun, halt)?;
     match held.cycle() {
-        Some(cycle) => {
-            let source = source_of(alloc, begun, held, cycle.program_name())?;
-            push_at_work(
-                text,
-                alloc,
-                AtWork {
-                    cards,
-                    held,
-                    begun,
-                    cycle,
-                    source: &source,
-                    code: halt.code,
-                    evidence,
-                },
-            )?;
-        }
+        Some(cycle) => push_program_at_work(text, alloc, cards, held, cycle, waiting)?,
         None => {
             push_stray_cards(text, alloc, cards, begun)?;
             push_at_start(
@@ -85,6 +71,34 @@ pub fn push_halt<S: PackStore>(
         }
     }
     push_replies(text, halt.code)
+}
+
+/// Appends where the program of a waiting halt is at work.
+fn push_program_at_work(
+    text: &mut String,
+    alloc: Global,
+    cards: DeckCards<'_>,
+    held: &Level,
+    cycle: &Cycle,
+    waiting: Waiting<'_>,
+) -> Result<(), AllocError> {
+    let begun = waiting.begun;
+    let source = source_of(alloc, begun, held, cycle.program_name())?;
+    let pushed = push_at_work(
+        text,
+        alloc,
+        AtWork {
+            cards,
+            held,
+            begun,
+            cycle,
+            source: &source,
+            code: waiting.halt.code,
+            evidence: waiting.evidence,
+        },
+    );
+    drop(source);
+    pushed
 }
 
 /// Appends a job by its number and what it does: `job 5, CUSLD`.

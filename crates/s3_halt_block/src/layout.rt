@@ -1,6 +1,6 @@
 //! What an F card and a label say, side by side.
 
-use crate::at_start::AtStart;
+use crate::cards::DeckCards;
 use s3_cards::Name;
 use s3_decks::Columns;
 use s3_evidence::{Asked, Found, JobFile, key_of};
@@ -42,7 +42,7 @@ fn differing(alloc: Global, file: &JobFile, label: &FileLabel) -> Result<Vec<Col
 pub(crate) fn push_layouts(
     text: &mut String,
     alloc: Global,
-    at: AtStart<'_>,
+    cards: DeckCards<'_>,
     asked: &Asked<'_>,
     file: &JobFile,
     label: Name,
@@ -50,10 +50,25 @@ pub(crate) fn push_layouts(
     let Found::File(label, _) = asked.found(label) else {
         return Ok(());
     };
-    let marked = differing(alloc, file, &label)?;
-    at.cards
-        .push_named_card(text, "its F card:", usize::from(file.card), &marked)?;
+    push_marked_card(text, alloc, cards, file, &label)?;
     text.push_str("                      F card   label\n")?;
+    push_both(text, file, &label)
+}
+
+/// Appends the F card of a file with the entries marked that say something else than its label.
+fn push_marked_card(
+    text: &mut String,
+    alloc: Global,
+    cards: DeckCards<'_>,
+    file: &JobFile,
+    label: &FileLabel,
+) -> Result<(), AllocError> {
+    let marked = differing(alloc, file, label)?;
+    cards.push_named_card(text, "its F card:", usize::from(file.card), &marked)
+}
+
+/// Appends what the F card and the label of a file say, side by side.
+fn push_both(text: &mut String, file: &JobFile, label: &FileLabel) -> Result<(), AllocError> {
     let (key_length, key_start) = key_of(&file.line);
     push_numbers(
         text,
@@ -65,7 +80,7 @@ pub(crate) fn push_layouts(
         text,
         "index",
         word_of(file.line.key.is_some()),
-        word_of(is_indexed(&label)),
+        word_of(is_indexed(label)),
     )?;
     push_numbers(
         text,

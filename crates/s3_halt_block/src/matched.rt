@@ -4,7 +4,7 @@
 ghost use Rattle.s3_match.specs.Inner.Reading.{IsReading};
 
 use crate::at_work::{AtWork, is_on_cards};
-use s3_evidence::Evidence;
+use s3_evidence::{Evidence, Source};
 use s3_lines::sheet::FileLine;
 use s3_match::keys::RecordKey;
 use s3_match::reading::Reading;
@@ -61,29 +61,55 @@ pub(crate) fn processed_before<'a>(
     slot: usize,
     number: u32,
 ) -> Result<Option<RecordOf<'a>>, AllocError> {
-    let Some(line) = at.file(slot) else {
+    let Some(line) = at.source.file_at(slot) else {
         return Ok(None);
     };
     let Some(program) = at.begun.program_of(alloc, at.held, at.source.name)? else {
         return Ok(None);
     };
-    let reading = Reading::first(alloc, &program, 0)?;
     let record = RecordOf {
         slot,
         line,
         number,
         bytes: at.cycle.record_behind_totals(),
     };
-    let brought = with_key(alloc, &program, &reading, record)?;
-    let last = if brought.key.is_given {
-        last_before(alloc, at, &program, &reading, &brought)?
-    } else {
-        own_before(alloc, at, &program, &reading, &brought)?
-    };
-    Ok(match last {
+    let found = processed_by(alloc, at, &program, record);
+    drop(program);
+    found
+}
+
+/// The record that a program processed last before the one that brought totals on.
+fn processed_by<'a>(
+    alloc: Global,
+    at: AtWork<'a>,
+    program: &Program,
+    record: RecordOf<'a>,
+) -> Result<Option<RecordOf<'a>>, AllocError> {
+    let reading = Reading::first(alloc, program, 0)?;
+    let last = latest_before(alloc, at, program, &reading, record);
+    drop(reading);
+    Ok(match last? {
         Latest::Record(found) => Some(found.record),
         Latest::Nothing | Latest::Unknown => None,
     })
+}
+
+/// The record that was processed last before the one that brought totals on: of all files, or of its own if it has no match fields.
+fn latest_before<'a>(
+    alloc: Global,
+    at: AtWork<'a>,
+    program: &Program,
+    reading: &Reading,
+    record: RecordOf<'a>,
+) -> Result<Latest<'a>, AllocError>
+    requires { IsReading program.now reading.now }
+{
+    let brought = with_key(alloc, program, reading, record)?;
+    if brought.key.is_given {
+        last_before(alloc, at, program, reading, &brought)
+    } else {
+        own_before(alloc, at, program, reading, &brought)
+    }
 }
 
 /// The record that was processed last before one with match fields, of all files.
@@ -98,12 +124,8 @@ fn last_before<'a>(
 {
     let mut last = Latest::Nothing;
     for slot in 0..program.files.len() {
-        if let Some(file) = cycle_file(at, slot) {
-            let latest = if slot == brought.record.slot {
-                own_before(alloc, at, program, reading, brought)?
-            } else {
-                latest_of(alloc, at, program, reading, brought, file)?
-            };
+        if let Some(file) = cycle_file(at.source, slot) {
+            let latest = latest_in(alloc, at, program, reading, brought, file)?;
             last = later(last, latest);
         }
     }
@@ -111,8 +133,8 @@ fn last_before<'a>(
 }
 
 /// The file of a slot, if the cycle reads it.
-fn cycle_file<'a>(at: AtWork<'a>, slot: usize) -> Option<CycleFile<'a>> {
-    let line = at.file(slot)?;
+fn cycle_file(source: &Source, slot: usize) -> Option<CycleFile<'_>> {
+    let line = source.file_at(slot)?;
     line.is_by_cycle().then_some(CycleFile { slot, line })
 }
 
@@ -141,6 +163,24 @@ fn own_before<'a>(
         CycleFile { slot, line },
         before,
     )
+}
+
+/// The record of a file that was processed last before the one that brought totals on.
+fn latest_in<'a>(
+    alloc: Global,
+    at: AtWork<'a>,
+    program: &Program,
+    reading: &Reading,
+    brought: &Keyed<'a>,
+    file: CycleFile<'a>,
+) -> Result<Latest<'a>, AllocError>
+    requires { IsReading program.now reading.now }
+{
+    if file.slot == brought.record.slot {
+        own_before(alloc, at, program, reading, brought)
+    } else {
+        latest_of(alloc, at, program, reading, brought, file)
+    }
 }
 
 /// The record of another file that was processed last: the one that was read last if it comes before the record that brought totals on,

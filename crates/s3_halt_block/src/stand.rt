@@ -2,13 +2,14 @@
 
 use crate::at_work::{AtWork, CARD_BEFORE, is_on_cards};
 use crate::bad_digits::bad_digits;
+use crate::cards::DeckCards;
 use crate::causes::push_causes;
 use crate::match_fields::{Sort, level_fields};
 use crate::matched::{RecordOf, processed_before};
 use s3_cards::Name;
 use s3_cycle::{Sought, Stand, Totals};
 use s3_decks::{Columns, push_characters, push_name, push_ruled};
-use s3_evidence::Evidence;
+use s3_evidence::{Evidence, Source};
 use s3_lines::sheet::{FieldLine, FileLine, InputLine, Line, SheetLine};
 use s3_operator::HaltCode;
 use std::alloc::{AllocError, Global};
@@ -74,27 +75,56 @@ fn push_totals_before(
     slot: usize,
     number: u32,
 ) -> Result<Shown, AllocError> {
-    let mut shown = Shown::nothing(alloc);
-    let Some(line) = at.file(slot) else {
-        return Ok(shown);
+    let Some(line) = at.source.file_at(slot) else {
+        return Ok(Shown::nothing(alloc));
     };
-    let marked = level_fields(alloc, &at.source.lines, line.name, Sort::Control)?;
     let before = matched_before(alloc, at, slot, number)?;
     if is_on_cards(line) {
-        shown.is_after_totals = true;
-        shown.is_before_shown = at.is_in_order() || is_card(before);
-        shown.marked = marked;
-        push_disk_record_before(&mut shown.record_before, alloc, at, before)?;
-    } else {
-        text.push_str("  the totals are those before ")?;
-        push_record_number(text, Some(line), number)?;
-        text.push_str(", which isn't processed yet\n")?;
-        push_ruled(text, at.cycle.record_behind_totals(), &marked)?;
-        push_record_before(text, at, line.name, number, &marked)?;
-        push_disk_record_before(text, alloc, at, before)?;
-        shown.is_last_card_shown = push_card_before(text, alloc, at, before)?;
+        return shown_after_totals(alloc, at, line.name, before);
     }
-    Ok(shown)
+    push_record_after_totals(text, alloc, at, line, number)?;
+    push_disk_record_before(text, alloc, &at.source.lines, before)?;
+    let is_last_card_shown = push_card_before(text, alloc, at, before)?;
+    Ok(Shown {
+        marked: Vec::new(alloc),
+        is_before_shown: false,
+        is_after_totals: false,
+        is_last_card_shown,
+        record_before: String::new(alloc),
+    })
+}
+
+/// What is shown with a card of a file that waits for totals, given the record that was processed before it.
+fn shown_after_totals(
+    alloc: Global,
+    at: AtWork<'_>,
+    file: Name,
+    before: Option<RecordOf<'_>>,
+) -> Result<Shown, AllocError> {
+    let record_before = disk_record_before(alloc, &at.source.lines, before)?;
+    Ok(Shown {
+        marked: level_fields(alloc, &at.source.lines, file, Sort::Control)?,
+        is_before_shown: at.is_in_order() || is_card(before),
+        is_after_totals: true,
+        is_last_card_shown: false,
+        record_before,
+    })
+}
+
+/// Appends the record of a file on disk that waits for totals, and the one before it, with their control fields marked.
+fn push_record_after_totals(
+    text: &mut String,
+    alloc: Global,
+    at: AtWork<'_>,
+    line: &FileLine,
+    number: u32,
+) -> Result<(), AllocError> {
+    text.push_str("  the totals are those before ")?;
+    push_record_number(text, Some(line), number)?;
+    text.push_str(", which isn't processed yet\n")?;
+    let marked = level_fields(alloc, &at.source.lines, line.name, Sort::Control)?;
+    push_ruled(text, at.cycle.record_behind_totals(), &marked)?;
+    push_record_before(text, at, line.name, number, &marked)
 }
 
 /// If files are matched, the record that was processed before the n-th of a file, which brought totals on.
@@ -141,11 +171,12 @@ fn push_record_before(
     }
 }
 
-/// Appends a record of a file on disk that was processed before the one that brought totals on.
+/// Appends a record of a file on disk that was processed before the one that brought totals on, with the control fields that lines have
+/// marked.
 fn push_disk_record_before(
     text: &mut String,
     alloc: Global,
-    at: AtWork<'_>,
+    lines: &[Line],
     before: Option<RecordOf<'_>>,
 ) -> Result<(), AllocError> {
     let Some(record) = before else {
@@ -154,11 +185,22 @@ fn push_disk_record_before(
     if is_on_cards(record.line) {
         return Ok(());
     }
-    let marked = level_fields(alloc, &at.source.lines, record.line.name, Sort::Control)?;
+    let marked = level_fields(alloc, lines, record.line.name, Sort::Control)?;
     text.push_str("  the record before it, ")?;
     push_record_number(text, Some(record.line), record.number)?;
     text.push_str(":\n")?;
     push_ruled(text, record.bytes, &marked)
+}
+
+/// The text of a record of a file on disk that was processed before the one that brought totals on.
+fn disk_record_before(
+    alloc: Global,
+    lines: &[Line],
+    before: Option<RecordOf<'_>>,
+) -> Result<String, AllocError> {
+    let mut text = String::new(alloc);
+    push_disk_record_before(&mut text, alloc, lines, before)?;
+    Ok(text)
 }
 
 /// Appends a card that was processed before the record on disk that brought totals on. Whether it is the card that was read last.
@@ -190,9 +232,7 @@ pub(crate) fn push_stand(
 ) -> Result<Shown, AllocError> {
     match at.cycle.stand() {
         Stand::Nowhere => {
-            if let HaltCode::HaltIndicator(number) = at.code {
-                push_causes(text, at, number)?;
-            }
+            push_halt_causes(text, at.cards, &at.source.lines, at.code)?;
             Ok(Shown::nothing(alloc))
         }
         Stand::Head { file, number } => push_head(text, alloc, at, file, number),
@@ -200,49 +240,95 @@ pub(crate) fn push_stand(
             place,
             file,
             number,
-        } => {
-            let line = at.source.input_at(place);
-            push_source_card(text, at, line)?;
-            push_field(text, line)?;
-            push_record_number(text, at.file(file), number)?;
-            text.push('\n')?;
-            push_field_record(text, alloc, at, field_of(line))
-        }
+        } => push_read_field(text, alloc, at, at.source.input_at(place), file, number),
         Stand::ChainedField { place } => {
-            let line = at.source.input_at(place);
-            push_source_card(text, at, line)?;
-            push_field(text, line)?;
-            text.push_str("the record that was chained\n")?;
-            push_field_record(text, alloc, at, field_of(line))
+            push_chained_field(text, alloc, at, at.source.input_at(place))
         }
-        Stand::Calculation { place } => {
-            push_source_card(text, at, at.source.calculation_at(place))?;
-            push_sought(text, at)?;
-            push_found(text, at)?;
-            push_totals(text, alloc, at)
-        }
-        Stand::Output { file, place } => {
-            push_source_card(text, at, at.source.output_at(place))?;
-            push_put(text, at, at.file(file), place)?;
-            if at.source.may_be_total_output(place) {
-                push_totals(text, alloc, at)
-            } else {
-                Ok(Shown::nothing(alloc))
-            }
-        }
+        Stand::Calculation { place } => push_calculation(text, alloc, at, place),
+        Stand::Output { file, place } => push_output(text, alloc, at, file, place),
+    }
+}
+
+/// Appends the source cards that turn a halt indicator on, if the halt is one of an indicator.
+fn push_halt_causes(
+    text: &mut String,
+    cards: DeckCards<'_>,
+    lines: &[Line],
+    code: HaltCode,
+) -> Result<(), AllocError> {
+    match code {
+        HaltCode::HaltIndicator(number) => push_causes(text, cards, lines, number),
+        _ => Ok(()),
+    }
+}
+
+/// Appends the field of an I line in a record that was read, the n-th of a file.
+fn push_read_field(
+    text: &mut String,
+    alloc: Global,
+    at: AtWork<'_>,
+    line: Option<&Line>,
+    slot: usize,
+    number: u32,
+) -> Result<Shown, AllocError> {
+    push_source_card(text, at.cards, line)?;
+    push_field(text, line)?;
+    push_record_number(text, at.source.file_at(slot), number)?;
+    text.push('\n')?;
+    push_field_record(text, alloc, at, field_of(line))
+}
+
+/// Appends the field of an I line in a record that was chained.
+fn push_chained_field(
+    text: &mut String,
+    alloc: Global,
+    at: AtWork<'_>,
+    line: Option<&Line>,
+) -> Result<Shown, AllocError> {
+    push_source_card(text, at.cards, line)?;
+    push_field(text, line)?;
+    text.push_str("the record that was chained\n")?;
+    push_field_record(text, alloc, at, field_of(line))
+}
+
+/// Appends a calculation by its place, with the record that it seeks, or the totals that it is at.
+fn push_calculation(
+    text: &mut String,
+    alloc: Global,
+    at: AtWork<'_>,
+    place: usize,
+) -> Result<Shown, AllocError> {
+    push_source_card(text, at.cards, at.source.calculation_at(place))?;
+    push_sought(text, at)?;
+    push_found(text, at.evidence)?;
+    push_totals(text, alloc, at)
+}
+
+/// Appends an output line by its place, with the record that it writes into a file, and the totals that it is at.
+fn push_output(
+    text: &mut String,
+    alloc: Global,
+    at: AtWork<'_>,
+    slot: usize,
+    place: usize,
+) -> Result<Shown, AllocError> {
+    push_source_card(text, at.cards, at.source.output_at(place))?;
+    push_put(text, at, at.source.file_at(slot), place)?;
+    if at.source.may_be_total_output(place) {
+        push_totals(text, alloc, at)
+    } else {
+        Ok(Shown::nothing(alloc))
     }
 }
 
 /// Appends the source card of a line.
 fn push_source_card(
     text: &mut String,
-    at: AtWork<'_>,
+    cards: DeckCards<'_>,
     line: Option<&Line>,
 ) -> Result<(), AllocError> {
     match line {
-        Some(line) => at
-            .cards
-            .push_named_card(text, "at source", usize::from(line.card), &[]),
+        Some(line) => cards.push_named_card(text, "at source", usize::from(line.card), &[]),
         None => Ok(()),
     }
 }
@@ -274,24 +360,24 @@ fn push_head(
     slot: usize,
     number: u32,
 ) -> Result<Shown, AllocError> {
-    let file = at.file(slot);
+    let file = at.source.file_at(slot);
     text.push_str("  at ")?;
     push_record_number(text, file, number)?;
     text.push('\n')?;
     let Some(line) = file else {
         return Ok(Shown::nothing(alloc));
     };
-    let shown = Shown {
-        marked: marks_of_head(alloc, at, line.name)?,
-        is_before_shown: is_out_of_sequence(at.code),
-        is_after_totals: false,
-        is_last_card_shown: false,
-        record_before: String::new(alloc),
-    };
+    let marked = marks_of_head(alloc, at.code, &at.source.lines, line.name)?;
     if is_on_cards(line) {
-        return Ok(shown);
+        return Ok(Shown {
+            marked,
+            is_before_shown: is_out_of_sequence(at.code),
+            is_after_totals: false,
+            is_last_card_shown: false,
+            record_before: String::new(alloc),
+        });
     }
-    push_records_read(text, at, &shown)?;
+    push_records_read(text, at.evidence, at.code, &marked)?;
     Ok(Shown::nothing(alloc))
 }
 
@@ -300,25 +386,35 @@ fn is_out_of_sequence(code: HaltCode) -> bool {
 }
 
 /// What is marked on a record that was read last.
-fn marks_of_head(alloc: Global, at: AtWork<'_>, file: Name) -> Result<Vec<Columns>, AllocError> {
-    if is_out_of_sequence(at.code) {
-        level_fields(alloc, &at.source.lines, file, Sort::Match)
+fn marks_of_head(
+    alloc: Global,
+    code: HaltCode,
+    lines: &[Line],
+    file: Name,
+) -> Result<Vec<Columns>, AllocError> {
+    if is_out_of_sequence(code) {
+        level_fields(alloc, lines, file, Sort::Match)
     } else {
         Ok(Vec::new(alloc))
     }
 }
 
 /// Appends records of a file on the pack.
-fn push_records_read(text: &mut String, at: AtWork<'_>, shown: &Shown) -> Result<(), AllocError> {
-    let Evidence::Records { last, before } = at.evidence else {
+fn push_records_read(
+    text: &mut String,
+    evidence: &Evidence,
+    code: HaltCode,
+    marked: &[Columns],
+) -> Result<(), AllocError> {
+    let Evidence::Records { last, before } = evidence else {
         return Ok(());
     };
     if let Some(record) = last {
-        push_ruled(text, record, &shown.marked)?;
+        push_ruled(text, record, marked)?;
     }
     match before {
-        Some(record) if shown.is_before_shown => {
-            push_named_record(text, "the record before it:", record, &shown.marked)
+        Some(record) if is_out_of_sequence(code) => {
+            push_named_record(text, "the record before it:", record, marked)
         }
         _ => Ok(()),
     }
@@ -408,12 +504,12 @@ fn push_sought(text: &mut String, at: AtWork<'_>) -> Result<(), AllocError> {
 
 /// The file at which a program is.
 fn file_there(at: AtWork<'_>) -> Option<&FileLine> {
-    at.file(at.cycle.file_there()?)
+    at.source.file_at(at.cycle.file_there()?)
 }
 
 /// Appends the record that a CHAIN found, if it is of no type.
-fn push_found(text: &mut String, at: AtWork<'_>) -> Result<(), AllocError> {
-    match at.evidence {
+fn push_found(text: &mut String, evidence: &Evidence) -> Result<(), AllocError> {
+    match evidence {
         Evidence::Records {
             last: Some(record),
             before: _,
@@ -441,7 +537,7 @@ fn push_put(
         Evidence::Records {
             last: _,
             before: Some(record),
-        } if is_compared(at, file, place) => {
+        } if is_compared(at.code, at.source, file, place) => {
             push_keyed_record(text, words_of_before(at.code), record, mark)
         }
         _ => Ok(()),
@@ -450,13 +546,13 @@ fn push_put(
 
 /// Whether the record before the one that the output line at a place writes is the one that it is compared with: the last one of a load,
 /// one that was chained, or at detail time the one that was read last.
-fn is_compared(at: AtWork<'_>, file: Option<&FileLine>, place: usize) -> bool {
-    if !matches!(at.code, HaltCode::KeyChanged) {
+fn is_compared(code: HaltCode, source: &Source, file: Option<&FileLine>, place: usize) -> bool {
+    if !matches!(code, HaltCode::KeyChanged) {
         return true;
     }
     match file {
         Some(line) if line.is_chained() => true,
-        _ => at.source.is_at_detail_time(place),
+        _ => source.is_at_detail_time(place),
     }
 }
 

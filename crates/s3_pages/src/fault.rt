@@ -1,18 +1,14 @@
 //! Why pages aren't written, or not all of them.
 use std::alloc::AllocError;
-use thiserror::Error;
 
 /// Why pages aren't written, or not all of them.
-#[derive(Clone, Copy, Debug, PartialEq, Eq, Error)]
+#[derive(Clone, Copy)]
 pub enum PaperFault {
     /// Memory was refused; some of the pages may be written.
-    #[error("out of memory")]
     NoMemory,
     /// The writer failed; some of the pages may be written.
-    #[error("the pages can't be written")]
     File,
     /// There are more pages, or more bytes, than the form of a document has numbers for; some of the pages may be written.
-    #[error("there are too many pages for one document")]
     TooLong,
 }
 

@@ -84,13 +84,27 @@ pub fn reasons_of(
     entries: &[FaultyEntry],
 ) -> Result<Reasons, AllocError> {
     let mut reasons = Reasons::none(alloc);
-    add_statements(alloc, deck, told, &mut reasons)?;
-    add_entries(alloc, deck, told, entries, &mut reasons)?;
+    add_reasons(alloc, deck, from, to, told, entries, &mut reasons)?;
+    Ok(reasons)
+}
+
+/// Adds the reasons of a source's diagnostics. The caller owns the table, so that no early return here drops it.
+fn add_reasons(
+    alloc: Global,
+    deck: &Deck,
+    from: usize,
+    to: usize,
+    told: &[Diagnostic],
+    entries: &[FaultyEntry],
+    reasons: &mut Reasons,
+) -> Result<(), AllocError> {
+    add_statements(alloc, deck, told, reasons)?;
+    add_entries(alloc, deck, told, entries, reasons)?;
     let is_wanted = told.iter().any(|found| is_explained(found, from));
     if from <= to && to <= deck.len() && is_wanted {
-        add_by_lines(alloc, deck, from, to, told, entries, &mut reasons)?;
+        add_by_lines(alloc, deck, from, to, told, entries, reasons)?;
     }
-    Ok(reasons)
+    Ok(())
 }
 
 /// Whether a diagnostic is of an entry that isn't allowed: 02, 03 or 04.
@@ -203,18 +217,48 @@ fn add_by_lines(
     requires order { from ≤ to }
     requires within { to ≤ length deck.now }
 {
-    let lines = match read_sheets(alloc, deck, from, to) {
-        Ok(lines) => lines,
-        Err(SheetFault::NoMemory) => return Err(AllocError),
-        Err(SheetFault::Diagnostics(_)) => return Ok(()),
-    };
-    add_primary(alloc, told, from, &lines, reasons)?;
-    let known = Known::of(alloc, &lines)?;
+    match read_sheets(alloc, deck, from, to) {
+        Ok(lines) => {
+            let added = add_of_lines(alloc, deck, &lines, from, told, entries, reasons);
+            drop(lines);
+            added
+        }
+        Err(SheetFault::NoMemory) => Err(AllocError),
+        Err(SheetFault::Diagnostics(_)) => Ok(()),
+    }
+}
+
+/// Adds the reasons of the diagnostics 05 and 08, and of 12 on the RUN card, of a source with these lines that begins at place `from`.
+fn add_of_lines(
+    alloc: Global,
+    deck: &Deck,
+    lines: &[Line],
+    from: usize,
+    told: &[Diagnostic],
+    entries: &[FaultyEntry],
+    reasons: &mut Reasons,
+) -> Result<(), AllocError> {
+    add_primary(alloc, told, from, lines, reasons)?;
+    let known = Known::of(alloc, lines)?;
+    let added = add_of_each_line(alloc, deck, &known, lines, entries, reasons);
+    drop(known);
+    added
+}
+
+/// Adds the reasons of the diagnostics 05 and 08 of each line, given what all of them define.
+fn add_of_each_line(
+    alloc: Global,
+    deck: &Deck,
+    known: &Known,
+    lines: &[Line],
+    entries: &[FaultyEntry],
+    reasons: &mut Reasons,
+) -> Result<(), AllocError> {
     let mut rest = entries;
-    for line in &lines {
+    for line in lines {
         rest = from_card(rest, line.card);
-        add_misfit(alloc, deck, &known, line, rest, reasons)?;
-        add_similar(alloc, deck, line, &lines, rest, reasons)?;
+        add_misfit(alloc, deck, known, line, rest, reasons)?;
+        add_similar(alloc, deck, line, lines, rest, reasons)?;
     }
     Ok(())
 }
@@ -265,17 +309,33 @@ fn add_similar(
     entries: &[FaultyEntry],
     reasons: &mut Reasons,
 ) -> Result<(), AllocError> {
-    let found = faulty_of(alloc, entries, line.card, UNDEFINED)?;
     let Some(card) = card_of(deck, line.card) else {
         return Ok(());
     };
-    if found.is_empty() || reasons.similar.len() >= MOST_SEARCHES {
+    if reasons.similar.len() >= MOST_SEARCHES {
         return Ok(());
     }
-    let mut text = String::new(alloc);
-    push_similar(alloc, &mut text, card, line, lines, &found)?;
-    reasons.similar.insert(line.card, text)?;
+    let found = faulty_of(alloc, entries, line.card, UNDEFINED)?;
+    if found.is_empty() {
+        return Ok(());
+    }
+    let text = similar_words(alloc, card, line, lines, &found);
+    drop(found);
+    reasons.similar.insert(line.card, text?)?;
     Ok(())
+}
+
+/// Which names are similar to those of a line that aren't defined, given their entries.
+fn similar_words(
+    alloc: Global,
+    card: &Card,
+    line: &Line,
+    lines: &[Line],
+    found: &[FaultyEntry],
+) -> Result<String, AllocError> {
+    let mut text = String::new(alloc);
+    push_similar(alloc, &mut text, card, line, lines, found)?;
+    Ok(text)
 }
 
 /// The entries of a card that have a number, of a list that begins with the card's.
@@ -308,19 +368,33 @@ fn add_misfit(
     entries: &[FaultyEntry],
     reasons: &mut Reasons,
 ) -> Result<(), AllocError> {
-    let found = faulty_of(alloc, entries, line.card, MISFIT)?;
     let Some(card) = card_of(deck, line.card) else {
         return Ok(());
     };
+    let found = faulty_of(alloc, entries, line.card, MISFIT)?;
     if found.is_empty() {
         return Ok(());
     }
-    let mut text = String::new(alloc);
-    push_misfit(&mut text, card, known, line, &found)?;
+    let text = misfit_words(alloc, card, known, line, &found);
+    drop(found);
+    let text = text?;
     if !text.is_empty() {
         reasons.by_card.insert(line.card, text)?;
     }
     Ok(())
+}
+
+/// Why an operation or an edit doesn't fit, given the entries to blame.
+fn misfit_words(
+    alloc: Global,
+    card: &Card,
+    known: &Known,
+    line: &Line,
+    found: &[FaultyEntry],
+) -> Result<String, AllocError> {
+    let mut text = String::new(alloc);
+    push_misfit(&mut text, card, known, line, found)?;
+    Ok(text)
 }
 
 /// Appends why an operation or an edit doesn't fit.

@@ -11,7 +11,7 @@ use Rattle.s3_sheets.specs.Lines.{lines_of}
 use Rattle.s3_sheets.specs.Sheets.{sheet_diagnostics}
 use Rattle.s3_sheets.specs.declared.parts.FaultyEntry.{FaultyEntry}
 use Rattle.s3_warnings.specs.declared.kinds.Warning.{Warning}
-use Rattle.s3_source_listing.specs.Inner.Messages.{diagnosed, error_of, errors_of, first_of, unmarked, with_warning}
+use Rattle.s3_source_listing.specs.Inner.Messages.{diagnosed, error_of, errors_by_card, errors_of, first_of, unmarked, with_warning}
 use Rattle.s3_source_listing.specs.Inner.Notes.{is_on}
 use Rattle.s3_source_listing.specs.declared.messages.ErrorMessage.{ErrorMessage}
 use Rattle.s3_source_listing.specs.declared.messages.RunCard.{RunCard}
@@ -23,19 +23,34 @@ pub narrowed_error : (run : RunCard) (entries : List FaultyEntry) (found : Diagn
 narrowed_error run entries found =
     ap (λ some. record { card = found.card; number = found.number; columns = first_of (unmarked run found.card) (map span some) }) (narrowed found.card found.number entries)
 
+-- so the messages of diagnostics are the same with all entries
+pub errors_with_all : (run : RunCard) (entries : List FaultyEntry) (entries_on : ℕ → List FaultyEntry) (found : List Diagnostic)
+    → ((card : ℕ) → entries_on card ≡ filter (is_on card) entries)
+    → errors_by_card run entries_on found ≡ errors_of run entries found
+errors_with_all run entries entries_on [] same = refl
+errors_with_all run entries entries_on (x ∷ found) same =
+    ap (λ message. message ∷ errors_by_card run entries_on found) (ap (λ some. error_of run some x) (same x.card) ∙ narrowed_error run entries x)
+    ∙ ap (λ more. error_of run entries x ∷ more) (errors_with_all run entries entries_on found same)
+
 -- the messages so far, with one more
-pub error_more : (run : RunCard) (entries of_card : List FaultyEntry) (found : List Diagnostic) (i : ℕ) (none : Diagnostic) (old new : List ErrorMessage) (message : ErrorMessage)
+pub error_more : (run : RunCard) (entries_on : ℕ → List FaultyEntry) (of_card : List FaultyEntry) (found : List Diagnostic) (i : ℕ) (none : Diagnostic) (old new : List ErrorMessage) (message : ErrorMessage)
     → i < length found
-    → of_card ≡ filter (is_on (get_or found i none).card) entries
+    → of_card ≡ entries_on (get_or found i none).card
     → message ≡ error_of run of_card (get_or found i none)
     → new ≡ old ++ message ∷ []
-    → old ≡ map (error_of run entries) (take i found) → new ≡ map (error_of run entries) (take (i + 1) found)
-error_more run entries of_card found i none old new message within same is_error more so_far =
+    → old ≡ errors_by_card run entries_on (take i found) → new ≡ errors_by_card run entries_on (take (i + 1) found)
+error_more run entries_on of_card found i none old new message within same is_error more so_far =
     more
     ∙ ap (λ front. front ++ message ∷ []) so_far
-    ∙ ap (λ last. map (error_of run entries) (take i found) ++ last ∷ [])
-    (is_error ∙ ap (λ some. error_of run some (get_or found i none)) same ∙ narrowed_error run entries (get_or found i none))
-    ∙ sym (map_more (error_of run entries) found i none within)
+    ∙ ap (λ last. errors_by_card run entries_on (take i found) ++ last ∷ [])
+    (is_error ∙ ap (λ some. error_of run some (get_or found i none)) same)
+    ∙ sym (map_more (λ (diagnostic : Diagnostic). error_of run (entries_on diagnostic.card) diagnostic) found i none within)
+
+-- the messages of the same entries and diagnostics are the same
+pub same_errors : (run : RunCard) (entries all : List FaultyEntry) (found told : List Diagnostic) (messages : List ErrorMessage)
+    → messages ≡ errors_of run entries found → entries ≡ all → found ≡ told → messages ≡ errors_of run all told
+same_errors run entries all found told messages is_errors same_entries same_found =
+    is_errors ∙ ap (λ some. errors_of run some found) same_entries ∙ ap (errors_of run all) same_found
 
 -- the diagnostics of messages are those that the messages are of
 pub diagnosed_all : (run : RunCard) (entries : List FaultyEntry) (found : List Diagnostic) → map diagnosed (errors_of run entries found) ≡ found

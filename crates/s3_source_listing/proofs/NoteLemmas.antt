@@ -44,21 +44,28 @@ narrowed card number [] = refl
 narrowed card number (entry ∷ entries) =
     with_entry card number entry entries (entry.card == card) refl (narrowed card number entries)
 
--- so a diagnostic of a card has the same columns there
-marks_if : (card : ℕ) (entries : List FaultyEntry) (found : Diagnostic) (on_card : Bool) → (found.card == card) ≡ on_card
-    → cond on_card (columns_of found (filter (is_on found.card) entries) ∷ []) [] ≡ map (marks_of card entries) (cond on_card (found.number ∷ []) [])
-marks_if card entries found false same = refl
-marks_if card entries found true same =
-    ap (λ marked. map span marked ∷ []) (narrowed found.card found.number entries)
-    ∙ ap (λ other. columns_of (record { card = other; number = found.number }) entries ∷ []) (eqb-true found.card card same)
+-- so the columns of a card's diagnostics are the same with all entries
+pub narrowed_marks : (card : ℕ) (numbers : List ℕ) (entries : List FaultyEntry)
+    → map (marks_of card (filter (is_on card) entries)) numbers ≡ map (marks_of card entries) numbers
+narrowed_marks card [] entries = refl
+narrowed_marks card (number ∷ numbers) entries =
+    ap (λ marked. map span marked ∷ map (marks_of card (filter (is_on card) entries)) numbers) (narrowed card number entries)
+    ∙ ap (λ more. marks_of card entries number ∷ more) (narrowed_marks card numbers entries)
 
-mark_more : (card : ℕ) (found : List Diagnostic) (entries : List FaultyEntry) (i : ℕ) (none : Diagnostic) → i < length found
-    → marks_under card (take (i + 1) found) entries
-    ≡ marks_under card (take i found) entries ++ cond ((get_or found i none).card == card) (columns_of (get_or found i none) (filter (is_on (get_or found i none).card) entries) ∷ []) []
-mark_more card found entries i none within =
-    ap (map (marks_of card entries)) (number_more card found i none within)
-    ∙ map-append (marks_of card entries) (numbers_under card (take i found)) (cond ((get_or found i none).card == card) ((get_or found i none).number ∷ []) [])
-    ∙ ap (λ more. marks_under card (take i found) entries ++ more) (sym (marks_if card entries (get_or found i none) ((get_or found i none).card == card) refl))
+-- the columns of a card's diagnostics, with one diagnostic more
+marks_if : (card : ℕ) (entries_on : ℕ → List FaultyEntry) (found : Diagnostic) (on_card : Bool) → (found.card == card) ≡ on_card
+    → cond on_card (columns_of found (entries_on found.card) ∷ []) [] ≡ map (marks_of card (entries_on card)) (cond on_card (found.number ∷ []) [])
+marks_if card entries_on found false same = refl
+marks_if card entries_on found true same =
+    ap (λ other. columns_of (record { card = other; number = found.number }) (entries_on other) ∷ []) (eqb-true found.card card same)
+
+mark_more : (card : ℕ) (found : List Diagnostic) (entries_on : ℕ → List FaultyEntry) (i : ℕ) (none : Diagnostic) → i < length found
+    → marks_under card (take (i + 1) found) (entries_on card)
+    ≡ marks_under card (take i found) (entries_on card) ++ cond ((get_or found i none).card == card) (columns_of (get_or found i none) (entries_on (get_or found i none).card) ∷ []) []
+mark_more card found entries_on i none within =
+    ap (map (marks_of card (entries_on card))) (number_more card found i none within)
+    ∙ map-append (marks_of card (entries_on card)) (numbers_under card (take i found)) (cond ((get_or found i none).card == card) ((get_or found i none).number ∷ []) [])
+    ∙ ap (λ more. marks_under card (take i found) (entries_on card) ++ more) (sym (marks_if card entries_on (get_or found i none) ((get_or found i none).card == card) refl))
 
 -- so what is noted of a card grows by what a diagnostic adds to it
 pub numbered : (found : List Diagnostic) (i : ℕ) (none : Diagnostic) (old new : List ℕ) (card : ℕ) → i < length found
@@ -69,12 +76,12 @@ numbered found i none old new card within more so_far =
     ∙ ap (λ front. front ++ cond ((get_or found i none).card == card) ((get_or found i none).number ∷ []) []) so_far
     ∙ sym (number_more card found i none within)
 
-pub marked : (found : List Diagnostic) (entries of_card : List FaultyEntry) (i : ℕ) (none : Diagnostic) (old new : List (List Columns)) (card : ℕ) → i < length found
-    → of_card ≡ filter (is_on (get_or found i none).card) entries
+pub marked : (found : List Diagnostic) (entries_on : ℕ → List FaultyEntry) (of_card : List FaultyEntry) (i : ℕ) (none : Diagnostic) (old new : List (List Columns)) (card : ℕ) → i < length found
+    → of_card ≡ entries_on (get_or found i none).card
     → new ≡ old ++ cond ((get_or found i none).card == card) (columns_of (get_or found i none) of_card ∷ []) []
-    → old ≡ marks_under card (take i found) entries → new ≡ marks_under card (take (i + 1) found) entries
-marked found entries of_card i none old new card within same more so_far =
+    → old ≡ marks_under card (take i found) (entries_on card) → new ≡ marks_under card (take (i + 1) found) (entries_on card)
+marked found entries_on of_card i none old new card within same more so_far =
     more
     ∙ ap (λ front. front ++ cond ((get_or found i none).card == card) (columns_of (get_or found i none) of_card ∷ []) []) so_far
-    ∙ ap (λ some. marks_under card (take i found) entries ++ cond ((get_or found i none).card == card) (columns_of (get_or found i none) some ∷ []) []) same
-    ∙ sym (mark_more card found entries i none within)
+    ∙ ap (λ some. marks_under card (take i found) (entries_on card) ++ cond ((get_or found i none).card == card) (columns_of (get_or found i none) some ∷ []) []) same
+    ∙ sym (mark_more card found entries_on i none within)

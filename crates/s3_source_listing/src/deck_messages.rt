@@ -2,7 +2,7 @@
 ghost use Rattle.std.specs.Prelude.{◌≤◌, length};
 
 use crate::listing::{Outcome, RULER_CURE, columns_of_statement, is_bare_source, is_surplus_ruler};
-use crate::messages::{ErrorMessage, RunCard, WarningMessage, messages_of};
+use crate::messages::{ErrorMessage, RunCard, SourceMessages, WarningMessage, messages_of};
 use crate::source::{SourceRange, hides};
 use s3_blame::diagnostic_words;
 use s3_cards::{Card, Deck};
@@ -122,7 +122,25 @@ impl DeckMessages {
         Ok(())
     }
 
-    /// Adds the messages of a source.
+    /// Adds the messages of a source, whose RUN card has this number.
+    fn add_messages(
+        &mut self,
+        alloc: Global,
+        run_card: u16,
+        found: &SourceMessages,
+    ) -> Result<(), AllocError> {
+        self.outcome.sources = self.outcome.sources.saturating_add(1);
+        for error in &found.errors {
+            self.hides_others = self.hides_others || hides(error.number);
+            self.add_error(alloc, run_card, &found.reasons, error)?;
+        }
+        for warning in &found.warnings {
+            self.add_warning(alloc, warning)?;
+        }
+        Ok(())
+    }
+
+    /// Adds the messages of the source of these cards.
     fn add_source(
         &mut self,
         alloc: Global,
@@ -134,15 +152,9 @@ impl DeckMessages {
         requires within { range.to ≤ length deck.now }
     {
         let found = messages_of(alloc, deck, range, run)?;
-        self.outcome.sources = self.outcome.sources.saturating_add(1);
-        for error in &found.errors {
-            self.hides_others = self.hides_others || hides(error.number);
-            self.add_error(alloc, run.number, &found.reasons, error)?;
-        }
-        for warning in &found.warnings {
-            self.add_warning(alloc, warning)?;
-        }
-        Ok(())
+        let added = self.add_messages(alloc, run.number, &found);
+        drop(found);
+        added
     }
 
     /// Adds the messages of a compile job.

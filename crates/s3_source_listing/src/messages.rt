@@ -7,10 +7,12 @@ ghost use Rattle.s3_sheets.specs.Inner.Parts.{faulty_entries};
 ghost use Rattle.s3_sheets.specs.Lines.{lines_of};
 ghost use Rattle.s3_sheets.specs.Sheets.{sheet_diagnostics};
 ghost use Rattle.s3_warnings.specs.Inner.Warnings.{warnings as warnings_spec};
-ghost use Rattle.s3_source_listing.specs.Inner.Messages.{diagnosed, earlier as earlier_spec, error_of as error_spec, errors_of as errors_spec, first_of as first_spec, repeats as repeats_spec, unmarked as unmarked_spec, warning_of as warning_spec, warnings_of as warned_spec};
+ghost use Rattle.s3_source_listing.specs.Inner.Messages.{diagnosed, earlier as earlier_spec, error_of as error_spec, errors_by_card as errors_by_card_spec, errors_of as errors_spec, first_of as first_spec, repeats as repeats_spec, unmarked as unmarked_spec, warning_of as warning_spec, warnings_of as warned_spec};
+ghost use Rattle.s3_source_listing.specs.Inner.Notes.{entries_in};
 
 use crate::notes::{entries_by_card, entries_on};
 use crate::source::{Faults, SourceRange, faults_of, warnings_in};
+use indexmap::IndexMap;
 use s3_blame::{FaultyEntry, columns_of};
 use s3_cards::Deck;
 use s3_decks::Columns;
@@ -117,9 +119,25 @@ fn error_of(
     })
 }
 
+/// The messages of diagnostics, given the entries of each card that are in error.
+fn errors_by_card(
+    alloc: Global,
+    run: RunCard,
+    by_card: &IndexMap<u16, Vec<FaultyEntry>>,
+    found: &[Diagnostic],
+) -> Result<Vec<ErrorMessage>, AllocError>
+    ensures { IfOk result (λ messages. messages.items ≡ errors_by_card_spec run (entries_in by_card.now) found.now) }
+{
+    let mut messages = Vec::new(alloc);
+    for diagnostic in found {
+        let of_card = entries_on(by_card, diagnostic.card);
+        messages.push(error_of(alloc, run, of_card, diagnostic)?)?;
+    }
+    Ok(messages)
+}
+
 /// The messages of diagnostics, given the entries that are in error. Each diagnostic is looked at with the entries of its card
 /// alone.
-#[tactic(auto, using(crate::proofs::MessageLemmas::narrowed_error))]
 fn errors_of(
     alloc: Global,
     run: RunCard,
@@ -129,12 +147,9 @@ fn errors_of(
     ensures { IfOk result (λ messages. messages.items ≡ errors_spec run entries.now found.now) }
 {
     let by_card = entries_by_card(alloc, entries)?;
-    let mut messages = Vec::new(alloc);
-    for diagnostic in found {
-        let of_card = entries_on(&by_card, diagnostic.card);
-        messages.push(error_of(alloc, run, of_card, diagnostic)?)?;
-    }
-    Ok(messages)
+    let messages = errors_by_card(alloc, run, &by_card, found);
+    drop(by_card);
+    messages
 }
 
 /// Whether a warning is of the same card and kind as the one before it.
@@ -189,9 +204,57 @@ fn warned(alloc: Global, warnings: &[Warning]) -> Result<Vec<WarningMessage>, Al
     Ok(messages)
 }
 
+/// The messages of the warnings of a source with these faults.
+fn warnings_with(
+    alloc: Global,
+    deck: &Deck,
+    range: SourceRange,
+    faults: &Faults,
+) -> Result<Vec<WarningMessage>, AllocError>
+    requires order { range.from ≤ range.to }
+    requires within { range.to ≤ length deck.now }
+    ensures warned { IfOk result (λ messages. faults.now.diagnostics.items ≡ [] → sheet_diagnostics range.from (slice_range deck.now range.from range.to) ≡ [] → messages.items ≡ warned_spec (warnings_spec (lines_of range.from (slice_range deck.now range.from range.to)))) }
+    ensures none { IfOk result (λ messages. faults.now.diagnostics.items ≢ [] → messages.items ≡ []) }
+{
+    let warnings = warnings_in(alloc, deck, range, faults)?;
+    let messages = warned(alloc, &warnings);
+    drop(warnings);
+    messages
+}
+
+/// The messages of a source with these faults.
+fn messages_with(
+    alloc: Global,
+    deck: &Deck,
+    range: SourceRange,
+    run: RunCard,
+    faults: &Faults,
+) -> Result<SourceMessages, AllocError>
+    requires order { range.from ≤ range.to }
+    requires within { range.to ≤ length deck.now }
+    ensures errors { IfOk result (λ found. found.errors.items ≡ errors_spec run faults.now.entries.items faults.now.diagnostics.items) }
+    ensures warned { IfOk result (λ found. faults.now.diagnostics.items ≡ [] → sheet_diagnostics range.from (slice_range deck.now range.from range.to) ≡ [] → found.warnings.items ≡ warned_spec (warnings_spec (lines_of range.from (slice_range deck.now range.from range.to)))) }
+    ensures none { IfOk result (λ found. faults.now.diagnostics.items ≢ [] → found.warnings.items ≡ []) }
+{
+    let errors = errors_of(alloc, run, &faults.entries, &faults.diagnostics)?;
+    let warnings = warnings_with(alloc, deck, range, faults)?;
+    let reasons = reasons_of(
+        alloc,
+        deck,
+        range.from,
+        range.to,
+        &faults.diagnostics,
+        &faults.entries,
+    )?;
+    Ok(SourceMessages {
+        errors,
+        reasons,
+        warnings,
+    })
+}
+
 /// The messages of a source: its diagnostics, or its warnings if it has none. The source is in a deck from place `from` up to but
 /// without place `to`. Refused only if memory runs out.
-#[tactic(auto, using(crate::proofs::MessageLemmas::no_card_at_fault, crate::proofs::MessageLemmas::diagnosed_all))]
 pub fn messages_of(
     alloc: Global,
     deck: &Deck,
@@ -206,14 +269,7 @@ pub fn messages_of(
     ensures no_warnings { IfOk result (λ found. found_from range.from run.number (slice_range deck.now range.from range.to) ≢ [] → found.warnings.items ≡ []) }
 {
     let faults = faults_of(alloc, deck, range, run.number)?;
-    let warnings = warnings_in(alloc, deck, range, &faults)?;
-    let Faults {
-        diagnostics,
-        entries,
-    } = &faults;
-    Ok(SourceMessages {
-        errors: errors_of(alloc, run, entries, diagnostics)?,
-        reasons: reasons_of(alloc, deck, range.from, range.to, diagnostics, entries)?,
-        warnings: warned(alloc, &warnings)?,
-    })
+    let found = messages_with(alloc, deck, range, run, &faults);
+    drop(faults);
+    found
 }

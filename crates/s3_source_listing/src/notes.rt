@@ -87,6 +87,23 @@ fn add_diagnostic(
     add_note(alloc, notes, diagnostic.card, note)
 }
 
+/// What a listing has under each card, given the entries of each card that are in error.
+fn notes_by_card(
+    alloc: Global,
+    by_card: &IndexMap<u16, Vec<FaultyEntry>>,
+    found: &[Diagnostic],
+) -> Result<CardNotes, AllocError>
+    ensures numbers { IfOk result (λ notes. (card : ℕ) → map number_of (notes_in notes card) ≡ numbers_under card found.now) }
+    ensures marked { IfOk result (λ notes. (card : ℕ) → map marked_of (notes_in notes card) ≡ marks_under card found.now (entries_in by_card.now card)) }
+{
+    let mut notes = IndexMap::new(alloc);
+    for diagnostic in found {
+        let of_card = entries_on(by_card, diagnostic.card);
+        add_diagnostic(alloc, &mut notes, diagnostic, of_card)?;
+    }
+    Ok(notes)
+}
+
 /// What a listing has under each card of a source: of all its diagnostics those of the card, in their order, each with the
 /// columns of those of the card's entries that are in error by it. Each diagnostic and each entry is looked at once, and then
 /// only with those of its card. It is refused only if memory runs out.
@@ -99,12 +116,9 @@ pub fn notes_of_cards(
     ensures marked { IfOk result (λ notes. (card : ℕ) → map marked_of (notes_in notes card) ≡ marks_under card found.now entries.now) }
 {
     let by_card = entries_by_card(alloc, entries)?;
-    let mut notes = IndexMap::new(alloc);
-    for diagnostic in found {
-        let of_card = entries_on(&by_card, diagnostic.card);
-        add_diagnostic(alloc, &mut notes, diagnostic, of_card)?;
-    }
-    Ok(notes)
+    let notes = notes_by_card(alloc, &by_card, found);
+    drop(by_card);
+    notes
 }
 
 /// What a listing has under a card; nothing if it has no diagnostics.

@@ -212,15 +212,34 @@ fn push_all_cards(
     requires within { range.to ≤ length deck.now }
     requires short { range.to ≤ 9_999 }
 {
-    let notes = notes_of_source(alloc, deck, range, faults, warnings)?;
     let cards = NumberedCards {
         files,
         deck,
         margin: Margin::of(files, usize::from(run_card), range.to),
     };
-    push_noted_cards(text, alloc, &cards, range, run_card, &notes)?;
+    push_diagnosed_cards(text, alloc, &cards, range, run_card, faults, warnings)?;
     push_count(text, &faults.diagnostics)?;
     push_warning_count(text, count_of(warnings))
+}
+
+/// Appends the cards of a source under a ruler, each with its diagnostics, their reasons and its warnings.
+fn push_diagnosed_cards(
+    text: &mut String,
+    alloc: Global,
+    cards: &NumberedCards<'_>,
+    range: SourceRange,
+    run_card: u16,
+    faults: &Faults,
+    warnings: &[Warning],
+) -> Result<(), AllocError>
+    requires order { range.from ≤ range.to }
+    requires within { range.to ≤ length cards.now.deck.now }
+    requires short { range.to ≤ 9_999 }
+{
+    let notes = notes_of_source(alloc, cards.deck, range, faults, warnings)?;
+    let pushed = push_noted_cards(text, alloc, cards, range, run_card, &notes);
+    drop(notes);
+    pushed
 }
 
 /// The notes under the cards of a source.
@@ -235,10 +254,32 @@ fn notes_of_source(
     requires within { range.to ≤ length deck.now }
 {
     let (found, entries) = (&faults.diagnostics, &faults.entries);
+    let reasons = reasons_of(alloc, deck, range.from, range.to, found, entries)?;
+    notes_with_reasons(alloc, faults, reasons, warnings)
+}
+
+/// The notes under the cards of a source, with the reasons of its diagnostics.
+fn notes_with_reasons(
+    alloc: Global,
+    faults: &Faults,
+    reasons: Reasons,
+    warnings: &[Warning],
+) -> Result<SourceNotes, AllocError> {
+    let diagnostics = notes_of_cards(alloc, &faults.diagnostics, &faults.entries)?;
+    notes_with_diagnostics(alloc, diagnostics, reasons, warnings)
+}
+
+/// The notes under the cards of a source, with its diagnostics and their reasons.
+fn notes_with_diagnostics(
+    alloc: Global,
+    diagnostics: CardNotes,
+    reasons: Reasons,
+    warnings: &[Warning],
+) -> Result<SourceNotes, AllocError> {
     Ok(SourceNotes {
-        diagnostics: notes_of_cards(alloc, found, entries)?,
-        reasons: reasons_of(alloc, deck, range.from, range.to, found, entries)?,
         warnings: warnings_of_cards(alloc, warnings)?,
+        diagnostics,
+        reasons,
     })
 }
 

@@ -2,7 +2,9 @@
 ghost use Rattle.std.specs.Prelude.{◌≡◌, ◌++◌, IfOk, OnOk, IsTrue, flat_map};
 ghost use Rattle.s3_lines.specs.Inner.Ranges.{are_read};
 ghost use Rattle.s3_diagnose.specs.Inner.Ranged.{are_ranged};
+ghost use Rattle.s3_warnings.specs.Inner.Contradictions.{contradictions_on as contradictions_spec};
 ghost use Rattle.s3_warnings.specs.Inner.Facts.{facts_of};
+ghost use Rattle.s3_warnings.specs.Inner.Indicators.{never_set_on as never_set_spec, never_tested_on as never_tested_spec};
 ghost use Rattle.s3_warnings.specs.Inner.Shown.{facts_shown};
 ghost use Rattle.s3_warnings.specs.Inner.Warnings.{warnings, warnings_by, warnings_on};
 
@@ -14,19 +16,34 @@ use crate::known::{Known, set_by, tested_by};
 use crate::overlaps::push_overlaps;
 use crate::results::results_on;
 use crate::shapes::shapes_of;
+use indexmap::{IndexMap, IndexSet};
 use s3_lines::sheet::Line;
 use std::alloc::{AllocError, Global};
 
-/// What lines set, test and define.
-fn known_of(alloc: Global, lines: &[Line]) -> Result<Known, AllocError>
+/// Fills tables with what lines set, test and define. The caller owns the tables, so that no early return here drops them.
+fn fill(alloc: Global, known: &mut Known, lines: &[Line]) -> Result<(), AllocError>
     requires { IsTrue (are_ranged lines.now) }
-    ensures { IfOk result (λ known. facts_shown known ≡ facts_of lines.now) }
+    ensures { OnOk result (facts_shown known.new ≡ facts_of lines.now) }
 {
-    Ok(Known {
-        set: set_by(alloc, lines)?,
-        tested: tested_by(alloc, lines)?,
-        shapes: shapes_of(alloc, lines)?,
-    })
+    known.set = set_by(alloc, lines)?;
+    known.tested = tested_by(alloc, lines)?;
+    known.shapes = shapes_of(alloc, lines)?;
+    Ok(())
+}
+
+/// Appends the warnings of a card's indicators, given what all lines say.
+fn push_of_indicators(
+    alloc: Global,
+    found: &mut Vec<Warning>,
+    known: &Known,
+    line: &Line,
+) -> Result<(), AllocError>
+    ensures { OnOk result (found.new.items ≡ found.old.items ++ never_set_spec (facts_shown known.now) line.now ++ never_tested_spec (facts_shown known.now) line.now ++ contradictions_spec line.now) }
+{
+    found.extend_from_slice(&never_set_on(alloc, known, line)?)?;
+    found.extend_from_slice(&never_tested_on(alloc, known, line)?)?;
+    found.extend_from_slice(&contradictions_on(alloc, line)?)?;
+    Ok(())
 }
 
 /// Appends the warnings of a card, given what all lines say.
@@ -39,9 +56,7 @@ fn push_warnings(
 ) -> Result<(), AllocError>
     ensures { OnOk result (found.new.items ≡ found.old.items ++ warnings_on (facts_shown known.now) lines.now line.now) }
 {
-    found.extend_from_slice(&never_set_on(alloc, known, line)?)?;
-    found.extend_from_slice(&never_tested_on(alloc, known, line)?)?;
-    found.extend_from_slice(&contradictions_on(alloc, line)?)?;
+    push_of_indicators(alloc, found, known, line)?;
     found.extend_from_slice(&files_on(alloc, lines, line)?)?;
     found.extend_from_slice(&results_on(alloc, known, line)?)?;
     Ok(())
@@ -80,6 +95,19 @@ fn warnings_by_known(
     Ok(found)
 }
 
+/// All warnings, by tables that it fills with what all lines say.
+fn warnings_with(
+    alloc: Global,
+    known: &mut Known,
+    lines: &[Line],
+) -> Result<Vec<Warning>, AllocError>
+    requires { IsTrue (are_ranged lines.now) }
+    ensures { IfOk result (λ found. found.items ≡ warnings lines.now) }
+{
+    fill(alloc, known, lines)?;
+    warnings_by_known(alloc, known, lines)
+}
+
 /// The warnings of a source (docs/LISTINGS.md, "Warnings"), by card and then by kind, and then those of fields that cover others.
 /// The lines are those of a source without diagnostics, as `read_sheets` gives them. It is refused only if memory runs out.
 #[tactic(auto, using(crate::proofs::RangeLemmas::ranged_of_read))]
@@ -87,8 +115,12 @@ pub fn warnings_of(alloc: Global, lines: &[Line]) -> Result<Vec<Warning>, AllocE
     requires { IsTrue (are_read lines.now) }
     ensures { IfOk result (λ found. found.items ≡ warnings lines.now) }
 {
-    let known = known_of(alloc, lines)?;
-    let found = warnings_by_known(alloc, &known, lines);
+    let mut known = Known {
+        set: IndexSet::new(alloc),
+        tested: IndexSet::new(alloc),
+        shapes: IndexMap::new(alloc),
+    };
+    let found = warnings_with(alloc, &mut known, lines);
     drop(known);
     found
 }

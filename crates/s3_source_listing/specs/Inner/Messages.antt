@@ -35,6 +35,10 @@ error_of run entries found = record {
 abbrev pub errors_of : RunCard → List FaultyEntry → List Diagnostic → List ErrorMessage
 errors_of run entries found = map (error_of run entries) found
 
+-- the messages of diagnostics, each with the entries of its card
+abbrev pub errors_by_card : RunCard → (entries_on : ℕ → List FaultyEntry) → List Diagnostic → List ErrorMessage
+errors_by_card run entries_on found = map (λ (diagnostic : Diagnostic). error_of run (entries_on diagnostic.card) diagnostic) found
+
 -- the diagnostic of a message
 abbrev pub diagnosed : ErrorMessage → Diagnostic
 diagnosed message = record { card = message.card; number = message.number }

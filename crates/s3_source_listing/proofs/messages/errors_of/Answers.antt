@@ -1,8 +1,9 @@
 use Rattle.std.proofs.Common.{◌∙◌}
-use Rattle.s3_source_listing.proofs.MessageLemmas.{error_more}
+use Rattle.std.proofs.lemmas.Result.{IfOk-weaker}
+use Rattle.s3_source_listing.proofs.MessageLemmas.{errors_with_all}
 use Rattle.s3_source_listing.proofs.messages.errors_of.Goals as goal
 
-pub loop-diagnostic-preserved : goal.loop-diagnostic-preserved
-loop-diagnostic-preserved c =
-    error_more c.args.run c.args.entries.now c.entries_on-of_card.result.now c.args.found.now c.loop-diagnostic.diagnostic-index _ _ _ c.in_ok-error_of.field-0
-    c.loop-diagnostic-test.true (c.entries_on-of_card.ensures ∙ c.in_ok-by_card.ensures _) c.in_ok-error_of.ensures c.in_ok-push.ensures.items c.loop-diagnostic.invariant
+pub returns : goal.returns
+returns c = IfOk-weaker c.errors_by_card-messages.result _ _
+    (λ messages so. so ∙ errors_with_all c.args.run c.args.entries.now _ c.args.found.now c.in_ok-by_card.ensures)
+    c.errors_by_card-messages.ensures
