@@ -5,7 +5,7 @@ use crate::opening::BEGINNING;
 use crate::reading::JOURNAL_LIMIT;
 use crate::reports::report_beside;
 use s3_host_files::{beginning_of, folder_of, followed, read_within, retried};
-use s3_journal::{JournalFault, PostedDay, read_lines};
+use s3_journal::{JournalFault, day_that_made, read_lines};
 use std::alloc::AllocError;
 
 /// Reports a journal in the folder of a new journal, or of the pack, with a day that made this pack. Whether there is one. What can't be
@@ -66,7 +66,7 @@ fn has_left(
     };
     match read_lines(rt.alloc(), text) {
         Ok(lines) => {
-            let day = lines.days.iter().find(|day| has_made(day, pack.sum));
+            let day = day_that_made(&lines.days, pack.sum);
             if let Some(day) = day {
                 report_beside(rt, journal, name, day, pack);
             }
@@ -75,11 +75,6 @@ fn has_left(
         Err(JournalFault::NoMemory) => Err(AllocError),
         Err(_) => Ok(false),
     }
-}
-
-/// Whether a day made the pack with this checksum. A day that changed nothing didn't: two new packs have one checksum.
-fn has_made(day: &PostedDay, sum: &str) -> bool {
-    day.after.as_str() == sum && day.before.as_str() != sum
 }
 
 /// Whether a regular file has this name and begins as a journal does. A pipe isn't opened: it may have no writer.
