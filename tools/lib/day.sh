@@ -24,6 +24,35 @@ names_error() {
     return 1
 }
 
+# Prints what the system has about a descriptor of this shell: its flags, and its locks.
+info_of() {
+    cat "/proc/$$/fdinfo/$1" 2> /dev/null || true
+}
+
+# Whether each write to a descriptor of this shell goes to the end of its file.
+appends() {
+    info_of "$1" | grep -q '^flags:.*[2367]...$'
+}
+
+# Refuses standard output and standard error that are one file, opened twice, as by `> report 2> report`: each would write over the
+# lines of the other. If both were opened at once, as by `2>&1`, a lock on one is a lock on the other. A file that is locked isn't
+# tried, since its lock would be lost.
+refuse_lost_lines() {
+    # shellcheck disable=SC3013
+    [ -f /dev/fd/1 ] && [ /dev/fd/1 -ef /dev/fd/2 ] || return 0
+    ! appends 1 || ! appends 2 || return 0
+    ! { info_of 1; info_of 2; } | grep -q '^lock:' || return 0
+    flock -n 1 2> /dev/null || return 0
+    twice=0
+    flock -n 8 8>&2 2> /dev/null || twice=$?
+    flock -u 1
+    [ $twice -eq 1 ] || return 0
+    # what is in the file stays
+    ! appends 1 || exec 2>&1
+    say "standard output and standard error are one file, opened twice, so each would write over the lines of the other; nothing is done: write > FILE 2>&1" || true
+    exit 3
+}
+
 # Becomes the program, with the standard error that this shell was given. $ends_with is empty, or a command that runs the program so
 # that it ends with this shell.
 become() {

@@ -21,6 +21,12 @@ const QUESTION: &'static str =
 const STOPPED: &'static str =
     "the day is stopped before its first turn: no job has run, and no file is changed\n";
 
+/// Printed for an answer that was typed before its question.
+const BEFORE_QUESTION: &'static str = "that was typed before it was asked; once more\n";
+
+/// Printed for an answer that is another word.
+const NEITHER: &'static str = "that is neither yes nor no\n";
+
 /// An answer that comes within so many milliseconds was typed before its question.
 const TOO_SOON: u64 = 200;
 
@@ -153,12 +159,18 @@ fn is_confirmed(rt: &HostRuntime) -> Result<bool, AllocError> {
         };
         let is_too_soon = watch.milliseconds().saturating_sub(asked_at) < TOO_SOON;
         match typed {
-            Typed::Yes if !is_too_soon => return Ok(true),
             Typed::No => return Ok(false),
-            _ => {}
+            _ if is_too_soon => report(rt, BEFORE_QUESTION),
+            Typed::Yes => return Ok(true),
+            Typed::Nothing => {}
+            _ => report(rt, NEITHER),
         }
     }
     Ok(false)
+}
+
+fn report(rt: &HostRuntime, line: &str) {
+    let _ = rt.stderr().write_all(line.as_bytes());
 }
 
 /// What the next line of standard input says; `None` if it has ended or fails.

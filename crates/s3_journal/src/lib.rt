@@ -3,8 +3,8 @@
 //!
 //! What is proved:
 //!
-//! - which line of a journal a pack is of (`standing_of`), which line posted the same to a pack (`posted_day`), and what a start is to
-//!   do (`start_of`);
+//! - which line of a journal a pack is of (`standing_of`), which made it of another pack (`day_that_made`), which posted the same to a
+//!   pack (`posted_day`), and what a start is to do (`start_of`);
 //! - no list of starts, with `--again` or without, kills, restores and changes by something else posts without `--again` what was posted
 //!   to the pack before (`posts_once`), and a start after a kill takes its work as posted exactly if the pack is the new one
 //!   (`crashes_are_seen`), given that a line is on the disk before the new pack has the name of the old one;
@@ -36,5 +36,5 @@ pub use decks::checksum_of_deck;
 pub use laws::{a_journal_reads_back, crashes_are_seen, posts_once};
 pub use reading::{JournalFault, Lines, read_lines};
 pub use saved::{Saved, saved_of};
-pub use standing::{Start, day_that_left, day_with, posted_day, start_of};
+pub use standing::{Start, day_that_left, day_that_made, day_with, posted_day, start_of};
 pub use writing::line_of;

@@ -4,7 +4,7 @@ ghost use Rattle.std.specs.List.{list_any};
 ghost use Rattle.std.specs.Option.{option_copied, option_map};
 ghost use Rattle.std.specs.Str.{bytes_eq};
 ghost use Rattle.std.specs.String.{string_bytes};
-ghost use Rattle.s3_journal.specs.Inner.Posted.{from_pack as from_pack_spec, has_pack as has_pack_spec, line_of, lines_of, made as made_spec, posted_by, posted_in, same_posted, standing_of as standing_spec, start_of as start_spec};
+ghost use Rattle.s3_journal.specs.Inner.Posted.{from_pack as from_pack_spec, has_pack as has_pack_spec, line_of, lines_of, made as made_spec, made_of_other, posted_by, posted_in, same_posted, standing_of as standing_spec, start_of as start_spec};
 
 use crate::day::{PostedDay, Posting};
 
@@ -80,6 +80,13 @@ fn has_made(day: &PostedDay, pack: &str) -> bool
     !day.work.restores() && is_same(day.after.as_str(), pack)
 }
 
+/// Whether a line's command made this pack of another one.
+fn has_made_of_other(day: &PostedDay, pack: &str) -> bool
+    ensures { result ≡ made_of_other pack.now (line_of day.now) }
+{
+    has_made(day, pack) && !is_same(day.before.as_str(), pack)
+}
+
 /// Whether a line's command posted the same.
 fn has_posted(day: &PostedDay, posting: Posting<'_>) -> bool
     ensures { result ≡ same_posted (line_of day.now).posted (posted_by posting.entry) }
@@ -139,6 +146,13 @@ pub fn day_that_left<'a>(days: &'a [PostedDay], pack: &str) -> Option<&'a Posted
     ensures { option_copied result ≡ find (λ day. bytes_eq (line_of day).after pack.now) days.now }
 {
     days.iter().find(|day| is_same(day.after.as_str(), pack))
+}
+
+/// The last of these days that made the pack of another one. A day that changed nothing, and a restored pack, don't count.
+pub fn day_that_made<'a>(days: &'a [PostedDay], pack: &str) -> Option<&'a PostedDay>
+    ensures { option_copied result ≡ find (λ day. made_of_other pack.now (line_of day)) days.now }
+{
+    days.iter().find(|day| has_made_of_other(day, pack))
 }
 
 /// The last of these days before or after which the pack was there.

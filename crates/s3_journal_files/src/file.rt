@@ -1,5 +1,6 @@
 //! The file of a journal, kept until its command ends.
 
+use crate::beside::is_known_beside;
 use crate::opening::{BEGINNING, Opened, is_lockable, remove_second_name};
 use crate::reading::{Journal, journal_text, read_journal};
 use crate::refusal::JournalRefusal;
@@ -135,7 +136,8 @@ impl<'a> JournalFile<'a> {
     }
 
     /// Refuses a command that the journal doesn't let begin over a pack, and reports why. The cure is what to do if what it posts is
-    /// posted. A new journal is reported, since it lets anything begin; one that may have lost its lines is refused.
+    /// posted. A new journal is reported, since it lets anything begin. It is refused if another journal has a day that made this pack:
+    /// its name may be mistyped. A journal that may have lost its lines is refused, too.
     pub fn test_start(
         &self,
         rt: &HostRuntime,
@@ -148,12 +150,8 @@ impl<'a> JournalFile<'a> {
             return Err(JournalRefusal::Malformed);
         }
         match start_of(self.days(), pack.sum, posting) {
-            Start::Do => {
-                if self.days().is_empty() {
-                    report_new(rt, self.name);
-                }
-                Ok(())
-            }
+            Start::Do if self.days().is_empty() => self.test_new(rt, pack),
+            Start::Do => Ok(()),
             Start::IsOld => {
                 report_old(rt, self.name, self.days(), pack);
                 Err(JournalRefusal::Old(pack.name))
@@ -171,6 +169,20 @@ impl<'a> JournalFile<'a> {
                 Err(JournalRefusal::Posted)
             }
         }
+    }
+
+    /// Reports a new journal. It is refused, and removed again, if another journal has a day that made the pack.
+    fn test_new(
+        &self,
+        rt: &HostRuntime,
+        pack: GivenPack<'a, '_>,
+    ) -> Result<(), JournalRefusal<'a>> {
+        if is_known_beside(rt, self.name, pack)? {
+            self.remove_if_unused(rt);
+            return Err(JournalRefusal::Malformed);
+        }
+        report_new(rt, self.name);
+        Ok(())
     }
 
     /// Reports a command that begins by `--again` although what it posts is posted.

@@ -8,6 +8,7 @@
 #![tactic(auto)]
 
 mod apart;
+mod beside;
 mod file;
 mod opening;
 mod reading;

@@ -9,7 +9,7 @@ use std::io;
 use std::io::Write;
 
 /// The most bytes of a journal that is read.
-const JOURNAL_LIMIT: usize = 268_435_456;
+pub(crate) const JOURNAL_LIMIT: usize = 268_435_456;
 
 /// What helps if a journal can't be read.
 #[derive(Clone, Copy)]

@@ -40,7 +40,7 @@ pub enum JournalRefusal<'a> {
     Same(&'a str),
     /// This journal is a standard stream as well.
     Stream(&'a str, StandardStream),
-    /// The journal can't be read; why is reported.
+    /// The journal can't be read, or another one has a day that made the pack; why is reported.
     Malformed,
     /// This journal didn't get its line; why is reported.
     Unwritten(&'a str),

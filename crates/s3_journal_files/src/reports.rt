@@ -91,6 +91,23 @@ pub(crate) fn report_new(rt: &HostRuntime, journal: &str) {
     );
 }
 
+/// Reports that another journal has a day that made the pack over which a new journal would begin, and what to do.
+pub(crate) fn report_beside(
+    rt: &HostRuntime,
+    journal: &str,
+    other: &str,
+    day: &PostedDay,
+    pack: GivenPack<'_, '_>,
+) {
+    let (journal, quoted) = (Shown(journal), Quoted(other));
+    let (other, pack) = (Shown(other), Shown(pack.name));
+    let (number, at) = (day.number, day.at.as_str());
+    let _ = writeln!(
+        rt.stderr(),
+        "{journal} would be a new journal, but {other} has {pack}: day {number} left it, {at}; give --journal {quoted}, or --again to begin a new journal"
+    );
+}
+
 /// Reports that a journal may have lost its lines, and what to do.
 pub fn report_lost_lines(rt: &HostRuntime, journal: &str) {
     let journal = Shown(journal);

@@ -6,7 +6,7 @@ use s3_cards::LevelId;
 use s3_cards::ebcdic::DIGIT_0;
 use s3_day_book::{BookHalt, BookJob, DayBook, page_of_day};
 use s3_day_files::{DayFault, Form, Order, Paper};
-use s3_decks::push_name;
+use s3_decks::{Position, push_name};
 use s3_host_files::shown_name;
 use s3_operating::{LevelEnd, NotedHalt, PrintedJob, Replier, Verdict};
 use s3_refusals::Shown;
@@ -126,7 +126,9 @@ fn given_of(alloc: Global, order: &Order<'_>, desk: &OwnDesk<'_>) -> Result<Stri
     let mut text = String::new(alloc);
     push_pack(&mut text, order.pack)?;
     push_deck(&mut text, LevelId::One, &order.deck1)?;
+    push_from(&mut text, LevelId::One, order.from1)?;
     push_deck(&mut text, LevelId::Two, &order.deck2)?;
+    push_from(&mut text, LevelId::Two, order.from2)?;
     push_dates(&mut text, desk)?;
     Ok(text)
 }
@@ -139,6 +141,27 @@ fn push_pack(text: &mut String, pack: Option<&str>) -> Result<(), AllocError> {
         }
         None => text.push_str("Pack: a new one\n"),
     }
+}
+
+/// Appends at which line a level is taken up, if it is.
+fn push_from(
+    text: &mut String,
+    level: LevelId,
+    from: Option<Position<'_>>,
+) -> Result<(), AllocError> {
+    let Some(Position { file, line }) = from else {
+        return Ok(());
+    };
+    let number = level.number();
+    write!(text, "Level {number} is taken up at line {line} of ")?;
+    match file {
+        Some(file) => {
+            let file = Shown(file);
+            write!(text, "{file}")?;
+        }
+        None => text.push_str("its deck")?,
+    }
+    text.push_str(": earlier jobs are left out, except compile jobs\n")
 }
 
 /// Appends the files of a level's deck.

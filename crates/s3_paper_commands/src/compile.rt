@@ -7,6 +7,7 @@ use crate::messages::{Report, write_messages};
 use crate::programs::write_programs;
 use crate::status::{DONE, FILE_FAILED, FILE_WRONG, OPTIONS_WRONG, PERSON_NEEDED, REFUSED};
 use crate::typed_files::TypedFiles;
+use crate::unlisted::report_unlisted;
 use crate::unread::words_of_unread;
 use crate::words::{CommandWords, Example, Status, Takes, Word};
 use clap::ArgMatches;
@@ -190,6 +191,9 @@ fn list_text<'a>(
                 Form::Messages => write_messages(rt, text, typed, &deck)?,
                 Form::Objects => write_programs(rt, text, &deck)?,
             };
+            if let Report::Sentences = order.form.report() {
+                report_unlisted(rt, text, &deck)?;
+            }
             Ok(status_of(rt, outcome, order.is_strict))
         }
         Err(DeckFault::NoMemory) => Err(CommandFault::NoMemory),

@@ -21,6 +21,7 @@ mod punch_check;
 mod punch_messages;
 pub mod status;
 mod typed_files;
+mod unlisted;
 mod unread;
 pub mod words;
 

@@ -73,6 +73,10 @@ same_posted OfNothing other = false
 abbrev pub made : (pack : List ℕ) → Line → Bool
 made pack line = not line.restores && same line.after pack
 
+-- the command made the pack of another one
+abbrev pub made_of_other : (pack : List ℕ) → Line → Bool
+made_of_other pack line = made pack line && not (same line.before pack)
+
 -- the pack was there before or after the command of a line
 abbrev pub has_pack : (pack : List ℕ) → Line → Bool
 has_pack pack line = same line.after pack || same line.before pack
