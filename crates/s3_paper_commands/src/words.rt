@@ -1,7 +1,7 @@
 //! Words of command lines.
 
 use clap::builder::{PossibleValue, ValueParser};
-use clap::{Arg, ArgAction, ArgMatches, Command, value_parser};
+use clap::{Arg, ArgAction, ArgMatches, Command};
 use std::alloc::{AllocError, Global};
 
 /// A command of a command line.
@@ -287,38 +287,61 @@ impl Takes {
         }
     }
 
+    /// What the parser does with the value, or with the word if it has none.
+    fn action(self) -> ArgAction {
+        match self {
+            Takes::Nothing | Takes::Refused | Takes::Unlisted => ArgAction::SetTrue,
+            Takes::Values(_) | Takes::Files | Takes::FollowingFiles | Takes::Following(_) => {
+                ArgAction::Append
+            }
+            _ => ArgAction::Set,
+        }
+    }
+
+    /// The placeholder of the value, which help doesn't show if no help lists the word.
+    fn placeholder(self) -> Option<&'static str> {
+        match self {
+            Takes::UnlistedFile => Some("FILE"),
+            _ => self.shown(),
+        }
+    }
+
+    /// How the parser reads a number, if what is given is one.
+    fn number<'a>(self) -> Option<ValueParser<'a>> {
+        let (_, least, greatest) = self.range()?;
+        Some(ValueParser::signed(i64::from(least), i64::from(greatest)))
+    }
+
+    /// The value of a word that isn't given, if it has one then.
+    fn default(self) -> Option<&'static str> {
+        match self {
+            Takes::U16Or(_, default) | Takes::U8Or(_, default) => Some(default),
+            _ => None,
+        }
+    }
+
+    /// An argument whose value has this placeholder, is read as this number and has this default.
+    fn with_value<'a>(self, argument: Arg<'a>) -> Arg<'a> {
+        let argument = match self.placeholder() {
+            Some(shown) => argument.value_name(shown),
+            None => argument,
+        };
+        let argument = match self.number() {
+            Some(number) => argument.value_parser(number),
+            None => argument,
+        };
+        match self.default() {
+            Some(default) => argument.default_value(default),
+            None => argument,
+        }
+    }
+
     /// An argument with which this is given.
     fn given_with<'a>(self, argument: Arg<'a>) -> Arg<'a> {
-        match self {
-            Takes::Nothing => argument.action(ArgAction::SetTrue),
-            Takes::Refused | Takes::Unlisted => argument.action(ArgAction::SetTrue).hide(true),
-            Takes::UnlistedFile => argument.value_name("FILE").hide(true),
-            Takes::Value(shown) | Takes::OneOf(shown, _) => argument.value_name(shown),
-            Takes::Needed(shown) | Takes::NeededOneOf(shown, _) => {
-                argument.value_name(shown).required(true)
-            }
-            Takes::Number(shown, least, greatest) => argument
-                .value_name(shown)
-                .value_parser(ValueParser::signed(i64::from(least), i64::from(greatest))),
-            Takes::U16Or(shown, default) => argument
-                .value_name(shown)
-                .value_parser(value_parser!(u16))
-                .default_value(default),
-            Takes::U8Or(shown, default) => argument
-                .value_name(shown)
-                .value_parser(value_parser!(u8))
-                .default_value(default),
-            Takes::Values(shown) => argument.value_name(shown).action(ArgAction::Append),
-            Takes::Files => argument.value_name("FILE").action(ArgAction::Append),
-            Takes::FollowingFiles => argument
-                .value_name("FILE")
-                .action(ArgAction::Append)
-                .required(true),
-            Takes::Following(shown) => argument
-                .value_name(shown)
-                .action(ArgAction::Append)
-                .required(true),
-        }
+        self.with_value(argument)
+            .action(self.action())
+            .required(self.is_needed())
+            .hide(self.is_hidden())
     }
 }
 
