@@ -235,27 +235,17 @@ fn push_job(
 ) -> Result<Outcome, AllocError> {
     match &job.statements {
         Statements::Sound(cards) => push_sound(text, alloc, listed, number, job, cards),
-        Statements::Faulty(faulty) => { push_faulty_job(text, alloc, listed, number, job, faulty) }
+        Statements::Faulty(faulty) => {
+            text.push_str("faulty statements")?;
+            push_place(text, listed.files, number, job)?;
+            push_faulty(text, alloc, listed, job, faulty)?;
+            Ok(Outcome {
+                sources: 0,
+                faults: 1,
+                warnings: 0,
+            })
+        }
     }
-}
-
-/// Appends what a listing has of a job with faulty statements.
-fn push_faulty_job(
-    text: &mut String,
-    alloc: Global,
-    listed: &Listed<'_>,
-    number: usize,
-    job: &JobEntry,
-    faulty: &FaultyJob,
-) -> Result<Outcome, AllocError> {
-    text.push_str("faulty statements")?;
-    push_place(text, listed.files, number, job)?;
-    push_faulty(text, alloc, listed, job, faulty)?;
-    Ok(Outcome {
-        sources: 0,
-        faults: 1,
-        warnings: 0,
-    })
 }
 
 /// Appends what a listing has of a job without faults.

@@ -254,32 +254,10 @@ fn notes_of_source(
     requires within { range.to ≤ length deck.now }
 {
     let (found, entries) = (&faults.diagnostics, &faults.entries);
-    let reasons = reasons_of(alloc, deck, range.from, range.to, found, entries)?;
-    notes_with_reasons(alloc, faults, reasons, warnings)
-}
-
-/// The notes under the cards of a source, with the reasons of its diagnostics.
-fn notes_with_reasons(
-    alloc: Global,
-    faults: &Faults,
-    reasons: Reasons,
-    warnings: &[Warning],
-) -> Result<SourceNotes, AllocError> {
-    let diagnostics = notes_of_cards(alloc, &faults.diagnostics, &faults.entries)?;
-    notes_with_diagnostics(alloc, diagnostics, reasons, warnings)
-}
-
-/// The notes under the cards of a source, with its diagnostics and their reasons.
-fn notes_with_diagnostics(
-    alloc: Global,
-    diagnostics: CardNotes,
-    reasons: Reasons,
-    warnings: &[Warning],
-) -> Result<SourceNotes, AllocError> {
     Ok(SourceNotes {
+        diagnostics: notes_of_cards(alloc, found, entries)?,
+        reasons: reasons_of(alloc, deck, range.from, range.to, found, entries)?,
         warnings: warnings_of_cards(alloc, warnings)?,
-        diagnostics,
-        reasons,
     })
 }
 
