@@ -1,1 +1,3 @@
+pub mod Logging
 pub mod Noting
+pub mod Replying

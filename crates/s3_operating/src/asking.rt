@@ -2,7 +2,7 @@
 
 use crate::message::Message;
 use s3_cards::{LevelId, PrintLine, trim_end};
-use s3_operator::{HaltCode, allowed, meaning};
+use s3_operator::{HaltCode, meaning};
 
 /// The other commands that may be typed.
 const WORDS: &'static str =
@@ -47,12 +47,4 @@ fn push_line(message: &mut Message, line: &PrintLine) {
     message.push_place(line.page(), line.line());
     message.push_characters(trim_end(line.text()));
     message.push("\n");
-}
-
-/// Whether a level's halt, if one waits there, allows a digit.
-pub(crate) fn is_allowed(waits: Option<HaltCode>, digit: u8) -> bool {
-    match waits {
-        Some(code) => allowed(code, digit),
-        None => false,
-    }
 }

@@ -1,13 +1,13 @@
 //! What a job at work has changed in its files.
 ghost use Rattle.std.specs.Prelude.{◌≡◌, ◌==◌, ◌&&◌, not};
 ghost use Rattle.std.specs.List.{list_any};
-ghost use Rattle.s3_operating.specs.Inner.Changes.{added_to as added_to_spec, is_changed as is_changed_spec, is_left as is_left_spec};
+ghost use Rattle.s3_operating.specs.Inner.Changes.{added_to as added_to_spec, is_changed as is_changed_spec};
 
 use crate::message::Message;
 use s3_job_files::OpenFile;
 use s3_level::Level;
 
-/// Whether a reply ends a job that has changed files: it has made one that stays, has added records to one or has updated some.
+/// Whether a reply ends a job that has changed files: it has made one, has added records to one or has updated some.
 pub(crate) fn is_grave(digit: u8, files: &[OpenFile]) -> bool
     ensures { result ≡ (not (digit == 0) && list_any is_changed_spec files.now) }
 {
@@ -21,18 +21,11 @@ fn has_changed(files: &[OpenFile]) -> bool
     files.iter().any(|file| is_changed(file))
 }
 
-/// Whether a job has changed a file.
+/// Whether a job has changed a file. A file that was under the label of one that it made is gone, also if it made a scratch file.
 fn is_changed(file: &OpenFile) -> bool
     ensures { result ≡ is_changed_spec file.now }
 {
-    is_left(file) || added_to(file) > 0 || file.updates > 0
-}
-
-/// Whether a job has made a file that stays at its end. A file that was under its label is gone.
-fn is_left(file: &OpenFile) -> bool
-    ensures { result ≡ is_left_spec file.now }
-{
-    file.is_made && !file.goes_at_end()
+    file.is_made || added_to(file) > 0 || file.updates > 0
 }
 
 /// How many records a job has added to a file.
@@ -46,7 +39,7 @@ fn added_to(file: &OpenFile) -> u32
 /// updated 571 times`. A record that is updated twice counts twice.
 pub(crate) fn push_changes(message: &mut Message, level: &Level) {
     for file in level.files() {
-        if is_left(file) {
+        if file.is_made {
             push_made(message, file, added_to(file));
         } else {
             push_added(message, file, added_to(file));

@@ -10,6 +10,7 @@ use crate::events::position_left;
 use crate::levels::{Levels, push_where as push_halt_place};
 use crate::message::Message;
 use crate::progress::{push_job_at, push_job_number, push_last_job};
+use crate::replies::Sources;
 use crate::seat::Seat;
 use s3_bureau::LevelLines;
 use s3_cards::LevelId;
@@ -75,7 +76,7 @@ impl<'a, R: Read + Drop, W: Write + Drop, F: Write + Drop, C: Clock + Drop> Desk
         let two = self.close_level(LevelId::Two, day.ends.two, &day.run.two)?;
         self.note_left(LevelId::One, one)?;
         self.note_left(LevelId::Two, two)?;
-        self.levels.closing(one, two)
+        self.levels.closing(&self.replies.sources, one, two)
     }
 
     /// Logs what is left of a level, unless it is done.
@@ -150,36 +151,30 @@ impl<'a> Levels<'a> {
     }
 
     /// The result of a day, given how its levels ended.
-    fn closing(&self, one: Ended, two: Ended) -> Result<Closing, AllocError> {
+    fn closing(
+        &self,
+        sources: &Sources<'_>,
+        one: Ended,
+        two: Ended,
+    ) -> Result<Closing, AllocError> {
         Ok(Closing {
             verdict: became(one.end, two.end, &self.one.ledger, &self.two.ledger),
-            summary: self.summary(one, two).finish()?,
+            summary: self.summary(sources, one, two).finish()?,
             one: one.end,
             two: two.end,
         })
     }
 
     /// The summary of both levels.
-    fn summary(&self, one: Ended, two: Ended) -> Message {
+    fn summary(&self, sources: &Sources<'_>, one: Ended, two: Ended) -> Message {
         let mut message = Message::new(self.alloc);
         push_summary(&mut message, &self.one, one);
         self.push_limit(&mut message, one);
-        self.push_unused(&mut message, &self.one);
+        push_unused(&mut message, sources, LevelId::One);
         push_summary(&mut message, &self.two, two);
         self.push_limit(&mut message, two);
-        self.push_unused(&mut message, &self.two);
+        push_unused(&mut message, sources, LevelId::Two);
         message
-    }
-
-    /// Appends how many replies a log has for a level that no halt got, if there are any, and the first of them.
-    fn push_unused(&self, message: &mut Message, seat: &Seat<'_>) {
-        let Some(log) = self.settings.logged else {
-            return;
-        };
-        if let Some(next) = log.reply(seat.level, seat.replies) {
-            let left = log.reply_count(seat.level).saturating_sub(seat.replies);
-            push_unused_from(message, left, *next);
-        }
     }
 
     /// Appends the limit that stopped a level, and what to do, if one did.
@@ -197,6 +192,18 @@ impl<'a> Levels<'a> {
             _ => return,
         }
         message.push(": if the program isn't in a loop, give a larger number\n");
+    }
+}
+
+/// Appends how many replies a log has for a level that no halt got, if there are any, and the first of them.
+fn push_unused(message: &mut Message, sources: &Sources<'_>, level: LevelId) {
+    let Some(log) = sources.logged else {
+        return;
+    };
+    let given = sources.at_level(level).replies;
+    if let Some(next) = log.reply(level, given) {
+        let left = log.reply_count(level).saturating_sub(given);
+        push_unused_from(message, left, *next);
     }
 }
 

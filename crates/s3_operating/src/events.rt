@@ -2,6 +2,7 @@
 ghost use Rattle.std.specs.Prelude.{◌≡◌, is_some, OnOk};
 ghost use Rattle.std.specs.Option.{option_and_then};
 ghost use Rattle.s3_day_log.specs.Inner.Events.{said_of};
+ghost use Rattle.s3_operating.specs.Inner.Logging.{Logs, LogsLast, LogsReply};
 ghost use Rattle.s3_operating.specs.Inner.Times.{IsNotedAt};
 
 use crate::answers::Answer;
@@ -22,14 +23,20 @@ impl<'a, R: Read + Drop, W: Write + Drop, F: Write + Drop, C: Clock + Drop> Desk
     pub fn note(&mut self, event: Event) -> Result<(), AllocError>
         ensures noted { OnOk result (IsNotedAt (λ second. C.shows self.old.clock second self.new.clock) (option_and_then F.contents self.old.journal.file) (option_and_then F.contents self.new.journal.file) (is_some self.new.journal.failure) (said_of event)) }
         ensures kept { is_some self.new.journal.file ≡ is_some self.old.journal.file }
+        ensures replies { self.new.replies ≡ self.old.replies }
         ensures tape { self.new.tape ≡ self.old.tape }
+        ensures logs { Logs F.contents self.old.journal.file (is_some self.old.journal.failure) self.new.journal.file (is_some self.new.journal.failure) }
+        ensures last { OnOk result (LogsLast F.contents (said_of event) self.old.journal.file (is_some self.old.journal.failure) self.new.journal.file (is_some self.new.journal.failure)) }
     {
         self.journal.note(self.levels.alloc, &mut self.clock, event)
     }
 
     /// Logs with what the day is begun.
+    #[tactic(auto, using(crate::proofs::Logging::logs_none, crate::proofs::Logging::logs_on))]
     pub(crate) fn log_opening(&mut self) -> Result<(), AllocError>
+        ensures replies { self.new.replies ≡ self.old.replies }
         ensures tape { self.new.tape ≡ self.old.tape }
+        ensures logs { Logs F.contents self.old.journal.file (is_some self.old.journal.failure) self.new.journal.file (is_some self.new.journal.failure) }
     {
         match self.opening.take() {
             Some(day) => self.note(Event::Begin { day }),
@@ -38,8 +45,11 @@ impl<'a, R: Read + Drop, W: Write + Drop, F: Write + Drop, C: Clock + Drop> Desk
     }
 
     /// Logs the events of a level since the last call, in order.
+    #[tactic(auto, using(crate::proofs::Logging::logs_none, crate::proofs::Logging::logs_on))]
     pub(crate) fn log_level(&mut self, level: LevelId) -> Result<(), AllocError>
+        ensures replies { self.new.replies ≡ self.old.replies }
         ensures tape { self.new.tape ≡ self.old.tape }
+        ensures logs { Logs F.contents self.old.journal.file (is_some self.old.journal.failure) self.new.journal.file (is_some self.new.journal.failure) }
     {
         if !self.journal.is_kept() {
             return Ok(());
@@ -55,8 +65,35 @@ impl<'a, R: Read + Drop, W: Write + Drop, F: Write + Drop, C: Clock + Drop> Desk
         Ok(())
     }
 
+    /// Logs the events of both levels.
+    #[tactic(auto, using(crate::proofs::Logging::logs_on))]
+    pub(crate) fn log_levels(&mut self) -> Result<(), AllocError>
+        ensures replies { self.new.replies ≡ self.old.replies }
+        ensures logs { Logs F.contents self.old.journal.file (is_some self.old.journal.failure) self.new.journal.file (is_some self.new.journal.failure) }
+    {
+        self.log_level(LevelId::One)?;
+        self.log_level(LevelId::Two)
+    }
+
+    /// Logs the events of a level, and a reply to its halt.
+    #[tactic(auto, using(crate::proofs::Logging::logs_on, crate::proofs::Logging::reply_later))]
+    pub(crate) fn log_answer(
+        &mut self,
+        level: LevelId,
+        code: HaltCode,
+        answer: Answer,
+    ) -> Result<(), AllocError>
+        ensures replies { self.new.replies ≡ self.old.replies }
+        ensures logs { Logs F.contents self.old.journal.file (is_some self.old.journal.failure) self.new.journal.file (is_some self.new.journal.failure) }
+        ensures reply { OnOk result (LogsReply F.contents level code answer.digit self.old.journal.file (is_some self.old.journal.failure) self.new.journal.file (is_some self.new.journal.failure)) }
+    {
+        self.log_level(level)?;
+        self.log_reply(level, code, answer)
+    }
+
     /// Logs what is left of a level that isn't done.
     pub(crate) fn log_left(&mut self, level: LevelId) -> Result<(), AllocError>
+        ensures replies { self.new.replies ≡ self.old.replies }
         ensures tape { self.new.tape ≡ self.old.tape }
     {
         if !self.journal.is_kept() {
@@ -67,12 +104,17 @@ impl<'a, R: Read + Drop, W: Write + Drop, F: Write + Drop, C: Clock + Drop> Desk
     }
 
     /// Logs a reply.
-    pub(crate) fn log_reply(
+    #[tactic(auto, using(crate::proofs::Logging::logs_reply))]
+    fn log_reply(
         &mut self,
         level: LevelId,
         code: HaltCode,
         answer: Answer,
-    ) -> Result<(), AllocError> {
+    ) -> Result<(), AllocError>
+        ensures replies { self.new.replies ≡ self.old.replies }
+        ensures logs { Logs F.contents self.old.journal.file (is_some self.old.journal.failure) self.new.journal.file (is_some self.new.journal.failure) }
+        ensures reply { OnOk result (LogsReply F.contents level code answer.digit self.old.journal.file (is_some self.old.journal.failure) self.new.journal.file (is_some self.new.journal.failure)) }
+    {
         self.note(Event::Reply(LoggedReply {
             level,
             code,

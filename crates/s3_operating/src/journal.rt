@@ -3,6 +3,7 @@ ghost use Rattle.std.specs.Prelude.{◌≡◌, None, is_some, OnOk};
 ghost use Rattle.std.specs.Option.{option_and_then};
 ghost use Rattle.s3_day_log.specs.Inner.Events.{said_of};
 ghost use Rattle.s3_day_log.specs.Inner.Times.{IsNoted};
+ghost use Rattle.s3_operating.specs.Inner.Logging.{Logs, LogsLast};
 ghost use Rattle.s3_operating.specs.Inner.Times.{IsNotedAt};
 
 use crate::clock::Clock;
@@ -39,7 +40,7 @@ impl<F: Write + Drop> Journal<F> {
     }
 
     /// Writes an event, at the time that it is now. After a failure nothing more is written.
-    #[tactic(auto, using(crate::proofs::Noting::after_failure, crate::proofs::Noting::no_log, crate::proofs::Noting::no_log_at, crate::proofs::Noting::noted, crate::proofs::Noting::noted_after_failure, crate::proofs::Noting::noted_at))]
+    #[tactic(auto, using(crate::proofs::Logging::last_failed, crate::proofs::Logging::last_without, crate::proofs::Logging::logs_last, crate::proofs::Logging::logs_none, crate::proofs::Noting::after_failure, crate::proofs::Noting::no_log, crate::proofs::Noting::no_log_at, crate::proofs::Noting::noted, crate::proofs::Noting::noted_after_failure, crate::proofs::Noting::noted_at))]
     pub fn note<C: Clock>(
         &mut self,
         alloc: Global,
@@ -48,6 +49,8 @@ impl<F: Write + Drop> Journal<F> {
     ) -> Result<(), AllocError>
         ensures time { OnOk result (IsNotedAt (λ second. C.shows clock.old second clock.new) (option_and_then F.contents self.old.file) (option_and_then F.contents self.new.file) (is_some self.new.failure) (said_of event)) }
         ensures kept { is_some self.new.file ≡ is_some self.old.file }
+        ensures logs { Logs F.contents self.old.file (is_some self.old.failure) self.new.file (is_some self.new.failure) }
+        ensures last { OnOk result (LogsLast F.contents (said_of event) self.old.file (is_some self.old.failure) self.new.file (is_some self.new.failure)) }
         ensures line { OnOk result (IsNoted (option_and_then F.contents self.old.file) (option_and_then F.contents self.new.file) (is_some self.new.failure) (said_of event)) }
     {
         if self.file.is_none() || self.failure.is_some() {
@@ -71,7 +74,9 @@ impl<F: Write + Drop> Journal<F> {
     }
 
     /// From now on no log is written.
-    pub(crate) fn give_up(&mut self) {
+    pub(crate) fn give_up(&mut self)
+        ensures { self.new.file ≡ None }
+    {
         self.file = None;
         self.failure = None;
     }

@@ -1,13 +1,17 @@
-//! Both levels as the desk sees them, and what answers their halts.
+//! Both levels as the desk sees them.
+ghost use Rattle.std.specs.Prelude.{◌≡◌, true, Some};
+ghost use Rattle.s3_replies.specs.Inner.Rules.{same_level};
+ghost use Rattle.s3_operating.specs.Inner.Answering.{ComesOfCommand, ComesOfDigit, ComesOfLine, reply_in as reply_in_spec};
 
-use crate::answers::{Answer, Giver, logged, ruled, to_another};
-use crate::asking::{is_allowed, push_help, push_last_lines, push_words};
+use crate::answers::{Answer, Giver, Question};
+use crate::asking::{push_help, push_last_lines, push_words};
 use crate::changes::{is_grave, push_changes};
 use crate::desk::{Questioned, Settings};
 use crate::given::Given;
 use crate::lost::Lost;
 use crate::message::Message;
 use crate::progress::{push_job_at, push_last_job, push_progress};
+use crate::replies::{Sources, is_one};
 use crate::seat::Seat;
 use crate::tally::Tally;
 use crate::unread::push_unread;
@@ -18,7 +22,8 @@ use s3_decks::DeckText;
 use s3_desk::Evidence;
 use s3_evidence::Begun;
 use s3_halt_block::{Waiting, push_halt};
-use s3_operator::HaltCode;
+use s3_job_files::OpenFile;
+use s3_operator::{HaltCode, allowed};
 use s3_replies::Typed;
 use s3_store::PackStore;
 use std::alloc::{AllocError, Global};
@@ -36,7 +41,7 @@ pub(crate) enum Said {
     Nothing,
 }
 
-/// Both levels as the desk sees them, and what answers their halts.
+/// Both levels as the desk sees them.
 #[derive(Drop)]
 pub(crate) struct Levels<'a> {
     pub(crate) alloc: Global,
@@ -44,8 +49,6 @@ pub(crate) struct Levels<'a> {
     pub(crate) one: Seat<'a>,
     pub(crate) two: Seat<'a>,
     pub(crate) tally: Tally,
-    /// A reply that was given for a level while the other one was asked.
-    kept: Option<(LevelId, u8)>,
 }
 
 impl<'a> Levels<'a> {
@@ -62,7 +65,6 @@ impl<'a> Levels<'a> {
             one,
             two,
             tally: Tally::new(),
-            kept: None,
         }
     }
 
@@ -121,93 +123,40 @@ impl<'a> Levels<'a> {
         }
     }
 
-    /// Whether a person is asked.
-    pub(crate) fn is_person_asked(&self) -> bool {
-        matches!(self.settings.questioned, Questioned::Person)
-    }
-
     // ---- replies
 
-    /// The reply to a level's halt that needs no question, if there is one.
-    pub(crate) fn given(&self, level: LevelId, code: HaltCode) -> Option<Answer> {
-        let seat = self.seat(level);
-        match logged(self.settings.logged, seat.replies, &seat.logged_halt(code)) {
-            Some(answer) => Some(answer),
-            None => ruled(self.settings.rules, level, code, seat.ledger.program()),
-        }
-    }
-
-    /// Reports that the log's next reply in a level isn't one to the halt that waits there, if that is so.
-    pub(crate) fn not_logged(&self, level: LevelId, code: HaltCode) -> Option<Message> {
-        let seat = self.seat(level);
-        let halt = seat.logged_halt(code);
-        let logged = to_another(self.settings.logged, seat.replies, &halt)?;
+    /// The message that the log's next reply for a level isn't one to the halt that waits there.
+    pub(crate) fn not_logged(&self, logged: AnsweredHalt, halt: LoggedHalt) -> Message {
         let mut message = Message::new(self.alloc);
         push_not_logged(&mut message, logged, halt);
-        Some(message)
+        message
     }
 
     /// Whether the halt of a level, if one waits there, will be answered without a question.
-    fn is_given(&self, level: LevelId) -> bool {
+    fn is_given(&self, sources: &Sources<'_>, level: LevelId) -> bool {
         match self.seat(level).waits {
-            Some(code) => !self.is_cut(level) && self.given(level, code).is_some(),
+            Some(code) => !self.is_cut(level) && sources.given(level, code).is_some(),
             None => false,
         }
     }
 
     /// Whether the halt of a level leads to a question.
-    pub(crate) fn is_asked(&self, level: LevelId) -> bool {
-        !matches!(self.settings.questioned, Questioned::Nobody) && !self.is_given(level.other())
+    pub(crate) fn is_asked(&self, sources: &Sources<'_>, level: LevelId) -> bool {
+        !matches!(self.settings.questioned, Questioned::Nobody)
+            && !self.is_given(sources, level.other())
     }
 
-    /// Keeps a reply for when its level is asked.
-    pub(crate) fn keep(&mut self, to: LevelId, digit: u8) {
-        self.kept = Some((to, digit));
-    }
-
-    /// The reply that was given for a level while the other was asked, if there is one that its halt allows.
-    pub(crate) fn take_kept(&mut self, level: LevelId) -> Option<u8> {
-        let kept = self.kept;
-        match kept {
-            Some((to, digit)) if to == level => {
-                self.kept = None;
-                self.allowed_digit(level, digit)
-            }
+    /// For what a level halts, if that may be answered when this question is put: level 2 is asked after level 1.
+    fn asked_in(&self, question: Question, of: LevelId) -> Option<HaltCode>
+        ensures { same_level of question.level ≡ true → result ≡ Some question.code }
+    {
+        if is_one(of, question.level) {
+            return Some(question.code);
+        }
+        match of {
+            LevelId::Two if !self.is_cut(of) => self.two.waits,
             _ => None,
         }
-    }
-
-    /// A digit, if a level's halt allows it.
-    fn allowed_digit(&self, level: LevelId, digit: u8) -> Option<u8> {
-        if is_allowed(self.seat(level).waits, digit) {
-            Some(digit)
-        } else {
-            None
-        }
-    }
-
-    /// The answer of the operator who is asked.
-    pub(crate) fn answer_of(&self, digit: u8) -> Answer {
-        let giver = if self.is_person_asked() {
-            Giver::Person
-        } else {
-            Giver::Line
-        };
-        Answer { digit, giver }
-    }
-
-    /// For what a level halts, if that may be answered if this level is asked.
-    fn asked_in(&self, level: LevelId, asked: LevelId) -> Option<HaltCode> {
-        if self.may_answer(level, asked) {
-            self.seat(asked).waits
-        } else {
-            None
-        }
-    }
-
-    /// Whether the halt of `asked` may be answered when `level` is asked: level 2 is asked after level 1.
-    fn may_answer(&self, level: LevelId, asked: LevelId) -> bool {
-        asked == level || (level == LevelId::One && !self.is_cut(asked))
     }
 
     // ---- messages
@@ -394,18 +343,18 @@ impl<'a> Levels<'a> {
     }
 
     /// What a person is asked.
-    pub(crate) fn prompt(&self, level: LevelId) -> Message {
+    pub(crate) fn prompt(&self, question: Question) -> Message {
         let mut message = Message::new(self.alloc);
         message.push("\n");
-        self.push_choices(&mut message, level);
+        self.push_choices(&mut message, question);
         message.push("? ");
         message
     }
 
-    /// Appends what may be answered to the halt of a level and to the halt of the other level, level 1 first.
-    fn push_choices(&self, message: &mut Message, level: LevelId) {
-        let one = self.asked_in(level, LevelId::One);
-        let two = self.asked_in(level, LevelId::Two);
+    /// Appends what may be answered to the halt that is asked about and to that of the other level, level 1 first.
+    fn push_choices(&self, message: &mut Message, question: Question) {
+        let one = self.asked_in(question, LevelId::One);
+        let two = self.asked_in(question, LevelId::Two);
         if let Some(code) = one {
             message.push_choice(LevelId::One, code);
         }
@@ -415,16 +364,6 @@ impl<'a> Levels<'a> {
         if let Some(code) = two {
             message.push_choice(LevelId::Two, code);
         }
-    }
-
-    /// Whether a person is asked once more before this reply: it ends a job that has changed files.
-    pub(crate) fn is_grave<S: PackStore>(
-        &self,
-        machine: &Bureau<S>,
-        to: LevelId,
-        digit: u8,
-    ) -> bool {
-        self.is_person_asked() && is_grave(digit, machine.level(to).files())
     }
 
     /// What a person is asked once more: `2 ends PAY; 3 records are added to CHECKS: 2 again to end it, another line to go back? `.
@@ -445,6 +384,19 @@ impl<'a> Levels<'a> {
         message
     }
 
+    /// Takes note of a reply that ends the last job that was begun, if that has changed files.
+    pub(crate) fn note_spoilt(
+        &mut self,
+        level: LevelId,
+        digit: u8,
+        files: &[OpenFile],
+    ) -> Result<(), AllocError> {
+        if is_grave(digit, files) {
+            self.seat_mut(level).mark_spoilt()?;
+        }
+        Ok(())
+    }
+
     /// Whether a reply ended a job after it had changed files.
     pub(crate) fn has_spoilt(&self) -> bool {
         self.one.has_spoilt() || self.two.has_spoilt()
@@ -463,64 +415,72 @@ impl<'a> Levels<'a> {
 
     // ---- lines that are typed
 
-    /// Whether a line of a list of replies is refused, given what came of it.
-    pub(crate) fn is_refused(&self, typed: Typed, said: Said) -> bool {
-        !self.is_person_asked() && !matches!(typed, Typed::Nothing) && matches!(said, Said::Nothing)
-    }
-
-    /// Interprets a typed line for the halt of a level, and appends the response. Only a person may type more than a reply.
+    /// Interprets what is typed after a question, and appends the response.
+    #[tactic(auto, using(crate::proofs::Replying::heard_command, crate::proofs::Replying::heard_for, crate::proofs::Replying::heard_here))]
     pub(crate) fn hear<S: PackStore>(
         &self,
         message: &mut Message,
         machine: &Bureau<S>,
-        level: LevelId,
+        question: Question,
         typed: Typed,
-    ) -> Said {
-        match typed {
-            Typed::Nothing => Said::Nothing,
-            Typed::Reply(None, digit) => self.hear_digit(message, level, digit),
-            Typed::Reply(Some(to), digit) => self.hear_reply(message, level, to, digit),
-            _ if !self.is_person_asked() => self.hear_unknown(message, level),
-            Typed::Help => self.help(message, level),
-            Typed::Show => self.show_again(message, level),
-            Typed::Lines(of, most) => {
-                let of = of.unwrap_or(level);
-                push_last_lines(message, of, machine.lines(of), most);
-                Said::Nothing
-            }
-            Typed::Stop => Said::Over,
-            Typed::Yes | Typed::No | Typed::Unknown => self.hear_unknown(message, level),
+    ) -> Said
+        ensures { ComesOfLine question typed result }
+    {
+        match reply_in(typed) {
+            Some((None, digit)) => self.hear_digit(message, question, digit),
+            Some((Some(to), digit)) => self.hear_reply(message, question, to, digit),
+            None => self.hear_command(message, machine, question, typed),
         }
     }
 
     /// A digit without a level: for the level that is asked, unless a person is asked for both.
-    fn hear_digit(&self, message: &mut Message, level: LevelId, digit: u8) -> Said {
-        if !self.is_person_asked() || self.asked_in(level, level.other()).is_none() {
-            return self.hear_reply(message, level, level, digit);
+    fn hear_digit(&self, message: &mut Message, question: Question, digit: u8) -> Said
+        ensures { ComesOfDigit question question.level digit result }
+    {
+        if question.to_person {
+            self.hear_person(message, question, digit)
+        } else {
+            self.hear_reply(message, question, question.level, digit)
         }
-        let one = self.allows(level, LevelId::One, digit);
-        let two = self.allows(level, LevelId::Two, digit);
+    }
+
+    /// A digit that a person gives without a level.
+    #[tactic(auto, using(crate::proofs::Replying::of_person))]
+    fn hear_person(&self, message: &mut Message, question: Question, digit: u8) -> Said
+        requires { question.to_person ≡ true }
+        ensures { ComesOfDigit question question.level digit result }
+    {
+        if self.asked_in(question, question.level.other()).is_none() {
+            return self.hear_reply(message, question, question.level, digit);
+        }
+        let one = self.allows(question, LevelId::One, digit);
+        let two = self.allows(question, LevelId::Two, digit);
         match (one, two) {
             (true, true) => push_both(message, digit),
             (true, false) => push_one(message, LevelId::One, digit),
             (false, true) => push_one(message, LevelId::Two, digit),
-            (false, false) => return self.hear_reply(message, level, level, digit),
+            (false, false) => {
+                return self.hear_reply(message, question, question.level, digit);
+            }
         }
         Said::Nothing
     }
 
-    /// Whether the halt of a level allows a digit, if one is asked for while a level is.
-    fn allows(&self, level: LevelId, of: LevelId, digit: u8) -> bool {
-        match self.asked_in(level, of) {
-            Some(code) => is_allowed(Some(code), digit),
+    /// Whether the halt of a level allows a digit, if it may be answered when this question is put.
+    fn allows(&self, question: Question, of: LevelId, digit: u8) -> bool {
+        match self.asked_in(question, of) {
+            Some(code) => allowed(code, digit),
             None => false,
         }
     }
 
     /// A digit for a level.
-    fn hear_reply(&self, message: &mut Message, level: LevelId, to: LevelId, digit: u8) -> Said {
-        match self.asked_in(level, to) {
-            Some(code) if is_allowed(Some(code), digit) => Said::Reply(to, digit),
+    #[tactic(auto, using(crate::proofs::Replying::not_allowed, crate::proofs::Replying::not_asked))]
+    fn hear_reply(&self, message: &mut Message, question: Question, to: LevelId, digit: u8) -> Said
+        ensures { ComesOfDigit question to digit result }
+    {
+        match self.asked_in(question, to) {
+            Some(code) if allowed(code, digit) => Said::Reply(to, digit),
             Some(code) => {
                 message.push_reply(to, code, digit);
                 Said::Nothing
@@ -533,46 +493,95 @@ impl<'a> Levels<'a> {
         }
     }
 
+    /// A line that is no reply. Only a person may type more than replies.
+    fn hear_command<S: PackStore>(
+        &self,
+        message: &mut Message,
+        machine: &Bureau<S>,
+        question: Question,
+        typed: Typed,
+    ) -> Said
+        ensures { ComesOfCommand question result }
+    {
+        if matches!(typed, Typed::Nothing) {
+            return Said::Nothing;
+        }
+        if !question.to_person {
+            self.hear_unknown(message, question);
+            return Said::Nothing;
+        }
+        match typed {
+            Typed::Help => self.help(message, question),
+            Typed::Show => self.show_again(message, question),
+            Typed::Lines(of, most) => {
+                let of = of.unwrap_or(question.level);
+                push_last_lines(message, of, machine.lines(of), most);
+            }
+            Typed::Stop => return Said::Over,
+            _ => self.hear_unknown(message, question),
+        }
+        Said::Nothing
+    }
+
     /// Says what may be typed.
-    fn hear_unknown(&self, message: &mut Message, level: LevelId) -> Said {
-        if self.is_person_asked() {
+    fn hear_unknown(&self, message: &mut Message, question: Question) {
+        if question.to_person {
             message.push(
                 "a digit, as 0; a level and a digit, as 1 0; ? for what replies do; show; lines; or stop\n",
             );
         } else {
             message.push("this is no reply; give a digit for ");
-            self.push_choices(message, level);
+            self.push_choices(message, question);
             message.push("\n");
         }
-        Said::Nothing
     }
 
     /// Explains what the replies do.
-    fn help(&self, message: &mut Message, level: LevelId) -> Said {
-        self.push_help_of(message, level, LevelId::One);
-        self.push_help_of(message, level, LevelId::Two);
+    fn help(&self, message: &mut Message, question: Question) {
+        self.push_help_of(message, question, LevelId::One);
+        self.push_help_of(message, question, LevelId::Two);
         push_words(message);
-        Said::Nothing
     }
 
-    fn push_help_of(&self, message: &mut Message, level: LevelId, asked: LevelId) {
-        if let Some(code) = self.asked_in(level, asked) {
-            push_help(message, asked, code);
+    fn push_help_of(&self, message: &mut Message, question: Question, of: LevelId) {
+        if let Some(code) = self.asked_in(question, of) {
+            push_help(message, of, code);
         }
     }
 
     /// Shows the halts that are asked for once more.
-    fn show_again(&self, message: &mut Message, level: LevelId) -> Said {
-        self.push_shown(message, level, LevelId::One);
-        self.push_shown(message, level, LevelId::Two);
-        Said::Nothing
+    fn show_again(&self, message: &mut Message, question: Question) {
+        self.push_shown(message, question, LevelId::One);
+        self.push_shown(message, question, LevelId::Two);
     }
 
-    fn push_shown(&self, message: &mut Message, level: LevelId, asked: LevelId) {
-        if self.asked_in(level, asked).is_some() {
-            self.seat(asked).push_shown(message);
+    fn push_shown(&self, message: &mut Message, question: Question, of: LevelId) {
+        if self.asked_in(question, of).is_some() {
+            self.seat(of).push_shown(message);
         }
     }
+}
+
+/// The level and the digit of a reply, if what is typed is one.
+fn reply_in(typed: Typed) -> Option<(Option<LevelId>, u8)>
+    ensures { result ≡ reply_in_spec typed }
+{
+    match typed {
+        Typed::Reply(to, digit) => Some((to, digit)),
+        Typed::Nothing
+        | Typed::Help
+        | Typed::Show
+        | Typed::Lines(_, _)
+        | Typed::Stop
+        | Typed::Yes
+        | Typed::No
+        | Typed::Unknown => None,
+    }
+}
+
+/// Whether a line of a list of replies is refused, given what came of it.
+pub(crate) fn is_refused(question: Question, typed: Typed, said: Said) -> bool {
+    !question.to_person && !matches!(typed, Typed::Nothing) && matches!(said, Said::Nothing)
 }
 
 fn unread_text(

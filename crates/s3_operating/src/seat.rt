@@ -32,14 +32,10 @@ pub struct Seat<'a> {
     pub(crate) waits: Option<HaltCode>,
     /// The number of the card that this halt is about, from 1, if there is one.
     pub(crate) card: Option<usize>,
-    /// The card that this halt is logged with.
-    logged_card: Option<u16>,
     /// The last reply that a rule or a log gave, if it was reported.
     pub(crate) given: Option<Given>,
     /// What was shown of that halt, if anything was.
     pub(crate) shown: Option<String>,
-    /// How many replies were given.
-    pub(crate) replies: usize,
     /// Whether nothing was left to do when the level was seen last, but to print queued lines, which it may.
     pub(crate) is_idle: bool,
     /// A halt that isn't in the log yet.
@@ -78,10 +74,8 @@ impl<'a> Seat<'a> {
             halts: 0,
             waits: None,
             card: None,
-            logged_card: None,
             given: None,
             shown: None,
-            replies: 0,
             is_idle: false,
             unlogged: None,
             begun: 0,
@@ -173,14 +167,14 @@ impl<'a> Seat<'a> {
         }
     }
 
-    /// Takes note of a halt that waits for a reply.
-    pub(crate) fn take_halt(&mut self, held: &Level, halt: &Halt) {
+    /// Takes note of a halt that waits for a reply. It returns the halt as the log has it.
+    pub(crate) fn take_halt(&mut self, held: &Level, halt: &Halt) -> LoggedHalt {
         let card = match halt.details.first() {
             Some((card, _number)) => Some(*card),
             None => self.ledger.last_card(held),
         };
-        self.logged_card = card;
-        self.unlogged = Some(self.logged_halt(halt.code));
+        let logged = halt_of(self.level, &self.ledger, halt.code, card);
+        self.unlogged = Some(logged);
         self.card = match card {
             Some(card) => Some(usize::from(card)),
             None => self.first_card_of(halt.code),
@@ -188,11 +182,7 @@ impl<'a> Seat<'a> {
         self.halts = self.halts.saturating_add(1);
         self.waits = Some(halt.code);
         self.shown = None;
-    }
-
-    /// The halt that waits, for these letters, as the log has it.
-    pub(crate) fn logged_halt(&self, code: HaltCode) -> LoggedHalt {
-        halt_of(self.level, &self.ledger, code, self.logged_card)
+        logged
     }
 
     /// The first card of the last job that was begun, for a halt of a job that can't be started.
@@ -205,7 +195,6 @@ impl<'a> Seat<'a> {
 
     /// Takes note of the reply to the halt that waits, after so many turns of both levels.
     pub(crate) fn take_reply(&mut self, code: HaltCode, digit: u8, turns: u64) {
-        self.replies = self.replies.saturating_add(1);
         self.replied_at = turns;
         if let Some(noted) = self.noted.last_mut() {
             noted.replied = Some(turns);
