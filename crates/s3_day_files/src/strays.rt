@@ -8,7 +8,7 @@ use s3_cards::{Deck, LevelId};
 use s3_decks::{JobEntry, jobs_of, push_strays, strays_of};
 use s3_desk::ReadDeck;
 use s3_host_files::StandardInput;
-use s3_operating::{Clock, DayDeck, Questioned};
+use s3_operating::{BEFORE_QUESTION, Clock, DayDeck, NEITHER, Questioned};
 use s3_replies::{Typed, read_typed};
 use std::alloc::AllocError;
 use std::io::{Read, Write};
@@ -20,12 +20,6 @@ const QUESTION: &'static str =
 /// Printed after a `no`.
 const STOPPED: &'static str =
     "the day is stopped before its first turn: no job has run, and no file is changed\n";
-
-/// Printed for an answer that was typed before its question.
-const BEFORE_QUESTION: &'static str = "that was typed before it was asked; once more\n";
-
-/// Printed for an answer that is another word.
-const NEITHER: &'static str = "that is neither yes nor no\n";
 
 /// An answer that comes within so many milliseconds was typed before its question.
 const TOO_SOON: u64 = 200;

@@ -31,11 +31,11 @@ const SOONEST: u64 = 200;
 /// Printed for a line that came sooner than that.
 const BEFORE_HALT: &'static str = "that was typed before this question; once more\n";
 
-/// Printed for a line that was typed before another question was asked.
-const BEFORE_QUESTION: &'static str = "that was typed before it was asked; once more\n";
+/// The line that is printed for an answer that was typed before its question.
+pub const BEFORE_QUESTION: &'static str = "that was typed before it was asked; once more\n";
 
-/// Printed for another answer to a question that takes a yes or a no.
-const NEITHER: &'static str = "that is neither yes nor no; once more\n";
+/// The line that is printed for another answer to a question that takes a yes or a no.
+pub const NEITHER: &'static str = "that is neither yes nor no; once more\n";
 
 /// Printed after the number of a line of replies that doesn't end.
 const TOO_LONG: &'static str =

@@ -50,7 +50,7 @@ mod unread;
 pub use clock::Clock;
 pub use closing::Closing;
 pub use day_deck::{DayDeck, JoinedFiles};
-pub use desk::{Desk, Questioned, Settings};
+pub use desk::{BEFORE_QUESTION, Desk, NEITHER, Questioned, Settings};
 pub use journal::Journal;
 pub use lost::{AtOutput, Lost};
 pub use noted::{JobTurns, NotedHalt};
