@@ -17,7 +17,7 @@ use Rattle.s3_operating.specs.declared.answers.Question.{Question}
 use Rattle.s3_operating.specs.declared.levels.Said.{Said}
 use Rattle.s3_operating.specs.declared.levels.Said.TheVariants as outcome
 use Rattle.s3_operating.specs.declared.replies.Sources.{Sources}
-use Rattle.s3_operating.specs.Inner.Answering.{Answers, ComesOfCommand, ComesOfDigit, ComesOfLine, ComesOfLines, GetsReply, HasAgreed, HasReplied, Hears, HearsLine, IsAnswer, IsAnswered, IsConfirmed, KeepsSources, LinesAreRead, PassesOver, ReadsAside, ReadsReply, SaysReply, ShowsHalt, ahead_for, answers, given_to, question_of, reply_in, with_halt, with_reply}
+use Rattle.s3_operating.specs.Inner.Answering.{Answers, ComesOfCommand, ComesOfDigit, ComesOfLine, ComesOfLines, GetsReply, HasAgreed, HasReplied, Hears, HearsLine, IsAnswer, IsAnswered, IsConfirmed, IsShown, KeepsSources, LinesAreRead, PassesOver, ReadsAside, ReadsReply, SaysReply, ShowsHalt, ahead_for, answers, given_to, question_of, reply_in, with_halt, with_reply}
 
 -- ---- lines that were read
 joined : (lines more : List Typed) (old middle new : Option (List ℕ)) → LinesAreRead lines old middle → LinesAreRead more middle new → LinesAreRead (lines ++ more) old new
@@ -354,6 +354,17 @@ answered_closed level code old new from to is_closed closed keeps = (inr closed,
 -- ---- a halt that is shown
 pub shows : (level : LevelId) (job : ℕ) (card : Option ℕ) (program : Option Name) (old new : Sources) → new ≡ with_halt level job card program old → ShowsHalt level old new
 shows level job card program old new is = record { job = job; card = card; program = program; is = is }
+
+pub is_shown : (level : LevelId) (old : Sources) (from : Option (List ℕ)) (new : Sources) (to : Option (List ℕ)) (is_closed : Bool) → ShowsHalt level old new → ReadsAside old.asks_person from to → IsShown level old from new to is_closed
+is_shown level old from new to is_closed shows reads = inr (shows, reads)
+
+pub is_closed_at : (level : LevelId) (old : Sources) (from : Option (List ℕ)) (new : Sources) (to : Option (List ℕ)) (is_closed : Bool) → is_closed ≡ true → IsShown level old from new to is_closed
+is_closed_at level old from new to is_closed closed = inl closed
+
+-- ---- what the desk follows
+pub follows : {E : Type 0} (result : Result (Unit {0}) E) (IsSame Reads Logs : Type 0) → OnOk result IsSame → OnOk result Reads → Logs → OnOk result ((IsSame × Reads) × Logs)
+follows (Ok done) IsSame Reads Logs same reads logs = ((same, reads), logs)
+follows (Err e) IsSame Reads Logs same reads logs = tt
 
 pub shows_on : (level : LevelId) (old half new last : Sources) → half ≡ old → ShowsHalt level half new → last ≡ new → ShowsHalt level old last
 shows_on level old half new last same is later = record {

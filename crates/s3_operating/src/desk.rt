@@ -358,6 +358,27 @@ impl<'a, R: Read + Drop, W: Write + Drop, F: Write + Drop, C: Clock + Drop> Desk
         true
     }
 
+    /// Takes note of what was performed: the tape and the log get it, and a person is shown how far the day is.
+    #[tactic(auto, using(crate::proofs::Logging::logs_on, crate::proofs::Replying::aside_same))]
+    fn follow_entries<S: PackStore>(
+        &mut self,
+        machine: &Bureau<S>,
+        level: LevelId,
+        performed: &Performed,
+    ) -> Result<(), AllocError>
+        ensures sources { OnOk result (self.new.replies.sources ≡ self.old.replies.sources) }
+        ensures read { OnOk result (ReadsAside self.old.replies.sources.asks_person (R.remaining self.old.replies.reader) (R.remaining self.new.replies.reader)) }
+        ensures logs { Logs F.contents self.old.journal.file (is_some self.old.journal.failure) self.new.journal.file (is_some self.new.journal.failure) }
+    {
+        self.begin()?;
+        self.levels.tally.count(performed.parts());
+        let is_halted = machine.level(level).waits().is_some();
+        self.tape
+            .follow(self.levels.alloc, performed.parts(), is_halted)?;
+        self.note_jobs(machine, level)?;
+        self.tell_progress(machine)
+    }
+
     /// Shows a halt, unless a log or a rule will answer it.
     #[tactic(auto, using(crate::proofs::Replying::shows_on, crate::proofs::Logging::logs_none, crate::proofs::Logging::logs_on, crate::proofs::Logging::logs_kept))]
     fn show_halt<S: PackStore>(
@@ -955,7 +976,6 @@ impl<'a, S: PackStore, R: Read + Drop, W: Write + Drop, F: Write + Drop, C: Cloc
     // Not specified: what it prints.
     ghost meets = { λ old event new. Meets old.replies.sources (R.remaining old.replies.reader) event new.replies.sources (R.remaining new.replies.reader) (new.is_stopped || (new.is_out_of_memory || new.has_given_up)) × LogsEvent F.contents event old.journal.file (is_some old.journal.failure) new.journal.file (is_some new.journal.failure) };
 
-    #[tactic(auto, using(crate::proofs::Logging::logs_on, crate::proofs::Replying::aside_same))]
     fn follow(
         &mut self,
         machine: &Bureau<S>,
@@ -963,15 +983,10 @@ impl<'a, S: PackStore, R: Read + Drop, W: Write + Drop, F: Write + Drop, C: Cloc
         _papers: Papers<'_>,
         performed: &Performed,
     ) -> Result<(), AllocError> {
-        self.begin()?;
-        self.levels.tally.count(performed.parts());
-        let is_halted = machine.level(level).waits().is_some();
-        self.tape
-            .follow(self.levels.alloc, performed.parts(), is_halted)?;
-        self.note_jobs(machine, level)?;
-        self.tell_progress(machine)
+        self.follow_entries(machine, level, performed)
     }
 
+    #[tactic(auto, using(crate::proofs::Logging::logs_none, crate::proofs::Logging::logs_on, crate::proofs::Replying::is_closed_at, crate::proofs::Replying::is_shown))]
     fn show(
         &mut self,
         machine: &Bureau<S>,
@@ -979,8 +994,13 @@ impl<'a, S: PackStore, R: Read + Drop, W: Write + Drop, F: Write + Drop, C: Cloc
         halt: &Halt,
         evidence: &Evidence,
     ) -> Result<(), AllocError> {
-        self.show_halt(machine, level, halt, evidence)?;
-        Ok(())
+        match self.show_halt(machine, level, halt, evidence) {
+            Ok(()) => Ok(()),
+            Err(AllocError) => {
+                self.close_early();
+                Err(AllocError)
+            }
+        }
     }
 
     #[tactic(auto, using(crate::proofs::Logging::logs_none, crate::proofs::Replying::answered, crate::proofs::Replying::answered_closed, crate::proofs::Replying::keeps_same))]

@@ -227,8 +227,12 @@ abbrev pub IsAnswered : LevelId → HaltCode → (reply : Option ℕ) → (old n
 IsAnswered level code (Some digit) old new from to is_closed = GetsReply level code digit old new from to
 IsAnswered level code None old new from to is_closed = ((given_to level code old ≡ None) ⊎ (is_closed ≡ true)) × KeepsSources (question_of level code old) old new from to
 
+-- a level's halt is shown, and lines are read only aside; or memory has run out, so that the desk replies no more
+abbrev pub IsShown : LevelId → (old : Sources) → (from : Option (List ℕ)) → (new : Sources) → (to : Option (List ℕ)) → (is_closed : Bool) → Type 0
+IsShown level old from new to is_closed = (is_closed ≡ true) ⊎ (ShowsHalt level old new × ReadsAside old.asks_person from to)
+
 -- the operator meets an event
 abbrev pub Meets : (old : Sources) → (from : Option (List ℕ)) → Event → (new : Sources) → (to : Option (List ℕ)) → (is_closed : Bool) → Type 0
 Meets old from (Followed level one two is_one_over entries) new to is_closed = (new ≡ old) × ReadsAside old.asks_person from to
-Meets old from (Shown level halt) new to is_closed = ShowsHalt level old new × ReadsAside old.asks_person from to
+Meets old from (Shown level halt) new to is_closed = IsShown level old from new to is_closed
 Meets old from (Asked level halt reply) new to is_closed = IsAnswered level halt.code reply old new from to is_closed
